@@ -1,0 +1,5 @@
+pub mod And
+pub mod Lists
+pub mod Moved
+pub mod Run
+pub mod Tests

@@ -1,0 +1,55 @@
+-- Laws of lists that every crate cites: one element at a place, a part, zeros, two strings compared.
+-- Assumes nothing.
+use Prim.Native.Nat.{ℕ, _+_, _-_, _<_, _≤_}
+use mathlib.Core.Path.{_≡_, refl}
+use mathlib.Core.Bool.{Bool, true, false}
+use mathlib.Core.List.{List, [], _∷_, _++_, append-nil}
+use native.Mathlib.Numerals.{add-one}
+use native.Mathlib.Omega.{arith}
+use lib.Dec.{eqb, ltb}
+use lib.ListN.{length, drop, getD, replicate, drop-of-length-le, List·getD-eq-default}
+use lib.Seq.{drop-cons, slice, slice-cons, slice-empty}
+use borrow.Author.Tests.{ltb-true, ltb-false}
+use Rattle.base.specs.Bytes.{sameBytes}
+
+-- what stands from `at` on is the element there and those from the next place on
+pub drop-next : (s : List ℕ) (at : ℕ) → at < length s → drop at s ≡ getD s at 0 ∷ drop (at + 1) s
+drop-next s at h = rw (add-one, drop-cons s at 0)
+
+-- a part is its first element and the part behind it
+pub slice-next : (s : List ℕ) (i to : ℕ) → i < to → to ≤ length s → slice i to s ≡ getD s i 0 ∷ slice (i + 1) to s
+slice-next s i to h k = rw (add-one, slice-cons i to s 0 h k)
+
+pub slice-none : (s : List ℕ) (i to : ℕ) → i ≤ to → to ≤ i → slice i to s ≡ []
+slice-none s i to h k = let e : i ≡ to = omega arith in rw e (slice-empty to s)
+
+-- where an element above 0 is read, there is one
+pub inside : (s : List ℕ) (i : ℕ) → 0 < getD s i 0 → i < length s
+inside s i h = go (ltb i (length s)) refl
+  where
+    go : (t : Bool) → ltb i (length s) ≡ t → i < length s
+    go true e = ltb-true i (length s) e
+    go false e = let z : getD s i 0 ≡ 0 = List·getD-eq-default s 0 (ltb-false i (length s) e) in omega arith
+
+-- a list filled with zeros up to its end is zeros
+pub filled : {A : Type 0} (z : A) (i : ℕ) (l : List A) → i ≤ length l → length l ≤ i → replicate i z ++ drop i l ≡ replicate (length l) z
+filled z i l h k = let e : i ≡ length l = omega arith in rw (drop-of-length-le l k, e) (append-nil (replicate (length l) z))
+
+-- two strings compared, from a place of each on
+module _ (s : List ℕ) (at : ℕ) (w : List ℕ) (i : ℕ) where
+  pub same-both : length s ≤ at → length w ≤ i → sameBytes (drop at s) (drop i w) ≡ true
+  unfolding sameBytes
+  same-both h k = rw (drop-of-length-le s h, drop-of-length-le w k)
+
+  pub same-left : at < length s → length w ≤ i → sameBytes (drop at s) (drop i w) ≡ false
+  unfolding sameBytes
+  same-left h k = rw (drop-next s at h, drop-of-length-le w k)
+
+  pub same-right : length s ≤ at → i < length w → sameBytes (drop at s) (drop i w) ≡ false
+  unfolding sameBytes
+  same-right h k = rw (drop-of-length-le s h, drop-next w i k)
+
+  pub same-at : {t : Bool} → at < length s → i < length w → eqb (getD s at 0) (getD w i 0) ≡ t →
+      sameBytes (drop at s) (drop i w) ≡ elim t [ true ↦ sameBytes (drop (at + 1) s) (drop (i + 1) w) | false ↦ false ]
+  unfolding sameBytes
+  same-at h k e = rw (drop-next s at h, drop-next w i k, e, sameBytes)

@@ -1,0 +1,4 @@
+pub mod And
+pub mod Bytes
+pub mod Moved
+pub mod Run
