@@ -1,0 +1,37 @@
+#!/usr/bin/env bash
+# What the prover does not ask for: every public function says what it ensures, every library has two wrong programs that are
+# refused, every crate's files are where the layout has them, and the repository names no path of a machine.
+set -u
+cd "$(dirname "$0")/.." || exit 2
+faults=0
+
+fault() {
+    echo "contracts: $*"
+    faults=$((faults + 1))
+}
+
+# A head runs from `pub fn` to the line `{` that opens the body.
+for source in crates/*/src/*.rt; do
+    bare=$(awk '
+        /^ *pub (extern "C" )?fn / { name = $0; sub(/^.*fn /, "", name); sub(/\(.*/, "", name); head = ""; inside = 1 }
+        inside { head = head $0 }
+        inside && /\{ *$/ { if (head !~ /ensures/) print name; inside = 0
+        }' "$source")
+    for name in $bare; do fault "$source: $name ensures nothing"; done
+done
+
+while IFS= read -r line; do
+    name=$(printf '%s' "${line%%#*}" | cut -d: -f1 | tr -d ' ')
+    [ -n "$name" ] || continue
+    [ -d "crates/$name" ] || { fault "crates.txt lists $name, which is not there"; continue; }
+    [ -f "crates/$name/src/lib.rt" ] || continue
+    grep -q '^ *pub fn\|^ *fn\|extern "C" fn' "crates/$name/src/lib.rt" || continue
+    edits=$(find "crates/$name/must-fail" -name '*.edit' 2>/dev/null | wc -l)
+    [ "$edits" -ge 2 ] || fault "$name has $edits must-fail edits, and a library has two at least"
+done <crates.txt
+
+while IFS= read -r file; do
+    fault "$file names a path of a machine"
+done < <(git ls-files -z | xargs -0 grep -lE '(^|[^A-Za-z0-9_.])/(work|opt|home|root|tmp)/[A-Za-z]' 2>/dev/null)
+
+[ "$faults" -eq 0 ]
