@@ -314,24 +314,8 @@ mod tests {
             assert!(matches!(of(text), Some(Command::Operation(_))), "{text}");
         }
         let bad = [
-            "Y1X1D01",
-            "X1I1D01",
-            "J1I1D01",
-            "I1J1D02",
-            "I1J1X1D01",
-            "X1X1D01",
-            "X1Y1",
-            "XD01",
-            "X1.0D01",
-            "X1D1",
-            "X1D001",
-            "G01X1D01",
-            "X D01",
-            "X1D04",
-            "D09",
-            "D1",
-            "D",
-            "D01D01",
+            "Y1X1D01", "X1I1D01", "J1I1D01", "I1J1D02", "I1J1X1D01", "X1X1D01", "X1Y1", "XD01",
+            "X1.0D01", "X1D1", "X1D001", "G01X1D01", "X D01", "X1D04", "D09", "D1", "D", "D01D01",
         ];
         for text in bad {
             assert_eq!(of(text), None, "{text}");

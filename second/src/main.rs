@@ -4,6 +4,7 @@ mod arc;
 mod attribute;
 mod command;
 mod compare;
+mod generator;
 mod listing;
 mod macros;
 mod md5;
@@ -30,6 +31,7 @@ second MODE, with the file on standard input:
   numbers                                      the numbers kept, a line per AD
   attribute TA|TO PLACE NAME                   place and length of a value (also: attr)
   signature                                    the digest, if the file bears it
+  questions SEED                               some questions about the file, a line each
 with a list of file names on standard input:
   batch [--room E,A,M,N]                       a line per file: name, sheet or refusal, hash
 on folders and files:
@@ -56,12 +58,17 @@ fn main() -> ExitCode {
     }
 }
 
+/// Standard input, whole.
+fn input() -> io::Result<Vec<u8>> {
+    let mut file = Vec::new();
+    io::stdin().lock().read_to_end(&mut file)?;
+    Ok(file)
+}
+
 /// False when the words are no mode.
 fn run(words: &[String], out: &mut dyn Write) -> io::Result<bool> {
     if let Some(question) = question::question(words) {
-        let mut file = Vec::new();
-        io::stdin().lock().read_to_end(&mut file)?;
-        question::answer(&question, &file, out)?;
+        question::answer(&question, &input()?, out)?;
         return Ok(true);
     }
     let Some((mode, rest)) = words.split_first() else {
@@ -80,6 +87,20 @@ fn run(words: &[String], out: &mut dyn Write) -> io::Result<bool> {
                 return Ok(false);
             };
             compare::census(Path::new(folder), room, out)?;
+        }
+        ("questions", [seed]) => {
+            let Ok(seed) = seed.parse() else {
+                return Ok(false);
+            };
+            for question in generator::questions(seed, &input()?) {
+                writeln!(out, "{question}")?;
+            }
+        }
+        ("make", [seed, count, folder]) => {
+            let (Ok(seed), Ok(count)) = (seed.parse(), count.parse()) else {
+                return Ok(false);
+            };
+            generator::make(seed, count, Path::new(folder))?;
         }
         ("check-cases", [folder]) => compare::check_cases(Path::new(folder), out)?,
         ("compare", [first, second]) => {

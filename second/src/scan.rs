@@ -130,3 +130,51 @@ impl<'a> Scanner<'a> {
         Err(self.ended())
     }
 }
+
+#[cfg(test)]
+mod tests {
+    use super::*;
+
+    /// The commands before the first refusal, and that refusal.
+    fn scanned(file: &[u8]) -> (usize, Refusal) {
+        let mut scanner = Scanner::without_limit(file);
+        let mut commands = 0;
+        loop {
+            match scanner.next() {
+                Ok(_) => commands += 1,
+                Err(refusal) => return (commands, refusal),
+            }
+        }
+    }
+
+    #[test]
+    fn extents_come_first() {
+        assert_eq!(scanned(b""), (0, Refusal::new(3, 0)));
+        assert_eq!(scanned(b"\r\n\n"), (0, Refusal::new(3, 3)));
+        assert_eq!(scanned(b"G99"), (0, Refusal::new(3, 3)));
+        assert_eq!(scanned(b"G99\x01*"), (0, Refusal::new(2, 3)));
+        assert_eq!(scanned(b"G99*\x01"), (1, Refusal::new(2, 4)));
+        assert_eq!(scanned(b"%TFa,50%"), (1, Refusal::new(3, 8)));
+        assert_eq!(scanned(b"%\nMOMM*%"), (0, Refusal::new(2, 1)));
+    }
+
+    #[test]
+    fn line_ends_stand_after_stars_and_in_macros_after_commas() {
+        assert_eq!(scanned(b"%MOMM*\r\n\n%"), (1, Refusal::new(3, 10)));
+        assert_eq!(scanned(b"%TFa,\nb*%"), (0, Refusal::new(2, 5)));
+        assert_eq!(scanned(b"%AMa*\n1,\r\n1*\n%"), (1, Refusal::new(3, 14)));
+        assert_eq!(scanned(b"%AMa*\n1\n,1*%"), (0, Refusal::new(2, 7)));
+    }
+
+    #[test]
+    fn the_first_byte_after_m02_decides() {
+        let tail = |file| {
+            let mut scanner = Scanner::without_limit(file);
+            scanner.next().expect("M02");
+            scanner.tail()
+        };
+        assert_eq!(tail(b"M02*\r\n"), Ok(()));
+        assert_eq!(tail(b"M02*\nA\x00"), Err(Refusal::new(18, 5)));
+        assert_eq!(tail(b"M02*\x00A"), Err(Refusal::new(2, 4)));
+    }
+}
