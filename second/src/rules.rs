@@ -367,30 +367,40 @@ impl Reading {
     fn flash(&mut self, place: usize, operation: &Operation) -> Result<(), u32> {
         let at = self.target(operation)?;
         let (number, aperture) = self.graphics.aperture.ok_or(11u32)?;
-        let (flip, angle) = self.graphics.orientation();
-        let (scale, clear) = (self.graphics.scale, self.graphics.clear);
-        let (source, items) = match aperture {
-            Aperture::Block(block) => {
-                // 14: "at a scale other than 1 or an angle not a multiple of 90 degrees".
-                require(scale == ONE && angle % (TURN / 4) == 0, 14)?;
-                let taller = self.blocks[block].height + 1;
-                if let Some(Open::Block { height, .. }) = self.open.last_mut() {
-                    require(taller <= TALLEST, 15)?;
-                    *height = taller.max(*height);
-                }
-                let placing = Placing { at, flip, angle, clear };
-                (Source::Block(block, placing), self.blocks[block].body.total)
-            }
+        match aperture {
+            Aperture::Block(block) => self.flash_block(block, at)?,
             _ => {
+                require(self.has_items_left(1), 16)?;
+                self.use_room(Room { entries: 1, ..Room::NONE })?;
+                let (flip, angle) = self.graphics.orientation();
+                let scale = self.graphics.scale;
                 let plain = self.plain_item(Kind::Flash, place);
                 let item = Item { aperture: number, flip, angle, scale, end: at, ..plain };
-                (Source::Item(item), 1)
+                self.body().push(Source::Item(item), 1);
             }
-        };
+        }
+        self.graphics.point = Some(at);
+        Ok(())
+    }
+
+    /// 14: "block flashed at a scale other than 1 or an angle not a multiple of 90 degrees", an
+    /// empty one too (decision 96). 15: a flash making the innermost open block's height 9
+    /// (decision 97). An empty block uses an entry and adds nothing to the items.
+    fn flash_block(&mut self, block: usize, at: Point) -> Result<(), u32> {
+        let (flip, angle) = self.graphics.orientation();
+        require(self.graphics.scale == ONE && angle % (TURN / 4) == 0, 14)?;
+        let height = self.blocks[block].height + 1;
+        let is_in_block = matches!(self.open.last(), Some(Open::Block { .. }));
+        require(!is_in_block || height <= TALLEST, 15)?;
+        let items = self.blocks[block].body.total;
         require(self.has_items_left(items), 16)?;
         self.use_room(Room { entries: 1, ..Room::NONE })?;
-        self.body().push(source, items);
-        self.graphics.point = Some(at);
+
+        if let Some(Open::Block { height: open, .. }) = self.open.last_mut() {
+            *open = height.max(*open);
+        }
+        let placing = Placing { at, flip, angle, clear: self.graphics.clear };
+        self.body().push(Source::Block(block, placing), items);
         Ok(())
     }
 

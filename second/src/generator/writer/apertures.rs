@@ -3,7 +3,7 @@
 use super::{Known, Shape, Writer};
 use crate::generator::random::Random;
 use crate::generator::text;
-use crate::macros;
+use crate::macros::{self, Macro};
 use crate::number::ONE;
 use crate::templates;
 
@@ -127,9 +127,8 @@ impl Writer {
         self.file.extend(text.bytes());
         self.file.push(b'%');
         self.end_line();
-        if let Some(definition) = macros::parse(text.as_bytes()) {
-            self.macros.push(definition);
-        }
+        let is_good = |made: &Macro| !made.has_number_out_of_range && !made.is_too_deep;
+        self.macros.extend(macros::parse(text.as_bytes()).filter(is_good));
     }
 
     pub fn block(&mut self) -> String {
