@@ -1,0 +1,72 @@
+//! Attributes: document 01, "Attributes" in "State".
+
+use crate::command::{self, Attribute, Command};
+use crate::scan::{Raw, Refusal, Scanner};
+
+/// "The two kinds are held apart (house)."
+#[derive(Clone, Copy, PartialEq, Eq, Debug)]
+pub enum Held {
+    /// TA, taken at AD or AB opening.
+    Aperture,
+    /// TO, at any command.
+    Object,
+}
+
+/// "the place and length, in the file, of the bytes after the name's comma (0 and 0 without one)".
+#[derive(Clone, Copy, PartialEq, Eq, Debug)]
+pub struct Answer {
+    pub place: usize,
+    pub length: usize,
+}
+
+/// The attribute of that name held at the command that begins at the place, or a number: "1 to 4
+/// and 18 as reading does, then 22, then 23". The other rules of the reading are passed over, and
+/// the first M02 ends the walk (decision 108).
+pub fn attribute(file: &[u8], held: Held, place: usize, name: &[u8]) -> Result<Answer, u32> {
+    let number_of = |refusal: Refusal| refusal.number;
+    let mut scanner = Scanner::new(file).map_err(number_of)?;
+    let mut current = None;
+    let mut asked = None;
+    loop {
+        let raw = scanner.next().map_err(number_of)?;
+        let command = command::parse(&raw).ok_or(4u32)?;
+        if raw.place == place {
+            // Commands strictly before it count, not itself (decision 110).
+            asked = Some(current.filter(|_| can_hold(held, &command)));
+        }
+        match (&command, held) {
+            (Command::ApertureAttribute(attribute), Held::Aperture)
+            | (Command::ObjectAttribute(attribute), Held::Object)
+                if attribute.name == name =>
+            {
+                current = Some(answer(&raw, attribute));
+            }
+            (Command::DeleteAttribute(deleted), _) if deleted.is_none_or(|d| d == name) => {
+                current = None;
+            }
+            (Command::End, _) => {
+                scanner.tail().map_err(number_of)?;
+                break;
+            }
+            _ => {}
+        }
+    }
+    asked.ok_or(22u32)?.ok_or(23)
+}
+
+/// 23 "also for TA at another command" (decision 111).
+fn can_hold(held: Held, command: &Command) -> bool {
+    let makes_aperture = matches!(command, Command::Define { .. } | Command::BlockOpen(_));
+    held == Held::Object || makes_aperture
+}
+
+/// The value stands after `%`, the two letters, the name and its comma (decision 112).
+fn answer(raw: &Raw, attribute: &Attribute) -> Answer {
+    match attribute.value {
+        None => Answer { place: 0, length: 0 },
+        Some(value) => {
+            let place = raw.place + 1 + 2 + attribute.name.len() + 1;
+            Answer { place, length: value.len() }
+        }
+    }
+}

@@ -1,0 +1,82 @@
+//! Questions about a file, in the words of the modes: rooms just large enough and one short, items
+//! near both ends, attributes at commands and between them.
+
+use super::random::Random;
+use crate::command::{self, Command};
+use crate::rules::read;
+use crate::scan::Scanner;
+use crate::sheet::{Room, Sheet};
+
+pub fn questions(seed: u64, file: &[u8]) -> Vec<String> {
+    let mut random = Random::new(seed, file.len() as u64);
+    let mut questions = vec![String::from("sheet"), String::from("numbers")];
+    if let Ok(sheet) = read(file, Room::UNLIMITED) {
+        rooms(&mut random, &sheet.used, &mut questions);
+        items(&mut random, &sheet, &mut questions);
+    }
+    attributes(&mut random, file, &mut questions);
+    questions.push(String::from("signature"));
+    questions
+}
+
+fn rooms(random: &mut Random, used: &Room, questions: &mut Vec<String>) {
+    let used = [used.entries, used.apertures, used.macros, used.numbers];
+    let mut ask = |room: [u64; 4]| {
+        let [entries, apertures, macros, numbers] = room;
+        questions.push(format!("sheet --room {entries},{apertures},{macros},{numbers}"));
+    };
+    ask(used);
+    for part in 0..4 {
+        let mut room = used;
+        if used[part] > 0 {
+            room[part] -= 1;
+            ask(room);
+            room[part] = random.below(used[part] as usize) as u64;
+            ask(room);
+        }
+    }
+}
+
+fn items(random: &mut Random, sheet: &Sheet, questions: &mut Vec<String>) {
+    let total = sheet.total();
+    let mut ask = |k: u64| questions.push(format!("items {k} 3"));
+    ask(0);
+    ask(total);
+    ask(total.saturating_sub(1));
+    ask(total + random.next() % 1000);
+    for _ in 0..3 {
+        ask(random.next() % (total + 1));
+    }
+}
+
+/// Places and names as they stand in the file, and some that do not.
+fn attributes(random: &mut Random, file: &[u8], questions: &mut Vec<String>) {
+    let mut places = vec![0, file.len()];
+    let mut names = vec![String::from("a")];
+    if let Ok(mut scanner) = Scanner::new(file) {
+        while let Ok(raw) = scanner.next() {
+            places.push(raw.place);
+            match command::parse(&raw) {
+                Some(
+                    Command::ApertureAttribute(attribute) | Command::ObjectAttribute(attribute),
+                ) => {
+                    names.push(String::from_utf8_lossy(attribute.name).into_owned());
+                }
+                Some(Command::Define { .. } | Command::BlockOpen(_)) => {
+                    // Asked more often: TA is held here.
+                    places.extend([raw.place; 4]);
+                }
+                Some(Command::End) => break,
+                _ => {}
+            }
+        }
+    }
+    for _ in 0..8 {
+        let place = match random.below(10) {
+            0 => random.below(file.len() + 2),
+            _ => random.pick(&places),
+        };
+        let name = &names[random.below(names.len())];
+        questions.push(format!("attr {} {place} {name}", random.pick(&["TA", "TO"])));
+    }
+}

@@ -1,0 +1,112 @@
+//! The second reader: document 01 read by a program that shares no code with the proved reader.
+
+mod arc;
+mod attribute;
+mod command;
+mod compare;
+mod generator;
+mod listing;
+mod macros;
+mod md5;
+mod number;
+mod question;
+mod rules;
+mod scan;
+mod sheet;
+mod signature;
+mod state;
+mod templates;
+
+use std::env;
+use std::fs;
+use std::io::{self, BufWriter, Read, Write};
+use std::path::Path;
+use std::process::ExitCode;
+
+const USAGE: &str = "\
+second MODE, with the file on standard input:
+  list [--room E,A,M,N] [--limit N] [--long]   the listing; --long reads past 65,536 bytes
+  sheet [--room E,A,M,N]                       unit, total, records and numbers used
+  items K COUNT                                the listing's lines of those items
+  numbers                                      the numbers kept, a line per AD
+  attribute TA|TO PLACE NAME                   place and length of a value (also: attr)
+  signature                                    the digest, if the file bears it
+  questions SEED                               some questions about the file, a line each
+with a list of file names on standard input:
+  batch [--room E,A,M,N]                       a line per file: name, sheet or refusal, hash
+on folders and files:
+  make SEED COUNT DIR                          writes generated files
+  census DIR [--room E,A,M,N]                  how many files are answered with each number
+  check-cases DIR                              runs the cases of the folder
+  compare FILE FILE                            two outputs of batch, line by line";
+
+fn main() -> ExitCode {
+    let words: Vec<String> = env::args().skip(1).collect();
+    let mut out = BufWriter::new(io::stdout().lock());
+    let outcome = run(&words, &mut out).and_then(|known| out.flush().map(|()| known));
+    match outcome {
+        Ok(true) => ExitCode::SUCCESS,
+        Ok(false) => {
+            eprintln!("{USAGE}");
+            ExitCode::from(2)
+        }
+        Err(error) if error.kind() == io::ErrorKind::BrokenPipe => ExitCode::SUCCESS,
+        Err(error) => {
+            eprintln!("second: {error}");
+            ExitCode::FAILURE
+        }
+    }
+}
+
+/// Standard input, whole.
+fn input() -> io::Result<Vec<u8>> {
+    let mut file = Vec::new();
+    io::stdin().lock().read_to_end(&mut file)?;
+    Ok(file)
+}
+
+/// False when the words are no mode.
+fn run(words: &[String], out: &mut dyn Write) -> io::Result<bool> {
+    if let Some(question) = question::question(words) {
+        question::answer(&question, &input()?, out)?;
+        return Ok(true);
+    }
+    let Some((mode, rest)) = words.split_first() else {
+        return Ok(false);
+    };
+    match (mode.as_str(), rest) {
+        ("batch", rest) => {
+            let Some(room) = question::only_room(rest) else {
+                return Ok(false);
+            };
+            let list = io::read_to_string(io::stdin().lock())?;
+            compare::batch(&list, room, out)?;
+        }
+        ("census", [folder, rest @ ..]) => {
+            let Some(room) = question::only_room(rest) else {
+                return Ok(false);
+            };
+            compare::census(Path::new(folder), room, out)?;
+        }
+        ("questions", [seed]) => {
+            let Ok(seed) = seed.parse() else {
+                return Ok(false);
+            };
+            for question in generator::questions(seed, &input()?) {
+                writeln!(out, "{question}")?;
+            }
+        }
+        ("make", [seed, count, folder]) => {
+            let (Ok(seed), Ok(count)) = (seed.parse(), count.parse()) else {
+                return Ok(false);
+            };
+            generator::make(seed, count, Path::new(folder))?;
+        }
+        ("check-cases", [folder]) => compare::check_cases(Path::new(folder), out)?,
+        ("compare", [first, second]) => {
+            compare::compare(&fs::read_to_string(first)?, &fs::read_to_string(second)?, out)?;
+        }
+        _ => return Ok(false),
+    }
+    Ok(true)
+}

@@ -1,0 +1,124 @@
+//! A question about one file: a mode's words and its answer.
+
+use std::io::{self, Write};
+
+use crate::attribute::{attribute, Held};
+use crate::listing;
+use crate::md5;
+use crate::rules::read;
+use crate::scan::Refusal;
+use crate::sheet::Room;
+use crate::signature::signature;
+
+pub enum Question {
+    List { room: Room, limit: u64, longest: usize },
+    Sheet { room: Room },
+    Items { k: u64, count: u64 },
+    Numbers,
+    Attribute { word: String, held: Held, place: usize, name: String },
+    Signature,
+}
+
+/// The question that the words ask, or nothing.
+pub fn question(words: &[String]) -> Option<Question> {
+    let (mode, rest) = words.split_first()?;
+    match mode.as_str() {
+        "list" => list(rest),
+        "sheet" => Some(Question::Sheet { room: only_room(rest)? }),
+        "items" => match rest {
+            [k, count] => Some(Question::Items { k: k.parse().ok()?, count: count.parse().ok()? }),
+            _ => None,
+        },
+        "numbers" if rest.is_empty() => Some(Question::Numbers),
+        "attribute" | "attr" => match rest {
+            [held, place, name] => Some(Question::Attribute {
+                word: mode.clone(),
+                held: held_of(held)?,
+                place: place.parse().ok()?,
+                name: name.clone(),
+            }),
+            _ => None,
+        },
+        "signature" if rest.is_empty() => Some(Question::Signature),
+        _ => None,
+    }
+}
+
+fn list(words: &[String]) -> Option<Question> {
+    let (mut room, mut limit) = (Room::UNLIMITED, u64::MAX);
+    let mut longest = listing::LISTING_LIMIT;
+    let mut words = words.iter();
+    while let Some(word) = words.next() {
+        match word.as_str() {
+            "--room" => room = room_of(words.next()?)?,
+            "--limit" => limit = words.next()?.parse().ok()?,
+            "--long" => longest = usize::MAX,
+            _ => return None,
+        }
+    }
+    Some(Question::List { room, limit, longest })
+}
+
+/// `--room E,A,M,N`, or nothing: room without limit.
+pub fn only_room(words: &[String]) -> Option<Room> {
+    match words {
+        [] => Some(Room::UNLIMITED),
+        [word, room] if word == "--room" => room_of(room),
+        _ => None,
+    }
+}
+
+fn room_of(text: &str) -> Option<Room> {
+    let parts: Option<Vec<u64>> = text.split(',').map(|part| part.parse().ok()).collect();
+    match parts?[..] {
+        [entries, apertures, macros, numbers] => Some(Room { entries, apertures, macros, numbers }),
+        _ => None,
+    }
+}
+
+fn held_of(text: &str) -> Option<Held> {
+    match text {
+        "TA" => Some(Held::Aperture),
+        "TO" => Some(Held::Object),
+        _ => None,
+    }
+}
+
+/// Writes the answer for the file.
+pub fn answer(question: &Question, file: &[u8], out: &mut dyn Write) -> io::Result<()> {
+    match question {
+        Question::List { longest, .. } if file.len() > *longest => {
+            writeln!(out, "{}", listing::refusal_line(Refusal::new(1, 0)))
+        }
+        Question::List { room, limit, .. } => match read(file, *room) {
+            Ok(sheet) => listing::write_listing(out, &sheet, *limit),
+            Err(refusal) => writeln!(out, "{}", listing::refusal_line(refusal)),
+        },
+        Question::Sheet { room } => writeln!(out, "{}", sheet_or_refusal(file, *room)),
+        Question::Items { k, count } => match read(file, Room::UNLIMITED) {
+            Ok(sheet) => listing::write_items(out, &sheet, *k, *count),
+            Err(refusal) => writeln!(out, "{}", listing::refusal_line(refusal)),
+        },
+        Question::Numbers => match read(file, Room::UNLIMITED) {
+            Ok(sheet) => listing::write_numbers(out, &sheet),
+            Err(refusal) => writeln!(out, "{}", listing::refusal_line(refusal)),
+        },
+        Question::Attribute { word, held, place, name } => {
+            match attribute(file, *held, *place, name.as_bytes()) {
+                Ok(answer) => writeln!(out, "{word}\t{}\t{}", answer.place, answer.length),
+                Err(number) => writeln!(out, "refused\t{number}"),
+            }
+        }
+        Question::Signature => match signature(file) {
+            Ok(digest) => writeln!(out, "signed\t{}", md5::hex(&digest)),
+            Err(refusal) => writeln!(out, "{}", listing::refusal_line(refusal)),
+        },
+    }
+}
+
+fn sheet_or_refusal(file: &[u8], room: Room) -> String {
+    match read(file, room) {
+        Ok(sheet) => listing::sheet_line(&sheet),
+        Err(refusal) => listing::refusal_line(refusal),
+    }
+}

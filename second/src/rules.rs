@@ -1,0 +1,598 @@
+//! The reading: document 01, "State" and the table of numbers.
+//!
+//! Commands are taken in file order; within one command the rules stand in the order of their
+//! numbers, so that the lowest decides.
+
+use std::collections::{HashMap, HashSet};
+
+use crate::arc::is_nonsensical;
+use crate::command::{self, Action, Command, Mode, Operation, Unit};
+use crate::macros::{self, Macro};
+use crate::number::{Coordinate, Number, DIGITS_BEFORE_FS, ONE};
+use crate::scan::{Refusal, Scanner};
+use crate::sheet::{
+    Block, Body, Definition, Grid, Item, Kind, Placing, Point, Room, Sheet, Source, TURN,
+};
+use crate::state::{Aperture, Contour, Graphics, Open, Region};
+use crate::templates;
+
+/// 16: "past 10^12 items".
+const MOST_ITEMS: u128 = 1_000_000_000_000;
+
+/// 15: a flash making a block's height 9, or a ninth open AB.
+const TALLEST: u32 = 8;
+const MOST_OPEN_BLOCKS: usize = 8;
+
+/// SR: "n digits alone and 1 to 9,999".
+const MOST_STEPS: u64 = 9_999;
+
+/// The reading of a file with the room lent: a sheet, or the first fault.
+pub fn read(file: &[u8], room: Room) -> Result<Sheet, Refusal> {
+    let mut scanner = Scanner::new(file)?;
+    let mut reading = Reading::new(room);
+    loop {
+        let raw = scanner.next()?;
+        let at_place = |number| Refusal::new(number, raw.place);
+        let command = command::parse(&raw).ok_or(at_place(4))?;
+        let is_end = command == Command::End;
+        reading.step(raw.place, command).map_err(at_place)?;
+        if is_end {
+            scanner.tail()?;
+            return Ok(reading.sheet());
+        }
+    }
+}
+
+struct Reading {
+    room: Room,
+    used: Room,
+    integer_digits: Option<usize>,
+    unit: Option<Unit>,
+    /// "circular D01 before any G75" (decision 83).
+    g75: bool,
+    graphics: Graphics,
+    region: Option<Region>,
+    open: Vec<Open>,
+    top: Body,
+    blocks: Vec<Block>,
+    apertures: HashMap<i64, Aperture>,
+    macros: HashMap<Vec<u8>, Macro>,
+    definitions: Vec<Definition>,
+    file_attributes: HashSet<Vec<u8>>,
+}
+
+/// The number, unless the rule is kept.
+fn require(kept: bool, number: u32) -> Result<(), u32> {
+    if kept {
+        Ok(())
+    } else {
+        Err(number)
+    }
+}
+
+impl Reading {
+    fn new(room: Room) -> Reading {
+        Reading {
+            room,
+            used: Room::NONE,
+            integer_digits: None,
+            unit: None,
+            g75: false,
+            graphics: Graphics::at_start(),
+            region: None,
+            open: Vec::new(),
+            top: Body::default(),
+            blocks: Vec::new(),
+            apertures: HashMap::new(),
+            macros: HashMap::new(),
+            definitions: Vec::new(),
+            file_attributes: HashSet::new(),
+        }
+    }
+
+    /// The sheet after M02, at which a unit is given.
+    fn sheet(self) -> Sheet {
+        Sheet {
+            unit: self.unit.expect("M02 without MO is 6"),
+            body: self.top,
+            blocks: self.blocks,
+            definitions: self.definitions,
+            used: self.used,
+        }
+    }
+
+    // ------------------------------------------------------------ one command
+
+    /// 5, 6 and 7, then the further rules of the command in rising order and what it does.
+    fn step(&mut self, place: usize, command: Command) -> Result<(), u32> {
+        require(!command.has_number_out_of_range(self.most_digits()), 5)?;
+        require(self.has_header_for(&command), 6)?;
+        require(self.is_allowed_here(&command), 7)?;
+        match command {
+            Command::Comment | Command::End => Ok(()),
+            Command::Mode(mode) => {
+                self.graphics.mode = Some(mode);
+                Ok(())
+            }
+            Command::G75 => {
+                self.g75 = true;
+                Ok(())
+            }
+            Command::RegionBegin => {
+                self.region = Some(Region { contour: None });
+                Ok(())
+            }
+            Command::RegionEnd => {
+                self.end_contour()?;
+                self.region = None;
+                Ok(())
+            }
+            Command::Select(number) => self.select(number),
+            Command::Operation(operation) => match operation.action {
+                Action::Draw => self.draw(place, &operation),
+                Action::Move => self.go(&operation),
+                Action::Flash => self.flash(place, &operation),
+            },
+            Command::Format { integer_digits } => {
+                self.integer_digits = Some(integer_digits);
+                Ok(())
+            }
+            Command::Unit(unit) => {
+                self.unit = Some(unit);
+                Ok(())
+            }
+            Command::Define { number, template, parameters } => {
+                self.define(number, template, &parameters)
+            }
+            Command::Macro(definition) => self.define_macro(definition),
+            Command::BlockOpen(number) => self.open_block(number),
+            Command::BlockClose => {
+                self.close_block();
+                Ok(())
+            }
+            Command::RepeatOpen { nx, ny, dx, dy } => self.open_repeat(nx, ny, dx, dy),
+            Command::RepeatClose => {
+                self.close_repeat();
+                Ok(())
+            }
+            Command::Polarity { clear } => {
+                self.graphics.clear = clear;
+                Ok(())
+            }
+            Command::Mirror(mirror) => {
+                self.graphics.mirror = mirror;
+                Ok(())
+            }
+            Command::Rotate(angle) => {
+                self.graphics.rotation = angle.value();
+                Ok(())
+            }
+            Command::Scale(scale) => {
+                // "LS above 0, else 10."
+                require(scale.value() > 0, 10)?;
+                self.graphics.scale = scale.value();
+                Ok(())
+            }
+            Command::FileAttribute(attribute) => {
+                // "file attribute name set twice" (decision 106).
+                require(self.file_attributes.insert(attribute.name.to_vec()), 19)
+            }
+            Command::ApertureAttribute(_)
+            | Command::ObjectAttribute(_)
+            | Command::DeleteAttribute(_) => Ok(()),
+        }
+    }
+
+    /// "1 to n+6 digits as written (12 before FS)".
+    fn most_digits(&self) -> usize {
+        match self.integer_digits {
+            Some(integer_digits) => integer_digits + 6,
+            None => DIGITS_BEFORE_FS,
+        }
+    }
+
+    /// 6: "FS or MO given twice, or missing at an operation or at M02".
+    fn has_header_for(&self, command: &Command) -> bool {
+        match command {
+            Command::Format { .. } => self.integer_digits.is_none(),
+            Command::Unit(_) => self.unit.is_none(),
+            Command::Operation(_) | Command::End => {
+                self.integer_digits.is_some() && self.unit.is_some()
+            }
+            _ => true,
+        }
+    }
+
+    /// 7: "command not allowed here, or something open at M02" (decisions 48 to 57).
+    fn is_allowed_here(&self, command: &Command) -> bool {
+        if self.region.is_some() {
+            return is_allowed_in_region(command);
+        }
+        match command {
+            Command::RegionEnd => false,
+            Command::BlockClose => matches!(self.open.last(), Some(Open::Block { .. })),
+            Command::RepeatClose => matches!(self.open.last(), Some(Open::Repeat { .. })),
+            // "SR only at top level".
+            Command::RepeatOpen { .. } | Command::End => self.open.is_empty(),
+            _ => true,
+        }
+    }
+
+    // ------------------------------------------------------------ apertures and macros
+
+    /// 8 for an unknown aperture; "An open block's number is taken, but selecting it is 8."
+    fn select(&mut self, number: Number) -> Result<(), u32> {
+        let number = number.value();
+        match self.apertures.get(&number) {
+            None | Some(Aperture::OpenBlock) => Err(8),
+            Some(aperture) => {
+                self.graphics.aperture = Some((number, *aperture));
+                Ok(())
+            }
+        }
+    }
+
+    /// AD: 8, then 9 and 10, then 17 (decisions 60 and 79).
+    fn define(&mut self, number: Number, name: &[u8], parameters: &[Number]) -> Result<(), u32> {
+        let number = number.value();
+        let parameters: Vec<i64> = parameters.iter().map(|parameter| parameter.value()).collect();
+        require(!self.apertures.contains_key(&number), 8)?;
+        let numbers = if templates::is_standard(name) {
+            require(templates::keeps_its_rule(name, &parameters), 10)?;
+            parameters.clone()
+        } else {
+            let definition = self.macros.get(name).ok_or(8u32)?;
+            macros::work_out(definition, &parameters)?
+        };
+        self.use_room(Room { apertures: 1, numbers: numbers.len() as u64, ..Room::NONE })?;
+        let is_pen = templates::can_draw(name, &parameters);
+        self.apertures.insert(number, if is_pen { Aperture::Pen } else { Aperture::Shape });
+        self.definitions.push(Definition { aperture: number, numbers });
+        Ok(())
+    }
+
+    /// AM: 8, then 15, then 17; never 9 or 10 (decisions 58 and 78).
+    fn define_macro(&mut self, definition: Macro) -> Result<(), u32> {
+        let name = &definition.name;
+        require(!templates::is_standard(name) && !self.macros.contains_key(name), 8)?;
+        require(!definition.is_too_deep, 15)?;
+        self.use_room(Room { macros: 1, ..Room::NONE })?;
+        self.macros.insert(definition.name.clone(), definition);
+        Ok(())
+    }
+
+    // ------------------------------------------------------------ operations
+
+    /// The point the operation names: "a missing X or Y keeps the current one", which is 11 while
+    /// the point is unset (decision 81).
+    fn target(&self, operation: &Operation) -> Result<Point, u32> {
+        let current = self.graphics.point;
+        let part = |given: Option<Coordinate>, kept: fn(Point) -> i64| match given {
+            Some(coordinate) => Ok(coordinate.value),
+            None => current.map(kept).ok_or(11u32),
+        };
+        Ok(Point::new(part(operation.x, |p| p.x)?, part(operation.y, |p| p.y)?))
+    }
+
+    /// D01: 11, then 12, then 16, then 17 (decision 84).
+    fn draw(&mut self, place: usize, operation: &Operation) -> Result<(), u32> {
+        let start = self.graphics.point.ok_or(11u32)?;
+        let end = self.target(operation)?;
+        let mode = self.graphics.mode.ok_or(11u32)?;
+        let number = self.pen()?;
+        let offset = match (mode, operation.offset) {
+            (Mode::Linear, None) => None,
+            (Mode::Linear, Some(_)) => return Err(11),
+            (_, None) => return Err(11),
+            (_, Some((i, j))) => {
+                require(self.g75, 11)?;
+                Some(Point::new(i.value, j.value))
+            }
+        };
+        require(offset.is_none_or(|offset| !is_nonsensical(start, end, offset)), 12)?;
+
+        // "each contour (at its first D01)" is an entry and an item of its own (decision 93).
+        let starts_contour = self.region.as_ref().is_some_and(|region| region.contour.is_none());
+        let new = if starts_contour { 2 } else { 1 };
+        require(self.has_items_left(new), 16)?;
+        self.use_room(Room { entries: new, ..Room::NONE })?;
+
+        if starts_contour {
+            self.begin_contour(place, start);
+        }
+        let centre = offset.map_or(Point::default(), |offset| start.plus(offset));
+        let item = Item { start, end, centre, ..self.new_item(place, number, mode) };
+        self.body().push(Source::Item(item), 1);
+        self.count_edge();
+        self.graphics.point = Some(end);
+        Ok(())
+    }
+
+    /// The aperture that draws: in a region 0, else a circle without hole, or 11 (decision 82).
+    fn pen(&self) -> Result<i64, u32> {
+        if self.region.is_some() {
+            return Ok(0);
+        }
+        match self.graphics.aperture {
+            Some((number, Aperture::Pen)) => Ok(number),
+            _ => Err(11),
+        }
+    }
+
+    /// A line, arc or edge without its points. Edges have "angle 0, scale 1, no flip".
+    fn new_item(&self, place: usize, aperture: i64, mode: Mode) -> Item {
+        let in_region = self.region.is_some();
+        let kind = match (mode, in_region) {
+            (Mode::Linear, false) => Kind::Line,
+            (Mode::Clockwise, false) => Kind::Cw,
+            (Mode::Counterclockwise, false) => Kind::Ccw,
+            (Mode::Linear, true) => Kind::EdgeLine,
+            (Mode::Clockwise, true) => Kind::EdgeCw,
+            (Mode::Counterclockwise, true) => Kind::EdgeCcw,
+        };
+        if in_region {
+            return self.plain_item(kind, place);
+        }
+        let (flip, angle) = self.graphics.orientation();
+        let scale = self.graphics.scale;
+        Item { aperture, flip, angle, scale, ..self.plain_item(kind, place) }
+    }
+
+    /// An item of the current polarity and nothing else (decision 94).
+    fn plain_item(&self, kind: Kind, place: usize) -> Item {
+        Item {
+            kind,
+            aperture: 0,
+            clear: self.graphics.clear,
+            flip: false,
+            angle: 0,
+            scale: ONE,
+            start: Point::default(),
+            end: Point::default(),
+            centre: Point::default(),
+            count: 0,
+            place,
+        }
+    }
+
+    /// D02: 11, then 13 where it ends a contour (decision 90).
+    fn go(&mut self, operation: &Operation) -> Result<(), u32> {
+        let target = self.target(operation)?;
+        self.end_contour()?;
+        self.graphics.point = Some(target);
+        Ok(())
+    }
+
+    /// D03: 11, then 14 and 15 for a block, then 16, then 17.
+    fn flash(&mut self, place: usize, operation: &Operation) -> Result<(), u32> {
+        let at = self.target(operation)?;
+        let (number, aperture) = self.graphics.aperture.ok_or(11u32)?;
+        match aperture {
+            Aperture::Block(block) => self.flash_block(block, at)?,
+            _ => {
+                require(self.has_items_left(1), 16)?;
+                self.use_room(Room { entries: 1, ..Room::NONE })?;
+                let (flip, angle) = self.graphics.orientation();
+                let scale = self.graphics.scale;
+                let plain = self.plain_item(Kind::Flash, place);
+                let item = Item { aperture: number, flip, angle, scale, end: at, ..plain };
+                self.body().push(Source::Item(item), 1);
+            }
+        }
+        self.graphics.point = Some(at);
+        Ok(())
+    }
+
+    /// 14: "block flashed at a scale other than 1 or an angle not a multiple of 90 degrees", an
+    /// empty one too (decision 96). 15: a flash making the innermost open block's height 9
+    /// (decision 97). An empty block uses an entry and adds nothing to the items.
+    fn flash_block(&mut self, block: usize, at: Point) -> Result<(), u32> {
+        let (flip, angle) = self.graphics.orientation();
+        require(self.graphics.scale == ONE && angle % (TURN / 4) == 0, 14)?;
+        let height = self.blocks[block].height + 1;
+        let is_in_block = matches!(self.open.last(), Some(Open::Block { .. }));
+        require(!is_in_block || height <= TALLEST, 15)?;
+        let items = self.blocks[block].body.total;
+        require(self.has_items_left(items), 16)?;
+        self.use_room(Room { entries: 1, ..Room::NONE })?;
+
+        if let Some(Open::Block { height: open, .. }) = self.open.last_mut() {
+            *open = height.max(*open);
+        }
+        let placing = Placing { at, flip, angle, clear: self.graphics.clear };
+        self.body().push(Source::Block(block, placing), items);
+        Ok(())
+    }
+
+    // ------------------------------------------------------------ regions
+
+    /// "The first D01 starts a contour at the current point, however set (house, as 000)."
+    fn begin_contour(&mut self, place: usize, start: Point) {
+        let item = Item { start, ..self.plain_item(Kind::Contour, place) };
+        let body = self.body();
+        let entry = body.entries.len();
+        body.push(Source::Item(item), 1);
+        self.region = Some(Region { contour: Some(Contour { start, entry }) });
+    }
+
+    fn count_edge(&mut self) {
+        let Some(Region { contour: Some(contour) }) = &self.region else {
+            return;
+        };
+        let entry = contour.entry;
+        if let Source::Item(item) = &mut self.body().entries[entry].source {
+            item.count += 1;
+        }
+    }
+
+    /// "D02 or G37 ends it; its last point must equal its first, else 13. No D01, no contour."
+    fn end_contour(&mut self) -> Result<(), u32> {
+        let point = self.graphics.point;
+        let Some(region) = &mut self.region else {
+            return Ok(());
+        };
+        match region.contour.take() {
+            Some(contour) => require(point == Some(contour.start), 13),
+            None => Ok(()),
+        }
+    }
+
+    // ------------------------------------------------------------ blocks and repeats
+
+    /// AB opening: 8, then 15 for "a ninth open AB" (decision 98), then 17.
+    fn open_block(&mut self, number: Number) -> Result<(), u32> {
+        let number = number.value();
+        require(!self.apertures.contains_key(&number), 8)?;
+        let is_block = |open: &&Open| matches!(open, Open::Block { .. });
+        require(self.open.iter().filter(is_block).count() < MOST_OPEN_BLOCKS, 15)?;
+        self.use_room(Room { entries: 1, apertures: 1, ..Room::NONE })?;
+        self.apertures.insert(number, Aperture::OpenBlock);
+        self.open.push(Open::Block { number, body: Body::default(), height: 1 });
+        self.graphics.point = None;
+        Ok(())
+    }
+
+    /// The block becomes an aperture; only the point is unset (decision 88).
+    fn close_block(&mut self) {
+        if let Some(Open::Block { number, body, height }) = self.open.pop() {
+            self.apertures.insert(number, Aperture::Block(self.blocks.len()));
+            self.blocks.push(Block { body, height });
+        }
+        self.graphics.point = None;
+    }
+
+    /// SR opening: 10 for n and d out of their bounds (decision 44), then 17.
+    fn open_repeat(&mut self, nx: u64, ny: u64, dx: Number, dy: Number) -> Result<(), u32> {
+        let steps = 1..=MOST_STEPS;
+        let (dx, dy) = (dx.value(), dy.value());
+        require(steps.contains(&nx) && steps.contains(&ny) && dx >= 0 && dy >= 0, 10)?;
+        self.use_room(Room { entries: 1, ..Room::NONE })?;
+        let grid = Grid { nx, ny, dx, dy };
+        self.open.push(Open::Repeat { grid, body: Body::default() });
+        self.graphics.point = None;
+        Ok(())
+    }
+
+    fn close_repeat(&mut self) {
+        if let Some(Open::Repeat { grid, body }) = self.open.pop() {
+            let items = grid.copies() * body.total;
+            self.top.push(Source::Repeat(grid, body), items);
+        }
+        self.graphics.point = None;
+    }
+
+    /// Where new entries go: the innermost AB or SR, or the top level.
+    fn body(&mut self) -> &mut Body {
+        match self.open.last_mut() {
+            Some(Open::Block { body, .. } | Open::Repeat { body, .. }) => body,
+            None => &mut self.top,
+        }
+    }
+
+    /// 16: "a D01 or D03 takes the open block or, SR copies counted, the sheet past 10^12 items";
+    /// the innermost open thing decides (decision 99).
+    fn has_items_left(&self, new: u64) -> bool {
+        let top = u128::from(self.top.total);
+        let new = u128::from(new);
+        let after = match self.open.last() {
+            Some(Open::Block { body, .. }) => u128::from(body.total) + new,
+            Some(Open::Repeat { grid, body }) => {
+                top + u128::from(grid.copies()) * (u128::from(body.total) + new)
+            }
+            None => top + new,
+        };
+        after <= MOST_ITEMS
+    }
+
+    /// 17: uses room, or finds it used up (decision 101).
+    fn use_room(&mut self, need: Room) -> Result<(), u32> {
+        let (used, room) = (&mut self.used, &self.room);
+        let fits = need.entries <= room.entries - used.entries
+            && need.apertures <= room.apertures - used.apertures
+            && need.macros <= room.macros - used.macros
+            && need.numbers <= room.numbers - used.numbers;
+        require(fits, 17)?;
+        used.entries += need.entries;
+        used.apertures += need.apertures;
+        used.macros += need.macros;
+        used.numbers += need.numbers;
+        Ok(())
+    }
+}
+
+/// "In a region only G01, G02, G03, G75, G04, D01, D02, G37."
+fn is_allowed_in_region(command: &Command) -> bool {
+    match command {
+        Command::Mode(_) | Command::G75 | Command::Comment | Command::RegionEnd => true,
+        Command::Operation(operation) => operation.action != Action::Flash,
+        _ => false,
+    }
+}
+
+#[cfg(test)]
+mod tests {
+    use super::*;
+
+    const HEAD: &str = "%FSLAX36Y36*%%MOMM*%%ADD10C,1*%D10*G01*";
+
+    /// The file after the head is refused at the mark `|`.
+    fn refused(text: &str, number: u32) {
+        let place = HEAD.len() + text.find('|').expect("a mark");
+        let file = format!("{HEAD}{}M02*", text.replace('|', ""));
+        let refusal = read(file.as_bytes(), Room::UNLIMITED).err();
+        assert_eq!(refusal, Some(Refusal::new(number, place)), "{text}");
+    }
+
+    fn accepted(text: &str) {
+        let file = format!("{HEAD}{text}M02*");
+        assert_eq!(read(file.as_bytes(), Room::UNLIMITED).err(), None, "{text}");
+    }
+
+    #[test]
+    fn the_lowest_number_of_a_command_decides() {
+        refused("G36*|D99999999999*", 5);
+        refused("G36*|D99*", 7);
+        refused("G36*|%MOMM*%", 6);
+        refused("%ABD11*%|%SRX0Y0I0J0*%", 7);
+        refused("|%ADD10C,-1*%", 8);
+        refused("%AMM*1,0*%|%ADD11M,1X1X1*%", 10);
+        refused("%AMM*99,1/0*%|%ADD11M*%", 9);
+        refused("%AMM*99,1*1,1/0*%|%ADD11M*%", 10);
+    }
+
+    #[test]
+    fn points_are_unset_by_blocks_and_repeats() {
+        refused("X0Y0D02*%ABD11*%|X1D01*", 11);
+        refused("X0Y0D02*%SRX1Y1I0J0*%%SR*%|X1D01*", 11);
+        accepted("X0Y0D02*X1D01*");
+    }
+
+    #[test]
+    fn contours_close_exactly() {
+        accepted("G36*X0Y0D02*X1D01*X0D01*G37*");
+        refused("G36*X0Y0D02*X1D01*|G37*", 13);
+        refused("G36*X0Y0D02*X1D01*|D02*", 13);
+        accepted("G36*G37*");
+    }
+
+    #[test]
+    fn a_block_of_height_eight_is_flashed_at_top_level_only() {
+        let mut blocks = String::from("%ABD11*%D10*X0Y0D03*%AB*%");
+        for number in 12..=18 {
+            blocks += &format!("%ABD{number}*%D{}*X0Y0D03*%AB*%", number - 1);
+        }
+        accepted(&format!("{blocks}D18*X0Y0D03*"));
+        accepted(&format!("{blocks}%SRX2Y2I0J0*%D18*X0Y0D03*%SR*%"));
+        refused(&format!("{blocks}%ABD19*%D18*|X0Y0D03*%AB*%"), 15);
+    }
+
+    #[test]
+    fn a_contour_needs_two_entries() {
+        let file = format!("{HEAD}X0Y0D02*G36*D01*G37*M02*");
+        let room = |entries| Room { entries, ..Room::UNLIMITED };
+        let first = HEAD.len() + "X0Y0D02*G36*".len();
+        assert_eq!(read(file.as_bytes(), room(1)).err(), Some(Refusal::new(17, first)));
+        let sheet = read(file.as_bytes(), room(2)).expect("room enough");
+        assert_eq!((sheet.used.entries, sheet.total()), (2, 2));
+    }
+}

@@ -1,0 +1,180 @@
+//! Bytes and ends: document 01, the numbers 1, 2, 3 and 18, and the rule on CR and LF in "Form".
+//!
+//! The extent of a command is found first, so 2 and 3 are given before its text is judged
+//! (decision 1).
+
+/// "file longer than 16,777,216 bytes" (decision 15).
+pub const LONGEST_FILE: usize = 16_777_216;
+
+/// A refusal of the reading: one of document 01's numbers, and its place in the file.
+#[derive(Clone, Copy, PartialEq, Eq, Debug)]
+pub struct Refusal {
+    pub number: u32,
+    pub place: usize,
+}
+
+impl Refusal {
+    pub fn new(number: u32, place: usize) -> Refusal {
+        Refusal { number, place }
+    }
+}
+
+/// A command as its bytes stand in the file.
+#[derive(Clone, Copy, Debug)]
+pub struct Raw<'a> {
+    /// The first byte of the command, `%` for an extended one.
+    pub place: usize,
+    pub extended: bool,
+    /// A word command without its `*`; an extended command without its two `%`.
+    pub text: &'a [u8],
+}
+
+pub fn is_line_end(byte: u8) -> bool {
+    byte == b'\r' || byte == b'\n'
+}
+
+fn is_printable(byte: u8) -> bool {
+    (32..=126).contains(&byte)
+}
+
+/// Steps through a file, a command at a time.
+pub struct Scanner<'a> {
+    file: &'a [u8],
+    at: usize,
+}
+
+impl<'a> Scanner<'a> {
+    /// 1: "file longer than 16,777,216 bytes; place 0".
+    pub fn new(file: &'a [u8]) -> Result<Scanner<'a>, Refusal> {
+        if file.len() > LONGEST_FILE {
+            return Err(Refusal::new(1, 0));
+        }
+        Ok(Scanner::without_limit(file))
+    }
+
+    /// The same, for a call that does not give 1 (decision 116).
+    pub fn without_limit(file: &'a [u8]) -> Scanner<'a> {
+        Scanner { file, at: 0 }
+    }
+
+    /// The next command, or 2 or 3. Without a further command it is 3 at the length (decision 14).
+    pub fn next(&mut self) -> Result<Raw<'a>, Refusal> {
+        self.skip_line_ends();
+        match self.file.get(self.at) {
+            None => Err(self.ended()),
+            Some(b'%') => self.extended(),
+            Some(_) => self.word(),
+        }
+    }
+
+    /// What stands after M02: nothing but CR and LF, else 2 or 18 at the first other byte
+    /// (decision 12).
+    pub fn tail(&mut self) -> Result<(), Refusal> {
+        self.skip_line_ends();
+        match self.file.get(self.at) {
+            None => Ok(()),
+            Some(byte) if is_printable(*byte) => Err(Refusal::new(18, self.at)),
+            Some(_) => Err(Refusal::new(2, self.at)),
+        }
+    }
+
+    fn ended(&self) -> Refusal {
+        Refusal::new(3, self.file.len())
+    }
+
+    /// CR and LF are skipped between commands, in any number (decision 5).
+    fn skip_line_ends(&mut self) {
+        while self.at < self.file.len() && is_line_end(self.file[self.at]) {
+            self.at += 1;
+        }
+    }
+
+    /// A word command runs to the first `*` (decision 4).
+    fn word(&mut self) -> Result<Raw<'a>, Refusal> {
+        let place = self.at;
+        for at in place..self.file.len() {
+            let byte = self.file[at];
+            if byte == b'*' {
+                self.at = at + 1;
+                let text = &self.file[place..at];
+                return Ok(Raw { place, extended: false, text });
+            }
+            if !is_printable(byte) {
+                return Err(Refusal::new(2, at));
+            }
+        }
+        Err(self.ended())
+    }
+
+    /// An extended command runs to the very next `%` (decision 2). CR and LF may stand in it after
+    /// `*`, and in AM after a comma, in any number (decisions 6 to 9).
+    fn extended(&mut self) -> Result<Raw<'a>, Refusal> {
+        let place = self.at;
+        let in_macro = self.file[place + 1..].starts_with(b"AM");
+        let mut line_end_permitted = false;
+        for at in place + 1..self.file.len() {
+            let byte = self.file[at];
+            if byte == b'%' {
+                self.at = at + 1;
+                let text = &self.file[place + 1..at];
+                return Ok(Raw { place, extended: true, text });
+            }
+            if is_line_end(byte) && line_end_permitted {
+                continue;
+            }
+            if !is_printable(byte) {
+                return Err(Refusal::new(2, at));
+            }
+            line_end_permitted = byte == b'*' || (byte == b',' && in_macro);
+        }
+        Err(self.ended())
+    }
+}
+
+#[cfg(test)]
+mod tests {
+    use super::*;
+
+    /// The commands before the first refusal, and that refusal.
+    fn scanned(file: &[u8]) -> (usize, Refusal) {
+        let mut scanner = Scanner::without_limit(file);
+        let mut commands = 0;
+        loop {
+            match scanner.next() {
+                Ok(_) => commands += 1,
+                Err(refusal) => return (commands, refusal),
+            }
+        }
+    }
+
+    #[test]
+    fn extents_come_first() {
+        assert_eq!(scanned(b""), (0, Refusal::new(3, 0)));
+        assert_eq!(scanned(b"\r\n\n"), (0, Refusal::new(3, 3)));
+        assert_eq!(scanned(b"G99"), (0, Refusal::new(3, 3)));
+        assert_eq!(scanned(b"G99\x01*"), (0, Refusal::new(2, 3)));
+        assert_eq!(scanned(b"G99*\x01"), (1, Refusal::new(2, 4)));
+        assert_eq!(scanned(b"%TFa,50%"), (1, Refusal::new(3, 8)));
+        assert_eq!(scanned(b"%\nMOMM*%"), (0, Refusal::new(2, 1)));
+    }
+
+    #[test]
+    fn line_ends_stand_after_stars_and_in_macros_after_commas() {
+        assert_eq!(scanned(b"%MOMM*\r\n\n%"), (1, Refusal::new(3, 10)));
+        assert_eq!(scanned(b"%TFa,\nb*%"), (0, Refusal::new(2, 5)));
+        assert_eq!(scanned(b"%AMa*\n1,\r\n1*\n%"), (1, Refusal::new(3, 14)));
+        assert_eq!(scanned(b"%AMa*\n1\n,1*%"), (0, Refusal::new(2, 7)));
+    }
+
+    #[test]
+    fn the_first_byte_after_m02_decides() {
+        let tail = |file| {
+            let mut scanner = Scanner::without_limit(file);
+            scanner.next().expect("M02");
+            scanner.tail()
+        };
+        assert_eq!(tail(b"M02*\r\n"), Ok(()));
+        assert_eq!(tail(b"M02*\nA\x00"), Err(Refusal::new(18, 5)));
+        assert_eq!(tail(b"M02*\x00A"), Err(Refusal::new(2, 4)));
+    }
+}
