@@ -1,3 +1,4 @@
+-- `base::byte_at` meets its contract: past the end the list's own default, 0, is answered.
 use Prim.Native.Nat.{_-_}
 use mathlib.Core.Path.{sym}
 use lib.ListN.{List·getD-eq-default}

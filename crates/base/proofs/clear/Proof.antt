@@ -1,3 +1,4 @@
+-- `base::clear` meets its contract: the words before `i` are zeros and those from `i` on are as they came.
 use Rattle.base.proofs.Lists.{filled}
 use Prim.Native.Nat.{_-_, _+_, _≤_}
 use mathlib.Core.Path.{_≡_, refl, _∙_}
