@@ -1,4 +1,5 @@
 pub mod And
 pub mod Bytes
 pub mod Moved
+pub mod Or
 pub mod Run

@@ -4,6 +4,7 @@ ghost use Prim.Native.Nat.{_+_, _≤_};
 ghost use lib.ListN.{length, getD, set, replicate, take, drop};
 ghost use lib.Seq.{slice};
 ghost use Rattle.base.specs.And.{_and_};
+ghost use Rattle.base.specs.Or.{_or_};
 ghost use Rattle.base.specs.Bytes.{sameBytes};
 ghost use Rattle.base.specs.Moved.{Moved};
 
@@ -88,11 +89,18 @@ pub fn move_words(s: &mut [u64], dst: usize, src: usize, n: usize)
     }
 }
 
-// Both tests hold. Each is a plain test of numbers, so both are made and none is skipped.
+// Both tests hold. Each is a plain test of numbers, so both are made.
 pub fn both(a: bool, b: bool) -> bool
     ensures { λ t. ⌜ t ≡ (a and b) ⌝ }
 {
     if a { b } else { false }
+}
+
+// One test at least holds. Both are made.
+pub fn either(a: bool, b: bool) -> bool
+    ensures { λ t. ⌜ t ≡ (a or b) ⌝ }
+{
+    if a { true } else { b }
 }
 
 // The bytes of s from `from` on are those of w.
