@@ -3,3 +3,4 @@ pub mod Bytes
 pub mod Moved
 pub mod Or
 pub mod Run
+pub mod Text

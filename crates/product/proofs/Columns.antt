@@ -27,7 +27,7 @@ pub columns : (a₀ a₁ b₀ b₁ q₀ r₀ q r q₁ r₁ : ℕ) → a₀ * b�
     → (a₁ * b₁ + q + q₁) * (B * B) + (r₁ * B + r₀) ≡ (a₁ * B + a₀) * (b₁ * B + b₀)
 columns a₀ a₁ b₀ b₁ q₀ r₀ q r q₁ r₁ e₀ e e₁ = omega arith
 
--- the columns fit a word: v, x, y and z are products of two digits
+-- the columns fit a word: x, y and z are products of two digits
 pub second : (x z : ℕ) → x ≤ largest → z ≤ largest → x + z / B < B * B
 second x z h k = omega arith
 
