@@ -7,8 +7,8 @@ use mathlib.Core.List.{List, [], _∷_, _++_, append-nil}
 use native.Mathlib.Numerals.{add-one}
 use native.Mathlib.Omega.{arith}
 use lib.Dec.{eqb, ltb}
-use lib.ListN.{length, drop, getD, replicate, drop-of-length-le, List·getD-eq-default}
-use lib.Seq.{drop-cons, slice, slice-cons, slice-empty}
+use lib.ListN.{length, take, drop, getD, replicate, length-drop, drop-of-length-le, List·getD-eq-default}
+use lib.Seq.{take-all, drop-cons, slice, slice-cons, slice-empty}
 use borrow.Author.Tests.{ltb-true, ltb-false}
 use Rattle.base.specs.Bytes.{sameBytes}
 
@@ -22,6 +22,10 @@ slice-next s i to h k = rw (add-one, slice-cons i to s 0 h k)
 
 pub slice-none : (s : List ℕ) (i to : ℕ) → i ≤ to → to ≤ i → slice i to s ≡ []
 slice-none s i to h k = let e : i ≡ to = omega arith in rw e (slice-empty to s)
+
+-- from a place on, as many as are left are all
+pub rest-whole : (s : List ℕ) (i : ℕ) → take (length s - i) (drop i s) ≡ drop i s
+rest-whole s i = take-all (length s - i) (drop i s) (omega (arith, length-drop i s))
 
 -- where an element above 0 is read, there is one
 pub inside : (s : List ℕ) (i : ℕ) → 0 < getD s i 0 → i < length s

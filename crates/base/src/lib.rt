@@ -1,8 +1,10 @@
 // What every crate uses: bytes and words read and stored without a fact about indices, and tests joined as values.
 ghost use mathlib.Core.Path.{_≡_};
 ghost use Prim.Native.Nat.{_+_, _≤_};
-ghost use lib.ListN.{length, getD, set, replicate, drop};
+ghost use lib.ListN.{length, getD, set, replicate, take, drop};
+ghost use lib.Seq.{slice};
 ghost use Rattle.base.specs.And.{_and_};
+ghost use Rattle.base.specs.Or.{_or_};
 ghost use Rattle.base.specs.Bytes.{sameBytes};
 ghost use Rattle.base.specs.Moved.{Moved};
 
@@ -18,6 +20,33 @@ pub fn word_at(s: &[u64], i: usize) -> u64
     ensures { λ r. ⌜ r ≡ getD (now (s .entry)) i 0 ⌝ }
 {
     if i < s.len() { s[i] } else { 0 }
+}
+
+// The bytes before a place, or all of them where there are no more.
+pub fn up_to(s: &[u8], to: usize) -> &[u8]
+    ensures { λ r. ⌜ now r ≡ take to (now (s .entry)) ⌝ }
+{
+    if to < s.len() {
+        return &s[..to];
+    }
+    s
+}
+
+// The bytes from a place on, none past the end.
+pub fn from_on(s: &[u8], from: usize) -> &[u8]
+    ensures { λ r. ⌜ now r ≡ drop from (now (s .entry)) ⌝ }
+{
+    if from < s.len() {
+        return &s[from..];
+    }
+    &s[..0]
+}
+
+// The bytes from one place up to another, as far as there are any.
+pub fn part(s: &[u8], from: usize, to: usize) -> &[u8]
+    ensures { λ r. ⌜ now r ≡ slice from to (now (s .entry)) ⌝ }
+{
+    from_on(up_to(s, to), from)
 }
 
 // A byte as a word.
@@ -60,11 +89,18 @@ pub fn move_words(s: &mut [u64], dst: usize, src: usize, n: usize)
     }
 }
 
-// Both tests hold. Each is a plain test of numbers, so both are made and none is skipped.
+// Both tests hold. Each is a plain test of numbers, so both are made.
 pub fn both(a: bool, b: bool) -> bool
     ensures { λ t. ⌜ t ≡ (a and b) ⌝ }
 {
     if a { b } else { false }
+}
+
+// One test at least holds. Both are made.
+pub fn either(a: bool, b: bool) -> bool
+    ensures { λ t. ⌜ t ≡ (a or b) ⌝ }
+{
+    if a { true } else { b }
 }
 
 // The bytes of s from `from` on are those of w.

@@ -1,4 +1,6 @@
--- Sizes of integers, as numbers that `omega` reads, and what a 64-bit signed operation asks and gives, from sizes alone.
+-- Signed numbers by their sizes. A size is a number that `omega` reads, and a size below 2 ^ 63 is all that a 64-bit signed
+-- operation asks; what it gives is the whole number that one expects.
+-- Assumes nothing.
 use Prim.Native.Nat.{ℕ, zero, suc, _+_, _-_, _^_, _≤_, _<_}
 use mathlib.Core.Path.{_≡_, refl, sym, ap, _∙_, subst}
 use mathlib.Core.Bool.{Bool, true, false, cond}
@@ -10,22 +12,23 @@ use lib.Signed.{mag, ltZ, nonNeg}
 use mir.Syntax.{w64}
 use mir.Val.{SFits, toZ, ofZ}
 use mir.Facts.{toZ-ofZ, toZ-pos, sfits-toZ}
-use borrow.Author.Tests.{ltb-true, ltb-false, lt-ltb, le-ltb, ne-eqb, eq-eqb, eqb-true, eqb-false}
+use borrow.Author.Tests.{ltb-true, le-ltb, ne-eqb, eq-eqb, eqb-true}
+use Rattle.base.proofs.Tests.{eqb-agree}
 use Rattle.ints.specs.Ints.{signed, eqZ, isNeg}
 
--- ---- the size of a negation, a sum, a difference
+-- ---- the size of a negation, a sum, a difference, a number with a sign
 
 pub abs-neg : (z : ℤ) → natAbs (negℤ z) ≡ natAbs z
 abs-neg (pos zero) = refl
 abs-neg (pos (suc n)) = refl
 abs-neg (negsuc n) = refl
 
-abs-sub′ : (t : Bool) (a b : ℕ) → ltb a b ≡ t → natAbs (cond t (negsuc (b - suc a)) (pos (a - b))) ≤ a + b
-abs-sub′ true a b e = let h : a < b = ltb-true a b e in omega arith
-abs-sub′ false a b e = omega arith
-
 abs-subℕ : (a b : ℕ) → natAbs (subℕ a b) ≤ a + b
-abs-subℕ a b = abs-sub′ (ltb a b) a b refl
+abs-subℕ a b = by-test (ltb a b) refl
+  where
+    by-test : (t : Bool) → ltb a b ≡ t → natAbs (cond t (negsuc (b - suc a)) (pos (a - b))) ≤ a + b
+    by-test true e = let h : a < b = ltb-true a b e in omega arith
+    by-test false e = omega arith
 
 pub abs-add : (a b : ℤ) → natAbs (a +ℤ b) ≤ natAbs a + natAbs b
 abs-add (pos a) (pos b) = le-refl _
@@ -36,124 +39,31 @@ abs-add (negsuc a) (negsuc b) = omega arith
 pub abs-sub : (a b : ℤ) → natAbs (a -ℤ b) ≤ natAbs a + natAbs b
 abs-sub a b = omega (arith, abs-add a (negℤ b), abs-neg b)
 
-pub mag-abs : (z : ℤ) → mag z ≤ natAbs z
+pub abs-signed : (minus : Bool) (n : ℕ) → natAbs (signed minus n) ≡ n
+unfolding signed
+abs-signed true n = abs-neg (pos n)
+abs-signed false n = refl
+
+-- ---- a size below 2 ^ 63 fits, and what is read back from the bits is what was written
+
+mag-abs : (z : ℤ) → mag z ≤ natAbs z
 mag-abs (pos n) = le-refl _
 mag-abs (negsuc n) = omega arith
-
--- ---- a size below 2 ^ 63 fits
 
 pub fits-of : (z : ℤ) → natAbs z < 2 ^ 63 → SFits w64 z
 fits-of z h = record { sfits = omega (arith, mag-abs z) }
 
--- what is read back from the bits
 pub back : (z : ℤ) → natAbs z < 2 ^ 63 → toZ w64 (ofZ w64 z) ≡ z
 back z h = toZ-ofZ (fits-of z h)
 
 pub pos-bits : (n : ℕ) → n < 2 ^ 63 → toZ w64 n ≡ pos n
 pos-bits n h = toZ-pos w64 h
 
-pub neg-is : (z : ℤ) → pos 0 -ℤ z ≡ negℤ z
-neg-is z = +ℤ-idl (negℤ z)
-
--- ---- what an operation asks, and what it gives, as the needs state them: operands are read back from their bits
-
-pub add-asks : (a b : ℤ) → natAbs a + natAbs b < 2 ^ 63 → SFits w64 (toZ w64 (ofZ w64 a) +ℤ toZ w64 (ofZ w64 b))
-add-asks a b h = rw (back a (omega arith), back b (omega arith)) (fits-of (a +ℤ b) (omega (arith, abs-add a b)))
-
-pub add-gives : (a b : ℤ) → natAbs a + natAbs b < 2 ^ 63 → toZ w64 (ofZ w64 (toZ w64 (ofZ w64 a) +ℤ toZ w64 (ofZ w64 b))) ≡ a +ℤ b
-add-gives a b h = rw (back a (omega arith), back b (omega arith)) (back (a +ℤ b) (omega (arith, abs-add a b)))
-
-pub sub-asks : (a b : ℤ) → natAbs a + natAbs b < 2 ^ 63 → SFits w64 (toZ w64 (ofZ w64 a) -ℤ toZ w64 (ofZ w64 b))
-sub-asks a b h = rw (back a (omega arith), back b (omega arith)) (fits-of (a -ℤ b) (omega (arith, abs-sub a b)))
-
-pub sub-gives : (a b : ℤ) → natAbs a + natAbs b < 2 ^ 63 → toZ w64 (ofZ w64 (toZ w64 (ofZ w64 a) -ℤ toZ w64 (ofZ w64 b))) ≡ a -ℤ b
-sub-gives a b h = rw (back a (omega arith), back b (omega arith)) (back (a -ℤ b) (omega (arith, abs-sub a b)))
-
-pub neg-asks : (a : ℤ) → natAbs a < 2 ^ 63 → SFits w64 (pos 0 -ℤ toZ w64 (ofZ w64 a))
-neg-asks a h = rw (back a h, neg-is a) (fits-of (negℤ a) (omega (arith, abs-neg a)))
-
-pub neg-gives : (a : ℤ) → natAbs a < 2 ^ 63 → toZ w64 (ofZ w64 (pos 0 -ℤ toZ w64 (ofZ w64 a))) ≡ negℤ a
-neg-gives a h = rw (back a h, neg-is a) (back (negℤ a) (omega (arith, abs-neg a)))
-
--- two tests of equality agree where each equation gives the other
-same-test : (t : Bool) (m n k l : ℕ) → eqb k l ≡ t → (m ≡ n → k ≡ l) → (k ≡ l → m ≡ n) → eqb m n ≡ t
-same-test true m n k l e f g = eq-eqb m n (g (eqb-true k l e))
-same-test false m n k l e f g = ne-eqb m n (λ q. eqb-false k l e (f q))
-
-pub eqb-agree : (m n k l : ℕ) → (m ≡ n → k ≡ l) → (k ≡ l → m ≡ n) → eqb m n ≡ eqb k l
-eqb-agree m n k l f g = same-test (eqb k l) m n k l refl f g
-
-not-lt : (m n : ℕ) → (m < n → ⊥) → n ≤ m
-not-lt m n h = omega arith
-
-less-test : (t : Bool) (m n k l : ℕ) → ltb k l ≡ t → (m < n → k < l) → (k < l → m < n) → ltb m n ≡ t
-less-test true m n k l e f g = lt-ltb m n (g (ltb-true k l e))
-less-test false m n k l e f g = let h = ltb-false k l e in le-ltb m n (not-lt m n (λ (q : m < n). let z = f q in omega arith))
-
-pub ltb-agree : (m n k l : ℕ) → (m < n → k < l) → (k < l → m < n) → ltb m n ≡ ltb k l
-ltb-agree m n k l f g = less-test (ltb k l) m n k l refl f g
-
--- equal bits are equal numbers
-pub eqZ-bits : (a b : ℤ) → SFits w64 a → SFits w64 b → eqb (ofZ w64 a) (ofZ w64 b) ≡ eqZ a b
-eqZ-bits (pos a) (pos b) p q = refl
-eqZ-bits (pos a) (negsuc b) p q = let hp : a < 2 ^ 63 = p .sfits in let hq : b < 2 ^ 63 = q .sfits in
-    ne-eqb _ _ (λ (e : a ≡ 2 ^ 64 - suc b). omega arith)
-eqZ-bits (negsuc a) (pos b) p q = let hp : a < 2 ^ 63 = p .sfits in let hq : b < 2 ^ 63 = q .sfits in
-    ne-eqb _ _ (λ (e : 2 ^ 64 - suc a ≡ b). omega arith)
-eqZ-bits (negsuc a) (negsuc b) p q = let hp : a < 2 ^ 63 = p .sfits in let hq : b < 2 ^ 63 = q .sfits in
-    eqb-agree (2 ^ 64 - suc a) (2 ^ 64 - suc b) a b (λ e. omega arith) (λ e. omega arith)
-
--- ---- the order and equality that eqZ and ltZ decide
-
-pub eqZ-true : (a b : ℤ) → eqZ a b ≡ true → a ≡ b
-eqZ-true (pos a) (pos b) e = ap pos (eqb-true a b e)
-eqZ-true (pos a) (negsuc b) e = cc
-eqZ-true (negsuc a) (pos b) e = cc
-eqZ-true (negsuc a) (negsuc b) e = ap negsuc (eqb-true a b e)
-
-eqZ-refl : (a : ℤ) → eqZ a a ≡ true
-eqZ-refl (pos a) = eq-eqb a a refl
-eqZ-refl (negsuc a) = eq-eqb a a refl
-
-pub eqZ-false : (a b : ℤ) → eqZ a b ≡ false → a ≡ b → ⊥
-eqZ-false a b e q = let r : eqZ a b ≡ true = rw q (eqZ-refl b) in let z : _≡_ {A = ℕ} 0 1 = cc in omega arith
-
--- a call's result r that is known to be z, read back from its bits: z
+-- a call's result r that is known to be z, read back from its bits
 pub back-of : (r z : ℤ) → r ≡ z → natAbs z < 2 ^ 63 → toZ w64 (ofZ w64 r) ≡ z
 back-of r z e h = rw e (back z h)
 
--- ---- the sign of a number, as a test finds it
-
-pub is-neg : (z : ℤ) → natAbs z < 2 ^ 63 → ltZ (toZ w64 (ofZ w64 z)) (pos 0) ≡ isNeg z
-is-neg z h = rw (back z h) (is-neg′ z)
-  where
-    is-neg′ : (z : ℤ) → ltZ z (pos 0) ≡ isNeg z
-    is-neg′ (pos n) = le-ltb n 0 (omega arith)
-    is-neg′ (negsuc n) = refl
-
--- a negation of a negative number is not negative, and so is a number that is not negative
-pub neg-nonNeg : (z : ℤ) → isNeg z ≡ true → T (nonNeg (negℤ z))
-neg-nonNeg (pos n) e = absurd (subst T (sym e) tt)
-neg-nonNeg (negsuc n) e = tt
-
-pub pos-nonNeg : (z : ℤ) → isNeg z ≡ false → T (nonNeg z)
-pos-nonNeg (pos n) e = tt
-pos-nonNeg (negsuc n) e = absurd (subst T e tt)
-
--- the word of a number with a sign: 2 ^ 64 less the size
-pub neg-word : (z : ℤ) → isNeg z ≡ true → natAbs z < 2 ^ 63 → (0 < natAbs z) × (18446744073709551615 - (natAbs z - 1) ≡ ofZ w64 z)
-neg-word (pos n) e h = absurd (subst T (sym e) tt)
-neg-word (negsuc n) e h = (omega arith, omega arith)
-
-pub pos-word : (z : ℤ) → isNeg z ≡ false → natAbs z ≡ ofZ w64 z
-pos-word (pos n) e = refl
-pos-word (negsuc n) e = absurd (subst T e tt)
-
-pub minus-one : (v : ℕ) → negℤ (pos v) -ℤ pos 1 ≡ negsuc v
-minus-one zero = refl
-minus-one (suc v) = -ℤ-one (negsuc v)
-
--- what a word says, read back
+-- a call's result r that is known to be what the word n says, read back from its bits
 pub word-back : (r : ℤ) (n : ℕ) → r ≡ toZ w64 n → n < 2 ^ 64 → toZ w64 (ofZ w64 r) ≡ toZ w64 n
 word-back r n e h = rw e (toZ-ofZ (sfits-toZ {w = w64} (record { fits = h })))
 
@@ -164,9 +74,116 @@ small z h = rw (back z h) h
 pub size-of : (r : ℕ) (z : ℤ) → natAbs z < 2 ^ 63 → r ≡ natAbs (toZ w64 (ofZ w64 z)) → r ≡ natAbs z
 size-of r z h e = e ∙ ap natAbs (back z h)
 
--- a sum or a difference that is passed on
-pub add-small : (a b : ℤ) → natAbs a + natAbs b < 2 ^ 63 → natAbs (toZ w64 (ofZ w64 (toZ w64 (ofZ w64 a) +ℤ toZ w64 (ofZ w64 b)))) < 2 ^ 63
-add-small a b h = rw (add-gives a b h) (omega (arith, abs-add a b))
+-- ---- what an operation asks, and what it gives, as the needs state them: operands are read back from their bits
 
-pub sub-small : (a b : ℤ) → natAbs a + natAbs b < 2 ^ 63 → natAbs (toZ w64 (ofZ w64 (toZ w64 (ofZ w64 a) -ℤ toZ w64 (ofZ w64 b)))) < 2 ^ 63
-sub-small a b h = rw (sub-gives a b h) (omega (arith, abs-sub a b))
+module _ (a b : ℤ) (h : natAbs a + natAbs b < 2 ^ 63) where
+  pub add-asks : SFits w64 (toZ w64 (ofZ w64 a) +ℤ toZ w64 (ofZ w64 b))
+  add-asks = rw (back a (omega arith), back b (omega arith)) (fits-of (a +ℤ b) (omega (arith, abs-add a b)))
+
+  pub add-gives : toZ w64 (ofZ w64 (toZ w64 (ofZ w64 a) +ℤ toZ w64 (ofZ w64 b))) ≡ a +ℤ b
+  add-gives = rw (back a (omega arith), back b (omega arith)) (back (a +ℤ b) (omega (arith, abs-add a b)))
+
+  -- a sum that is passed on
+  pub add-small : natAbs (toZ w64 (ofZ w64 (toZ w64 (ofZ w64 a) +ℤ toZ w64 (ofZ w64 b)))) < 2 ^ 63
+  add-small = rw add-gives (omega (arith, abs-add a b))
+
+  pub sub-asks : SFits w64 (toZ w64 (ofZ w64 a) -ℤ toZ w64 (ofZ w64 b))
+  sub-asks = rw (back a (omega arith), back b (omega arith)) (fits-of (a -ℤ b) (omega (arith, abs-sub a b)))
+
+  pub sub-gives : toZ w64 (ofZ w64 (toZ w64 (ofZ w64 a) -ℤ toZ w64 (ofZ w64 b))) ≡ a -ℤ b
+  sub-gives = rw (back a (omega arith), back b (omega arith)) (back (a -ℤ b) (omega (arith, abs-sub a b)))
+
+  -- a difference that is passed on
+  pub sub-small : natAbs (toZ w64 (ofZ w64 (toZ w64 (ofZ w64 a) -ℤ toZ w64 (ofZ w64 b)))) < 2 ^ 63
+  sub-small = rw sub-gives (omega (arith, abs-sub a b))
+
+-- a number taken from zero
+module _ (a : ℤ) (h : natAbs a < 2 ^ 63) where
+  pub neg-asks : SFits w64 (pos 0 -ℤ toZ w64 (ofZ w64 a))
+  neg-asks = rw (back a h, +ℤ-idl (negℤ a)) (fits-of (negℤ a) (omega (arith, abs-neg a)))
+
+  pub neg-gives : toZ w64 (ofZ w64 (pos 0 -ℤ toZ w64 (ofZ w64 a))) ≡ negℤ a
+  neg-gives = rw (back a h, +ℤ-idl (negℤ a)) (back (negℤ a) (omega (arith, abs-neg a)))
+
+-- ---- the equality that eqZ decides
+
+-- equal bits are equal numbers
+pub eqZ-bits : (a b : ℤ) → SFits w64 a → SFits w64 b → eqb (ofZ w64 a) (ofZ w64 b) ≡ eqZ a b
+unfolding eqZ
+eqZ-bits (pos a) (pos b) p q = refl
+eqZ-bits (pos a) (negsuc b) p q = let hp : a < 2 ^ 63 = p .sfits in let hq : b < 2 ^ 63 = q .sfits in
+    ne-eqb _ _ (λ (e : a ≡ 2 ^ 64 - suc b). omega arith)
+eqZ-bits (negsuc a) (pos b) p q = let hp : a < 2 ^ 63 = p .sfits in let hq : b < 2 ^ 63 = q .sfits in
+    ne-eqb _ _ (λ (e : 2 ^ 64 - suc a ≡ b). omega arith)
+eqZ-bits (negsuc a) (negsuc b) p q = let hp : a < 2 ^ 63 = p .sfits in let hq : b < 2 ^ 63 = q .sfits in
+    eqb-agree (2 ^ 64 - suc a) (2 ^ 64 - suc b) a b (λ e. omega arith) (λ e. omega arith)
+
+pub eqZ-true : (a b : ℤ) → eqZ a b ≡ true → a ≡ b
+unfolding eqZ
+eqZ-true (pos a) (pos b) e = ap pos (eqb-true a b e)
+eqZ-true (pos a) (negsuc b) e = cc
+eqZ-true (negsuc a) (pos b) e = cc
+eqZ-true (negsuc a) (negsuc b) e = ap negsuc (eqb-true a b e)
+
+pub eqZ-refl : (a : ℤ) → eqZ a a ≡ true
+unfolding eqZ
+eqZ-refl (pos a) = eq-eqb a a refl
+eqZ-refl (negsuc a) = eq-eqb a a refl
+
+pub eqZ-false : (a b : ℤ) → eqZ a b ≡ false → a ≡ b → ⊥
+eqZ-false a b e q = let r : eqZ a b ≡ true = rw q (eqZ-refl b) in let z : _≡_ {A = ℕ} 0 1 = cc in omega arith
+
+-- ---- the sign of a number, as a test finds it
+
+-- a test against zero, of the number read back from its bits
+pub is-neg : (z : ℤ) → SFits w64 z → ltZ (toZ w64 (ofZ w64 z)) (pos 0) ≡ isNeg z
+unfolding isNeg
+is-neg z f = rw (toZ-ofZ f) (by-sign z)
+  where
+    by-sign : (z : ℤ) → ltZ z (pos 0) ≡ isNeg z
+    by-sign (pos n) = le-ltb n 0 (omega arith)
+    by-sign (negsuc n) = refl
+
+-- any other number is its size, and its own word
+pub pos-nonNeg : (z : ℤ) → isNeg z ≡ false → T (nonNeg z)
+unfolding isNeg
+pos-nonNeg (pos n) e = tt
+pos-nonNeg (negsuc n) e = absurd (subst T e tt)
+
+pub pos-word : (z : ℤ) → isNeg z ≡ false → natAbs z ≡ ofZ w64 z
+unfolding isNeg
+pos-word (pos n) e = refl
+pos-word (negsuc n) e = absurd (subst T e tt)
+
+-- ---- two's complement
+
+-- a negative number is some n below -1
+pub negative-is : (z : ℤ) → isNeg z ≡ true → z ≡ negsuc (natAbs z - 1)
+unfolding isNeg
+negative-is (pos n) e = absurd (subst T (sym e) tt)
+negative-is (negsuc n) e = ap negsuc (omega arith)
+
+-- -1 less z is n, where z is n below -1
+module _ (z : ℤ) (n : ℕ) (q : z ≡ negsuc n) (f : SFits w64 z) where
+  pub below-fits : n < 2 ^ 63
+  below-fits = subst (λ (x : ℤ). mag x < 2 ^ 63) q (f .sfits)
+
+  below-is : negsuc 0 -ℤ toZ w64 (ofZ w64 z) ≡ pos n
+  below-is = rw (toZ-ofZ f, q) (simp (le-ltb (suc n) 1 (omega arith)) (ap pos (omega arith)))
+
+  pub below-asks : SFits w64 (negsuc 0 -ℤ toZ w64 (ofZ w64 z))
+  below-asks = rw below-is (record { sfits = below-fits })
+
+  pub below-gives : toZ w64 (ofZ w64 (negsuc 0 -ℤ toZ w64 (ofZ w64 z))) ≡ pos n
+  below-gives = rw below-is (pos-bits n below-fits)
+
+  pub below-size : n + 1 ≡ natAbs z
+  below-size = rw q (omega arith)
+
+  pub below-word : 18446744073709551615 - n ≡ ofZ w64 z
+  below-word = let h = below-fits in rw q (omega arith)
+
+-- one less than -v
+pub minus-one : (v : ℕ) → negℤ (pos v) -ℤ pos 1 ≡ negsuc v
+minus-one zero = refl
+minus-one (suc v) = -ℤ-one (negsuc v)

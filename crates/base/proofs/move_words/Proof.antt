@@ -1,3 +1,4 @@
+-- `base::move_words` meets its contract: after j turns j words are moved, and one turn moves one more.
 use Rattle.base.specs.Moved.{Moved}
 use Rattle.base.proofs.Moved.{moved-none, moved-more}
 use native.Mathlib.Omega.{arith}

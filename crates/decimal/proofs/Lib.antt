@@ -1,0 +1,4 @@
+pub mod Millionths
+pub mod Point
+pub mod Sizes
+pub mod Ways

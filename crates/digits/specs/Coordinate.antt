@@ -1,0 +1,28 @@
+-- 01, Form: "A coordinate has an optional sign and 1 to n+6 digits as written (12 before FS)". Its digits are counted as
+-- written, the sign not (decision 41), and no digit, or anything but digits, is not its form (decision 29).
+use Prim.Native.Nat.{ℕ}
+use mathlib.Core.Bool.{Bool, cond}
+use mathlib.Core.List.{List}
+use lib.Dec.{leb}
+use lib.ListN.{length}
+use Rattle.ints.specs.Ints.{signed}
+use Rattle.digits.specs.Digits.{isNumber, valueOf}
+use Rattle.digits.specs.Sign.{hasMinus, afterSign}
+use Rattle.digits.specs.declared.answers.Coordinate.{Coordinate}
+use Rattle.digits.specs.declared.answers.Coordinate.the-variants.{NotForm, TooLong, Value}
+
+-- what stands behind the sign
+unfoldable pub wholeOf : Bool → List ℕ → ℕ → Coordinate
+wholeOf minus s limit =
+    cond (isNumber s)
+    (cond (leb (length s) limit) (Value (signed minus (valueOf s))) TooLong)
+    NotForm
+
+unfoldable pub coordinateOf : List ℕ → ℕ → Coordinate
+coordinateOf s limit = wholeOf (hasMinus s) (afterSign s) limit
+
+-- document 01's number of each case
+unfoldable pub coordinateRefusal : Coordinate → ℕ
+coordinateRefusal NotForm = 4
+coordinateRefusal TooLong = 5
+coordinateRefusal (Value z) = 0

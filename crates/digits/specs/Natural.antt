@@ -1,0 +1,22 @@
+-- Numbers of digits alone: SR's n, the number of an aperture, `$n` (01, Form and Macros). Any number of digits may be written
+-- (decisions 24, 37, 44, 63), so the answer says where the value is 10 ^ 12 or more, which is past every bound of 01.
+use Prim.Native.Nat.{ℕ, _^_}
+use mathlib.Core.Bool.{cond}
+use mathlib.Core.List.{List}
+use lib.Dec.{leb}
+use Rattle.digits.specs.Digits.{isNumber, valueOf}
+use Rattle.digits.specs.declared.answers.Natural.{Natural}
+use Rattle.digits.specs.declared.answers.Natural.the-variants.{NotForm, TooLarge, Value}
+
+unfoldable pub naturalOf : List ℕ → Natural
+naturalOf s =
+    cond (isNumber s)
+    (cond (leb (10 ^ 12) (valueOf s)) TooLarge (Value (valueOf s)))
+    NotForm
+
+-- document 01's number of each case: a number out of its bounds is 5, but 10 for SR's n (decision 44) and for a primitive's
+-- code (decision 63), so its user says which
+unfoldable pub naturalRefusal : ℕ → Natural → ℕ
+naturalRefusal tooLarge NotForm = 4
+naturalRefusal tooLarge TooLarge = tooLarge
+naturalRefusal tooLarge (Value n) = 0
