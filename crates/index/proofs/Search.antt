@@ -1,0 +1,202 @@
+-- The laws of a search: where it stands, what it finds, and that a record linked at its end is found from then on.
+-- Assumes nothing.
+use Prim.Native.Nat.{ℕ, zero, suc, _+_, _*_, _-_, _/_, _%_, _≤_, _<_}
+use mathlib.Core.Path.{_≡_, refl, sym, ap, _∙_}
+use mathlib.Core.Bool.{Bool, true, false, cond}
+use mathlib.Core.List.{List}
+use mathlib.Core.Logic.{⊎-elim}
+use native.Mathlib.Nat.{not-suc-le-zero, eq-or-lt-of-le}
+use native.Mathlib.Omega.{arith}
+use lib.Dec.{eqb}
+use lib.ListN.{length, getD, set, length-set}
+use lib.Seq.{getD-set-same, getD-set-other}
+use borrow.Author.Tests.{eqb-true, eqb-false, eq-eqb, ne-eqb}
+use Rattle.index.specs.declared.Found.{Found}
+use Rattle.index.specs.declared.Found.the-variants.{At, Missing}
+use Rattle.index.specs.Found.{firstOf}
+use Rattle.index.specs.Tree.{isHigh, bitsAbove, linkOf, next, lastLink, linked}
+use Rattle.index.specs.Indexed.{Leads, here, on, Indexed}
+
+-- what a test picks, where only one record is picked, and where none is
+module _ (is : ℕ → Bool) where
+  pub first-none : (i n : ℕ) → ((j : ℕ) → i ≤ j → j < i + n → is j ≡ true → ⊥) → firstOf is i n ≡ Missing
+  unfolding firstOf
+  first-none i zero none = refl
+  first-none i (suc n) none = go (is i) refl (first-none (suc i) n (λ j l h. none j (omega arith) (omega arith)))
+    where
+      go : (t : Bool) → is i ≡ t → firstOf is (suc i) n ≡ Missing → elim t [ true ↦ At i | false ↦ firstOf is (suc i) n ] ≡ Missing
+      go true e rest = absurd (none i (omega arith) (omega arith) e)
+      go false e rest = rest
+
+  pub first-at : (i n j : ℕ) → i ≤ j → j < i + n → is j ≡ true → ((m : ℕ) → m < i + n → is m ≡ true → m ≡ j) → firstOf is i n ≡ At j
+  unfolding firstOf
+  first-at i zero j l h e one = absurd (omega arith)
+  first-at i (suc n) j l h e one = go (is i) refl (λ k. first-at (suc i) n j k (omega arith) e (λ m g. one m (omega arith)))
+    where
+      go : (t : Bool) → is i ≡ t → (i < j → firstOf is (suc i) n ≡ At j) → elim t [ true ↦ At i | false ↦ firstOf is (suc i) n ] ≡ At j
+      go true f rest = ap At (one i (omega arith) f)
+      go false f rest = ⊎-elim
+        (λ (q : i ≡ j). let z : true ≡ false = sym e ∙ ap is (sym q) ∙ f in absurd (let w : _≡_ {A = ℕ} 0 1 = cc in omega arith))
+        rest
+        (eq-or-lt-of-le l)
+
+-- the search stands at record `at`: from there it comes to each record that the test picks
+pub record Seeking (s : List ℕ) (is : ℕ → Bool) (used key at : ℕ) : Type 0 where
+  pub standing : at < used
+  pub comes : (j : ℕ) → j < used → is j ≡ true → Leads s key at j
+
+-- a step of a search, to a record known by another name
+leads-by : (s : List ℕ) (key i n j : ℕ) → next s i key ≡ n → 0 < n → Leads s (bitsAbove key) n j → Leads s key i j
+leads-by s key i n j e h l =
+    let p : 0 < next s i key = rw e h in
+    let q : Leads s (bitsAbove key) (next s i key) j = rw e l in
+    on {key = key} {i = i} {j = j} p q
+
+-- where the search leads on from a record that the test does not pick
+leads-on : {s : List ℕ} {key i j : ℕ} (is : ℕ → Bool) → is i ≡ false → is j ≡ true → Leads s key i j → (0 < next s i key) × Leads s (bitsAbove key) (next s i key) j
+leads-on is f e here = absurd (let w : _≡_ {A = ℕ} 0 1 = cc in omega arith)
+leads-on is f e (on h l) = (h, l)
+
+module _ {s : List ℕ} {keyOf : ℕ → ℕ} {used : ℕ} (t : Indexed s keyOf used) where
+  -- a search for a key begins at record 0
+  pub seek-start : (is : ℕ → Bool) (key : ℕ) → 0 < used → ((j : ℕ) → is j ≡ true → keyOf j ≡ key) → Seeking s is used key 0
+  seek-start is key l same = record { standing = l; comes = λ j h e. rw (same j e) at (t .found j h) }
+
+  module _ {is : ℕ → Bool} {key at : ℕ} (k : Seeking s is used key at) (f : is at ≡ false) where
+    pub seek-on : 0 < next s at key → Seeking s is used (bitsAbove key) (next s at key)
+    seek-on h = record {
+      standing = t .later at key (k .standing) h .1;
+      comes = λ j l e. leads-on is f e (k .comes j l e) .1 }
+
+    -- a search that leads nowhere finds nothing
+    pub seek-none : next s at key ≡ 0 → firstOf is 0 used ≡ Missing
+    seek-none z = first-none is 0 used (λ j l h e. let w = leads-on is f e (k .comes j (omega arith) e) .0 in omega arith)
+
+  -- steps enough for the records that are left are enough
+  pub last-enough : (n m i key : ℕ) → i < used → used ≤ i + n → used ≤ i + m → lastLink s n i key ≡ lastLink s m i key
+  unfolding lastLink
+  last-enough zero m i key l h k = absurd (omega arith)
+  last-enough (suc n) zero i key l h k = absurd (omega arith)
+  last-enough (suc n) (suc m) i key l h k =
+      go (eqb (next s i key) 0) refl
+      (λ p. let w = t .later i key l p in last-enough n m (next s i key) (bitsAbove key) (w .1) (omega arith) (omega arith))
+    where
+      go : (b : Bool) → eqb (next s i key) 0 ≡ b → (0 < next s i key → lastLink s n (next s i key) (bitsAbove key) ≡ lastLink s m (next s i key) (bitsAbove key)) →
+        _≡_ {A = ℕ} (elim b [ true ↦ linkOf i key | false ↦ lastLink s n (next s i key) (bitsAbove key) ])
+        (elim b [ true ↦ linkOf i key | false ↦ lastLink s m (next s i key) (bitsAbove key) ])
+      go true e rest = refl
+      go false e rest = rest (let q = eqb-false (next s i key) 0 e in omega arith)
+
+-- ---- a record more
+
+-- a list with the link w, which led nowhere, leading to record `new`
+module _ (s : List ℕ) (w new : ℕ) (free : getD s w 0 ≡ 0) where
+  -- what led on before does so still
+  pub next-kept : (i key : ℕ) → 0 < next s i key → next (set s w new) i key ≡ next s i key
+  next-kept i key h = getD-set-other s w (linkOf i key) new 0 (λ (q : linkOf i key ≡ w). let z : next s i key ≡ 0 = ap (λ x. getD s x 0) q ∙ free in omega arith)
+
+  pub leads-kept : {key i j : ℕ} → Leads s key i j → Leads (set s w new) key i j
+  leads-kept here = here
+  leads-kept {key} {i} {j} (on h l) =
+    leads-by (set s w new) key i (next s i key) j (next-kept i key h) h (leads-kept l)
+
+-- the search for a key comes to the record that is linked where it ended
+module _ {s : List ℕ} {keyOf : ℕ → ℕ} {used : ℕ} (t : Indexed s keyOf used) (new : ℕ) (some : 0 < new) where
+  pub last-free : (n i key : ℕ) → i < used → used ≤ i + n → getD s (lastLink s n i key) 0 ≡ 0
+  unfolding lastLink
+  last-free zero i key l h = absurd (omega arith)
+  last-free (suc n) i key l h =
+      go (eqb (next s i key) 0) refl
+      (λ p. let v = t .later i key l p in last-free n (next s i key) (bitsAbove key) (v .1) (omega arith))
+    where
+      go : (b : Bool) → eqb (next s i key) 0 ≡ b → (0 < next s i key → getD s (lastLink s n (next s i key) (bitsAbove key)) 0 ≡ 0) →
+        getD s (elim b [ true ↦ linkOf i key | false ↦ lastLink s n (next s i key) (bitsAbove key) ]) 0 ≡ 0
+      go true e rest = eqb-true (next s i key) 0 e
+      go false e rest = rest (let q = eqb-false (next s i key) 0 e in omega arith)
+
+  pub last-inside : (n i key : ℕ) → i < used → used ≤ i + n → lastLink s n i key < length s
+  unfolding lastLink linkOf
+  last-inside zero i key l h = absurd (omega arith)
+  last-inside (suc n) i key l h =
+      go (eqb (next s i key) 0) refl
+      (λ p. let v = t .later i key l p in last-inside n (next s i key) (bitsAbove key) (v .1) (omega arith))
+    where
+      word : (a : Bool) → i * 8 + cond a 7 6 < length s
+      word true = omega (arith, t .inside)
+      word false = omega (arith, t .inside)
+
+      go : (b : Bool) → eqb (next s i key) 0 ≡ b → (0 < next s i key → lastLink s n (next s i key) (bitsAbove key) < length s) →
+        (elim b [ true ↦ linkOf i key | false ↦ lastLink s n (next s i key) (bitsAbove key) ]) < length s
+      go true e rest = word (isHigh key)
+      go false e rest = rest (let q = eqb-false (next s i key) 0 e in omega arith)
+
+  -- from record i on, the search comes to the new record
+  pub leads-new : (n i key : ℕ) → i < used → used ≤ i + n → (w : ℕ) → w ≡ lastLink s n i key → Leads (set s w new) key i new
+  unfolding lastLink
+  leads-new zero i key l h w q = absurd (omega arith)
+  leads-new (suc n) i key l h w q =
+      go (eqb (next s i key) 0) refl q
+      (λ p. let v = t .later i key l p in leads-new n (next s i key) (bitsAbove key) (v .1) (omega arith) w)
+    where
+      inside : w < length s
+      inside = rw q (last-inside (suc n) i key l h)
+
+      free : getD s w 0 ≡ 0
+      free = rw q (last-free (suc n) i key l h)
+
+      go : (b : Bool) → eqb (next s i key) 0 ≡ b → w ≡ elim b [ true ↦ linkOf i key | false ↦ lastLink s n (next s i key) (bitsAbove key) ] →
+        (0 < next s i key → w ≡ lastLink s n (next s i key) (bitsAbove key) → Leads (set s w new) (bitsAbove key) (next s i key) new) → Leads (set s w new) key i new
+      go true e q rest =
+        let f : next (set s w new) i key ≡ new = ap (λ x. getD (set s w new) x 0) (sym q) ∙ getD-set-same s w new 0 inside in
+        leads-by (set s w new) key i new new f some here
+      go false e q rest =
+        let p : 0 < next s i key = let z = eqb-false (next s i key) 0 e in omega arith in
+        let f : next (set s w new) i key ≡ next s i key = next-kept s w new free i key p in
+        leads-by (set s w new) key i (next s i key) new f p (rest p q)
+
+
+-- one step of the search for the last link
+module _ (s : List ℕ) (n i key : ℕ) where
+  last-on : 0 < next s i key → lastLink s (suc n) i key ≡ lastLink s n (next s i key) (bitsAbove key)
+  unfolding lastLink
+  last-on h = rw (ne-eqb (next s i key) 0 (λ (z : next s i key ≡ 0). omega arith), lastLink)
+
+  last-stop : next s i key ≡ 0 → lastLink s (suc n) i key ≡ linkOf i key
+  unfolding lastLink
+  last-stop z = rw (eq-eqb (next s i key) 0 z, lastLink)
+
+-- a search for its last link stands at record `at`
+pub record Ending (s : List ℕ) (used first key at link to : ℕ) : Type 0 where
+  pub standing : at < used
+  pub same : lastLink s used at key ≡ lastLink s used 0 first
+  pub here-link : link ≡ linkOf at key
+  pub leads : to ≡ next s at key
+
+module _ {s : List ℕ} {keyOf : ℕ → ℕ} {used : ℕ} (t : Indexed s keyOf used) {first key at link to : ℕ} (k : Ending s used first key at link to) where
+  pub ending-on : 0 < to → (at < to) × (to < used)
+  ending-on h = rw (← k .leads) at (t .later at key (k .standing) (rw (← k .leads) h))
+
+  pub ending-same : 0 < to → lastLink s used to (bitsAbove key) ≡ lastLink s used 0 first
+  ending-same h =
+    let w = ending-on h in
+    let e : used ≡ suc (used - 1) = omega arith in
+    let f : lastLink s (suc (used - 1)) at key ≡ lastLink s (used - 1) to (bitsAbove key) =
+      rw (k .leads) (last-on s (used - 1) at key (rw (← k .leads) h)) in
+    last-enough t used (used - 1) to (bitsAbove key) (w .1) (omega arith) (omega arith) ∙ sym (rw (← e) at f) ∙ k .same
+
+  pub ending-stop : to ≡ 0 → link ≡ lastLink s used 0 first
+  ending-stop z =
+    let l = k .standing in
+    let e : used ≡ suc (used - 1) = omega arith in
+    k .here-link ∙ sym (last-stop s (used - 1) at key (sym (k .leads) ∙ z)) ∙ rw (← e) (k .same)
+
+-- a record is linked where the search ended; the first is not
+pub linked-some : (s : List ℕ) (new key : ℕ) → (new ≡ 0 → ⊥) → linked s new key ≡ set s (lastLink s new 0 key) new
+unfolding linked
+linked-some s zero key h = absurd (h refl)
+linked-some s (suc m) key h = refl
+
+pub linked-first : (s : List ℕ) (new key : ℕ) → new ≡ 0 → linked s new key ≡ s
+unfolding linked
+linked-first s zero key h = refl
+linked-first s (suc m) key h = absurd (omega arith)
