@@ -1,17 +1,16 @@
 -- The laws of a search: where it stands, what it finds, and that a record linked at its end is found from then on.
 -- Assumes nothing.
-use Prim.Native.Nat.{ℕ, zero, suc, _+_, _*_, _-_, _/_, _%_, _≤_, _<_}
+use Prim.Native.Nat.{ℕ, zero, suc, _+_, _*_, _-_, _≤_, _<_}
 use mathlib.Core.Path.{_≡_, refl, sym, ap, _∙_}
 use mathlib.Core.Bool.{Bool, true, false, cond}
 use mathlib.Core.List.{List}
 use mathlib.Core.Logic.{⊎-elim}
-use native.Mathlib.Nat.{not-suc-le-zero, eq-or-lt-of-le}
+use native.Mathlib.Nat.{eq-or-lt-of-le}
 use native.Mathlib.Omega.{arith}
 use lib.Dec.{eqb}
-use lib.ListN.{length, getD, set, length-set}
+use lib.ListN.{length, getD, set}
 use lib.Seq.{getD-set-same, getD-set-other}
 use borrow.Author.Tests.{eqb-true, eqb-false, eq-eqb, ne-eqb}
-use Rattle.index.specs.declared.Found.{Found}
 use Rattle.index.specs.declared.Found.the-variants.{At, Missing}
 use Rattle.index.specs.Found.{firstOf}
 use Rattle.index.specs.Tree.{isHigh, bitsAbove, linkOf, next, lastLink, linked}
@@ -36,9 +35,9 @@ module _ (is : ℕ → Bool) where
       go : (t : Bool) → is i ≡ t → (i < j → firstOf is (suc i) n ≡ At j) → elim t [ true ↦ At i | false ↦ firstOf is (suc i) n ] ≡ At j
       go true f rest = ap At (one i (omega arith) f)
       go false f rest = ⊎-elim
-        (λ (q : i ≡ j). let z : true ≡ false = sym e ∙ ap is (sym q) ∙ f in absurd (let w : _≡_ {A = ℕ} 0 1 = cc in omega arith))
-        rest
-        (eq-or-lt-of-le l)
+          (λ (q : i ≡ j). let z : true ≡ false = sym e ∙ ap is (sym q) ∙ f in absurd (let w : _≡_ {A = ℕ} 0 1 = cc in omega arith))
+          rest
+          (eq-or-lt-of-le l)
 
 -- the search stands at record `at`: from there it comes to each record that the test picks
 pub record Seeking (s : List ℕ) (is : ℕ → Bool) (used key at : ℕ) : Type 0 where
@@ -66,7 +65,8 @@ module _ {s : List ℕ} {keyOf : ℕ → ℕ} {used : ℕ} (t : Indexed s keyOf 
     pub seek-on : 0 < next s at key → Seeking s is used (bitsAbove key) (next s at key)
     seek-on h = record {
       standing = t .later at key (k .standing) h .1;
-      comes = λ j l e. leads-on is f e (k .comes j l e) .1 }
+      comes = λ j l e. leads-on is f e (k .comes j l e) .1;
+    }
 
     -- a search that leads nowhere finds nothing
     pub seek-none : next s at key ≡ 0 → firstOf is 0 used ≡ Missing
@@ -82,8 +82,8 @@ module _ {s : List ℕ} {keyOf : ℕ → ℕ} {used : ℕ} (t : Indexed s keyOf 
       (λ p. let w = t .later i key l p in last-enough n m (next s i key) (bitsAbove key) (w .1) (omega arith) (omega arith))
     where
       go : (b : Bool) → eqb (next s i key) 0 ≡ b → (0 < next s i key → lastLink s n (next s i key) (bitsAbove key) ≡ lastLink s m (next s i key) (bitsAbove key)) →
-        _≡_ {A = ℕ} (elim b [ true ↦ linkOf i key | false ↦ lastLink s n (next s i key) (bitsAbove key) ])
-        (elim b [ true ↦ linkOf i key | false ↦ lastLink s m (next s i key) (bitsAbove key) ])
+          _≡_ {A = ℕ} (elim b [ true ↦ linkOf i key | false ↦ lastLink s n (next s i key) (bitsAbove key) ])
+          (elim b [ true ↦ linkOf i key | false ↦ lastLink s m (next s i key) (bitsAbove key) ])
       go true e rest = refl
       go false e rest = rest (let q = eqb-false (next s i key) 0 e in omega arith)
 
@@ -98,7 +98,29 @@ module _ (s : List ℕ) (w new : ℕ) (free : getD s w 0 ≡ 0) where
   pub leads-kept : {key i j : ℕ} → Leads s key i j → Leads (set s w new) key i j
   leads-kept here = here
   leads-kept {key} {i} {j} (on h l) =
-    leads-by (set s w new) key i (next s i key) j (next-kept i key h) h (leads-kept l)
+      leads-by (set s w new) key i (next s i key) j (next-kept i key h) h (leads-kept l)
+
+-- a word that is a link of one of the records in use
+pub record LinkBelow (used w : ℕ) : Type 0 where
+  pub of : ℕ
+  pub for : ℕ
+  pub is : w ≡ linkOf of for
+  pub low : of < used
+
+pub link-words : (i key : ℕ) → (i * 8 + 6 ≤ linkOf i key) × (linkOf i key ≤ i * 8 + 7)
+unfolding linkOf
+link-words i key = go (isHigh key)
+  where
+    go : (b : Bool) → (i * 8 + 6 ≤ i * 8 + cond b 7 6) × (i * 8 + cond b 7 6 ≤ i * 8 + 7)
+    go true = (omega arith, omega arith)
+    go false = (omega arith, omega arith)
+
+pub link-place : {used w : ℕ} → LinkBelow used w → w < used * 8
+link-place k = let p = link-words (k .of) (k .for) in let q = k .is in let l = k .low in omega arith
+
+-- it is the first word of no record
+pub link-first : {used w : ℕ} → LinkBelow used w → (j : ℕ) → j * 8 ≡ w → ⊥
+link-first k j e = let p = link-words (k .of) (k .for) in let q = k .is in omega arith
 
 -- the search for a key comes to the record that is linked where it ended
 module _ {s : List ℕ} {keyOf : ℕ → ℕ} {used : ℕ} (t : Indexed s keyOf used) (new : ℕ) (some : 0 < new) where
@@ -110,24 +132,20 @@ module _ {s : List ℕ} {keyOf : ℕ → ℕ} {used : ℕ} (t : Indexed s keyOf 
       (λ p. let v = t .later i key l p in last-free n (next s i key) (bitsAbove key) (v .1) (omega arith))
     where
       go : (b : Bool) → eqb (next s i key) 0 ≡ b → (0 < next s i key → getD s (lastLink s n (next s i key) (bitsAbove key)) 0 ≡ 0) →
-        getD s (elim b [ true ↦ linkOf i key | false ↦ lastLink s n (next s i key) (bitsAbove key) ]) 0 ≡ 0
+          getD s (elim b [ true ↦ linkOf i key | false ↦ lastLink s n (next s i key) (bitsAbove key) ]) 0 ≡ 0
       go true e rest = eqb-true (next s i key) 0 e
       go false e rest = rest (let q = eqb-false (next s i key) 0 e in omega arith)
 
-  pub last-inside : (n i key : ℕ) → i < used → used ≤ i + n → lastLink s n i key < length s
-  unfolding lastLink linkOf
-  last-inside zero i key l h = absurd (omega arith)
-  last-inside (suc n) i key l h =
+  pub last-is : (n i key : ℕ) → i < used → used ≤ i + n → LinkBelow used (lastLink s n i key)
+  unfolding lastLink
+  last-is zero i key l h = absurd (omega arith)
+  last-is (suc n) i key l h =
       go (eqb (next s i key) 0) refl
-      (λ p. let v = t .later i key l p in last-inside n (next s i key) (bitsAbove key) (v .1) (omega arith))
+      (λ p. let v = t .later i key l p in last-is n (next s i key) (bitsAbove key) (v .1) (omega arith))
     where
-      word : (a : Bool) → i * 8 + cond a 7 6 < length s
-      word true = omega (arith, t .inside)
-      word false = omega (arith, t .inside)
-
-      go : (b : Bool) → eqb (next s i key) 0 ≡ b → (0 < next s i key → lastLink s n (next s i key) (bitsAbove key) < length s) →
-        (elim b [ true ↦ linkOf i key | false ↦ lastLink s n (next s i key) (bitsAbove key) ]) < length s
-      go true e rest = word (isHigh key)
+      go : (b : Bool) → eqb (next s i key) 0 ≡ b → (0 < next s i key → LinkBelow used (lastLink s n (next s i key) (bitsAbove key))) →
+          LinkBelow used (elim b [ true ↦ linkOf i key | false ↦ lastLink s n (next s i key) (bitsAbove key) ])
+      go true e rest = record { of = i; for = key; is = refl; low = l }
       go false e rest = rest (let q = eqb-false (next s i key) 0 e in omega arith)
 
   -- from record i on, the search comes to the new record
@@ -139,21 +157,20 @@ module _ {s : List ℕ} {keyOf : ℕ → ℕ} {used : ℕ} (t : Indexed s keyOf 
       (λ p. let v = t .later i key l p in leads-new n (next s i key) (bitsAbove key) (v .1) (omega arith) w)
     where
       inside : w < length s
-      inside = rw q (last-inside (suc n) i key l h)
+      inside = let k = link-place (last-is (suc n) i key l h) in omega (arith, t .inside)
 
       free : getD s w 0 ≡ 0
       free = rw q (last-free (suc n) i key l h)
 
       go : (b : Bool) → eqb (next s i key) 0 ≡ b → w ≡ elim b [ true ↦ linkOf i key | false ↦ lastLink s n (next s i key) (bitsAbove key) ] →
-        (0 < next s i key → w ≡ lastLink s n (next s i key) (bitsAbove key) → Leads (set s w new) (bitsAbove key) (next s i key) new) → Leads (set s w new) key i new
+          (0 < next s i key → w ≡ lastLink s n (next s i key) (bitsAbove key) → Leads (set s w new) (bitsAbove key) (next s i key) new) → Leads (set s w new) key i new
       go true e q rest =
-        let f : next (set s w new) i key ≡ new = ap (λ x. getD (set s w new) x 0) (sym q) ∙ getD-set-same s w new 0 inside in
-        leads-by (set s w new) key i new new f some here
+          let f : next (set s w new) i key ≡ new = ap (λ x. getD (set s w new) x 0) (sym q) ∙ getD-set-same s w new 0 inside in
+          leads-by (set s w new) key i new new f some here
       go false e q rest =
-        let p : 0 < next s i key = let z = eqb-false (next s i key) 0 e in omega arith in
-        let f : next (set s w new) i key ≡ next s i key = next-kept s w new free i key p in
-        leads-by (set s w new) key i (next s i key) new f p (rest p q)
-
+          let p : 0 < next s i key = let z = eqb-false (next s i key) 0 e in omega arith in
+          let f : next (set s w new) i key ≡ next s i key = next-kept s w new free i key p in
+          leads-by (set s w new) key i (next s i key) new f p (rest p q)
 
 -- one step of the search for the last link
 module _ (s : List ℕ) (n i key : ℕ) where
@@ -178,17 +195,17 @@ module _ {s : List ℕ} {keyOf : ℕ → ℕ} {used : ℕ} (t : Indexed s keyOf 
 
   pub ending-same : 0 < to → lastLink s used to (bitsAbove key) ≡ lastLink s used 0 first
   ending-same h =
-    let w = ending-on h in
-    let e : used ≡ suc (used - 1) = omega arith in
-    let f : lastLink s (suc (used - 1)) at key ≡ lastLink s (used - 1) to (bitsAbove key) =
+      let w = ending-on h in
+      let e : used ≡ suc (used - 1) = omega arith in
+      let f : lastLink s (suc (used - 1)) at key ≡ lastLink s (used - 1) to (bitsAbove key) =
       rw (k .leads) (last-on s (used - 1) at key (rw (← k .leads) h)) in
-    last-enough t used (used - 1) to (bitsAbove key) (w .1) (omega arith) (omega arith) ∙ sym (rw (← e) at f) ∙ k .same
+      last-enough t used (used - 1) to (bitsAbove key) (w .1) (omega arith) (omega arith) ∙ sym (rw (← e) at f) ∙ k .same
 
   pub ending-stop : to ≡ 0 → link ≡ lastLink s used 0 first
   ending-stop z =
-    let l = k .standing in
-    let e : used ≡ suc (used - 1) = omega arith in
-    k .here-link ∙ sym (last-stop s (used - 1) at key (sym (k .leads) ∙ z)) ∙ rw (← e) (k .same)
+      let l = k .standing in
+      let e : used ≡ suc (used - 1) = omega arith in
+      k .here-link ∙ sym (last-stop s (used - 1) at key (sym (k .leads) ∙ z)) ∙ rw (← e) (k .same)
 
 -- a record is linked where the search ended; the first is not
 pub linked-some : (s : List ℕ) (new key : ℕ) → (new ≡ 0 → ⊥) → linked s new key ≡ set s (lastLink s new 0 key) new

@@ -1,6 +1,5 @@
 -- When the links of the records in use are a search tree for their keys.
 use Prim.Native.Nat.{ℕ, _*_, _≤_, _<_}
-use mathlib.Core.Path.{_≡_}
 use mathlib.Core.List.{List}
 use lib.ListN.{length}
 use Rattle.index.specs.Tree.{next, bitsAbove}

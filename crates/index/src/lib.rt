@@ -1,7 +1,6 @@
 // Finding a record by its number without a pass over the records: a search tree in two words of each.
 ghost use mathlib.Core.Path.{_≡_};
 ghost use Prim.Native.Nat.{_+_, _*_, _≤_, _<_};
-ghost use lib.ListN.{length};
 ghost use Rattle.index.specs.Tree.{linkOf, lastLink, linked};
 ghost use Rattle.index.specs.Numbers.{numbered, Numbered};
 

@@ -1,7 +1,7 @@
 -- `index::find_number` meets its contract: at each turn the search comes from the record at hand to the one that has the number, if one has.
-use Prim.Native.Nat.{ℕ, _-_, _<_, _≤_}
-use mathlib.Core.Path.{_≡_, refl, sym, ap, _∙_}
-use mathlib.Core.Bool.{Bool, true, false}
+use Prim.Native.Nat.{_-_}
+use mathlib.Core.Path.{_≡_, sym, ap, _∙_}
+use mathlib.Core.Bool.{false}
 use lib.ListN.{getD}
 use native.Mathlib.Omega.{arith}
 use borrow.Author.Needs.{needs}
@@ -48,12 +48,12 @@ other c = rw (← c .before .word-at .ensures) (ne-eqb _ _ (c .if2 .taken))
 
 returns-2 : tie.Need-returns-2 Inv-loop μ-loop
 unfolding numbered
-returns-2 c = 
+returns-2 c =
     let l = c .before in
     sym (seek-none (c .before .before .before .before .before .before .before .before .pre .tree) (c .before .before .before .before .before .loop .inv) (other (l .before .before)) (sym (led l) ∙ c .if3 .taken))
 
 loop-less : tie.Need-loop-less Inv-loop μ-loop
-loop-less c = 
+loop-less c =
     let l = c .before in
     let t = c .before .before .before .before .before .before .before .before .pre .tree in
     let b = c .before .before .before .before .before .loop in
@@ -63,20 +63,20 @@ loop-less c =
     omega arith
 
 loop-again : tie.Need-loop-again Inv-loop μ-loop
-loop-again c = 
+loop-again c =
     let l = c .before in
     let e = led l in
     rw e (seek-on (c .before .before .before .before .before .before .before .before .pre .tree) (c .before .before .before .before .before .loop .inv) (other (l .before .before)) (rw (← e) (let z = c .if3 .left in omega arith)))
 
 returns-3 : tie.Need-returns-3 Inv-loop μ-loop
 unfolding numbered
-returns-3 c = 
+returns-3 c =
     let a = c .before .before .before .before .before .args in
     let t = c .before .before .before .before .before .pre in
     let k = c .before .before .loop .inv in
     let e : numberOf (a .s .now) (c .before .before .loop .at) ≡ a .number = sym (c .before .word-at .ensures) ∙ c .if2 .left in
     sym (first-at (λ i. eqb (numberOf (a .s .now) i) (a .number)) 0 (a .used) (c .before .before .loop .at) (omega arith) (omega (arith, k .standing)) (eq-eqb _ _ e)
-      (λ m h f. t .distinct m (c .before .before .loop .at) (omega arith) (k .standing) (eqb-true _ _ f ∙ sym e)))
+    (λ m h f. t .distinct m (c .before .before .loop .at) (omega arith) (k .standing) (eqb-true _ _ f ∙ sym e)))
 
 pub find-number-spec : {M : Type 1} → statement M
 find-number-spec =
