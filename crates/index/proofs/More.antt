@@ -1,7 +1,7 @@
 -- One record more: linked where the search for its key ended, it is found, and so are all before it.
 -- Assumes nothing.
 use Prim.Native.Nat.{ℕ, zero, suc, _*_, _≤_, _<_}
-use mathlib.Core.Path.{_≡_, refl, sym, ap, _∙_}
+use mathlib.Core.Path.{_≡_, refl, sym, ap, _∙_, subst}
 use mathlib.Core.Bool.{Bool, true, false}
 use mathlib.Core.List.{List}
 use mathlib.Core.Logic.{⊎-elim}
@@ -9,12 +9,12 @@ use native.Mathlib.Nat.{eq-or-lt-of-le, le-of-suc-le-suc}
 use native.Mathlib.Omega.{arith}
 use lib.Dec.{eqb}
 use lib.ListN.{length, getD, set, length-set}
-use lib.Seq.{getD-set-same, getD-set-other}
+use lib.Seq.{getD-set-same, getD-set-other, set-getD}
 use borrow.Author.Tests.{eqb-true, eqb-false}
 use Rattle.index.specs.Tree.{linkOf, next, lastLink, linked}
 use Rattle.index.specs.Indexed.{Leads, here, Indexed}
 use Rattle.index.specs.Numbers.{numberOf, Numbered}
-use Rattle.index.proofs.Search.{LinkBelow, link-words, link-place, link-first, leads-kept, leads-new, last-is, last-free}
+use Rattle.index.proofs.Seek.{LinkBelow, link-words, link-place, link-first, leads-kept, leads-new, last-is, last-free}
 
 -- a statement of each record below `suc n`: of those below n, and of n
 below-last : (P : ℕ → Type 0) (n : ℕ) → ((i : ℕ) → i < n → P i) → P n → (i : ℕ) → i < suc n → P i
@@ -61,6 +61,11 @@ indexed-first s keyOf room free = record {
   found = below-last (λ j. Leads s (keyOf j) 0 j) 0 (λ j l. absurd (omega arith)) here;
 }
 
+-- and linking it changes nothing
+linked-first : (s : List ℕ) (key : ℕ) → next s 0 key ≡ 0 → linked s 0 key ≡ s
+unfolding lastLink
+linked-first s key free = ap (set s (linkOf 0 key)) (sym free) ∙ set-getD s (linkOf 0 key) 0
+
 -- the same tree for keys that are known by another name
 indexed-by : (s : List ℕ) (keyOf keyOf′ : ℕ → ℕ) (used : ℕ) → ((j : ℕ) → j < used → keyOf j ≡ keyOf′ j) → Indexed s keyOf used → Indexed s keyOf′ used
 indexed-by s keyOf keyOf′ used same t = record {
@@ -72,11 +77,9 @@ indexed-by s keyOf keyOf′ used same t = record {
 -- a record more, whose number no other has
 pub numbered-more : (s : List ℕ) (used : ℕ) → Numbered s used → suc used * 8 ≤ length s → ((key : ℕ) → next s used key ≡ 0)
     → ((j : ℕ) → j < used → numberOf s j ≡ numberOf s used → ⊥) → Numbered (linked s used (numberOf s used)) (suc used)
-unfolding linked
-numbered-more s zero t room free other = record {
-  tree = indexed-first s (numberOf s) room free;
-  distinct = λ i j l h e. omega arith;
-}
+numbered-more s zero t room free other =
+    subst (λ (l : List ℕ). Numbered l 1) (sym (linked-first s (numberOf s 0) (free (numberOf s 0))))
+    (record { tree = indexed-first s (numberOf s) room free; distinct = λ i j l h e. omega arith })
 numbered-more s (suc m) t room free other =
     let n = numberOf s (suc m) in
     let w = lastLink s (suc m) 0 n in

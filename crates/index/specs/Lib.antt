@@ -1,4 +1,5 @@
-pub mod Found
+pub mod First
 pub mod Tree
 pub mod Indexed
 pub mod Numbers
+pub mod Names

@@ -12,10 +12,14 @@ isHigh key = eqb (key % 2) 1
 abbrev pub bitsAbove : ℕ → ℕ
 bitsAbove key = key / 2
 
--- the word of record i that leads on, and the record that it leads to
-unfoldable pub linkOf : ℕ → ℕ → ℕ
-linkOf i key = i * 8 + cond (isHigh key) 7 6
+-- the word of record i that leads on high, or low
+unfoldable pub linkWord : ℕ → Bool → ℕ
+linkWord i high = i * 8 + cond high 7 6
 
+abbrev pub linkOf : ℕ → ℕ → ℕ
+linkOf i key = linkWord i (isHigh key)
+
+-- the record that it leads to
 abbrev pub next : List ℕ → ℕ → ℕ → ℕ
 next s i key = getD s (linkOf i key) 0
 
@@ -25,7 +29,6 @@ lastLink s zero i key = linkOf i key
 lastLink s (suc n) i key =
     elim (eqb (next s i key) 0) [ true ↦ linkOf i key | false ↦ lastLink s n (next s i key) (bitsAbove key) ]
 
--- the search for the key comes to record `new` after all before it; the first record is where it begins
-unfoldable pub linked : List ℕ → ℕ → ℕ → List ℕ
-linked s zero key = s
-linked s (suc m) key = set s (lastLink s (suc m) 0 key) (suc m)
+-- the search for the key ends at record `new`, behind all before it
+abbrev pub linked : List ℕ → ℕ → ℕ → List ℕ
+linked s new key = set s (lastLink s new 0 key) new

@@ -11,38 +11,40 @@ use lib.Dec.{eqb}
 use lib.ListN.{length, getD, set}
 use lib.Seq.{getD-set-same, getD-set-other}
 use borrow.Author.Tests.{eqb-true, eqb-false, eq-eqb, ne-eqb}
-use Rattle.index.specs.declared.Found.the-variants.{At, Missing}
-use Rattle.index.specs.Found.{firstOf}
-use Rattle.index.specs.Tree.{isHigh, bitsAbove, linkOf, next, lastLink, linked}
+use Rattle.index.specs.declared.Search.{Search}
+use Rattle.index.specs.declared.Search.the-variants.{At}
+use Rattle.index.specs.First.{firstOf}
+use Rattle.index.specs.Tree.{isHigh, bitsAbove, linkWord, linkOf, next, lastLink}
 use Rattle.index.specs.Indexed.{Leads, here, on, Indexed}
 
 -- what a test picks, where only one record is picked, and where none is
-module _ (is : ℕ → Bool) where
-  pub first-none : (i n : ℕ) → ((j : ℕ) → i ≤ j → j < i + n → is j ≡ true → ⊥) → firstOf is i n ≡ Missing
+module _ (is : ℕ → Bool) (other : Search) where
+  pub first-none : (i n : ℕ) → ((j : ℕ) → i ≤ j → j < i + n → is j ≡ true → ⊥) → firstOf is i n other ≡ other
   unfolding firstOf
   first-none i zero none = refl
   first-none i (suc n) none = go (is i) refl (first-none (suc i) n (λ j l h. none j (omega arith) (omega arith)))
     where
-      go : (t : Bool) → is i ≡ t → firstOf is (suc i) n ≡ Missing → elim t [ true ↦ At i | false ↦ firstOf is (suc i) n ] ≡ Missing
+      go : (t : Bool) → is i ≡ t → firstOf is (suc i) n other ≡ other → elim t [ true ↦ At i | false ↦ firstOf is (suc i) n other ] ≡ other
       go true e rest = absurd (none i (omega arith) (omega arith) e)
       go false e rest = rest
 
-  pub first-at : (i n j : ℕ) → i ≤ j → j < i + n → is j ≡ true → ((m : ℕ) → m < i + n → is m ≡ true → m ≡ j) → firstOf is i n ≡ At j
+  pub first-at : (i n j : ℕ) → i ≤ j → j < i + n → is j ≡ true → ((m : ℕ) → m < i + n → is m ≡ true → m ≡ j) → firstOf is i n other ≡ At j
   unfolding firstOf
   first-at i zero j l h e one = absurd (omega arith)
   first-at i (suc n) j l h e one = go (is i) refl (λ k. first-at (suc i) n j k (omega arith) e (λ m g. one m (omega arith)))
     where
-      go : (t : Bool) → is i ≡ t → (i < j → firstOf is (suc i) n ≡ At j) → elim t [ true ↦ At i | false ↦ firstOf is (suc i) n ] ≡ At j
+      go : (t : Bool) → is i ≡ t → (i < j → firstOf is (suc i) n other ≡ At j) → elim t [ true ↦ At i | false ↦ firstOf is (suc i) n other ] ≡ At j
       go true f rest = ap At (one i (omega arith) f)
       go false f rest = ⊎-elim
           (λ (q : i ≡ j). let z : true ≡ false = sym e ∙ ap is (sym q) ∙ f in absurd (let w : _≡_ {A = ℕ} 0 1 = cc in omega arith))
           rest
           (eq-or-lt-of-le l)
 
--- the search stands at record `at`: from there it comes to each record that the test picks
-pub record Seeking (s : List ℕ) (is : ℕ → Bool) (used key at : ℕ) : Type 0 where
+-- the search for a key `first` stands at record `at`: from there it comes to each record that the test picks, and ends where it would from the first
+pub record Seeking (s : List ℕ) (is : ℕ → Bool) (used first key at : ℕ) : Type 0 where
   pub standing : at < used
   pub comes : (j : ℕ) → j < used → is j ≡ true → Leads s key at j
+  pub ends : lastLink s used at key ≡ lastLink s used 0 first
 
 -- a step of a search, to a record known by another name
 leads-by : (s : List ℕ) (key i n j : ℕ) → next s i key ≡ n → 0 < n → Leads s (bitsAbove key) n j → Leads s key i j
@@ -56,22 +58,17 @@ leads-on : {s : List ℕ} {key i j : ℕ} (is : ℕ → Bool) → is i ≡ false
 leads-on is f e here = absurd (let w : _≡_ {A = ℕ} 0 1 = cc in omega arith)
 leads-on is f e (on h l) = (h, l)
 
+-- one step of the search for the last link
+module _ (s : List ℕ) (n i key : ℕ) where
+  last-on : 0 < next s i key → lastLink s (suc n) i key ≡ lastLink s n (next s i key) (bitsAbove key)
+  unfolding lastLink
+  last-on h = rw (ne-eqb (next s i key) 0 (λ (z : next s i key ≡ 0). omega arith), lastLink)
+
+  last-stop : next s i key ≡ 0 → lastLink s (suc n) i key ≡ linkOf i key
+  unfolding lastLink
+  last-stop z = rw (eq-eqb (next s i key) 0 z, lastLink)
+
 module _ {s : List ℕ} {keyOf : ℕ → ℕ} {used : ℕ} (t : Indexed s keyOf used) where
-  -- a search for a key begins at record 0
-  pub seek-start : (is : ℕ → Bool) (key : ℕ) → 0 < used → ((j : ℕ) → is j ≡ true → keyOf j ≡ key) → Seeking s is used key 0
-  seek-start is key l same = record { standing = l; comes = λ j h e. rw (same j e) at (t .found j h) }
-
-  module _ {is : ℕ → Bool} {key at : ℕ} (k : Seeking s is used key at) (f : is at ≡ false) where
-    pub seek-on : 0 < next s at key → Seeking s is used (bitsAbove key) (next s at key)
-    seek-on h = record {
-      standing = t .later at key (k .standing) h .1;
-      comes = λ j l e. leads-on is f e (k .comes j l e) .1;
-    }
-
-    -- a search that leads nowhere finds nothing
-    pub seek-none : next s at key ≡ 0 → firstOf is 0 used ≡ Missing
-    seek-none z = first-none is 0 used (λ j l h e. let w = leads-on is f e (k .comes j (omega arith) e) .0 in omega arith)
-
   -- steps enough for the records that are left are enough
   pub last-enough : (n m i key : ℕ) → i < used → used ≤ i + n → used ≤ i + m → lastLink s n i key ≡ lastLink s m i key
   unfolding lastLink
@@ -86,6 +83,32 @@ module _ {s : List ℕ} {keyOf : ℕ → ℕ} {used : ℕ} (t : Indexed s keyOf 
           (elim b [ true ↦ linkOf i key | false ↦ lastLink s m (next s i key) (bitsAbove key) ])
       go true e rest = refl
       go false e rest = rest (let q = eqb-false (next s i key) 0 e in omega arith)
+
+  -- a search for a key begins at record 0
+  pub seek-start : (is : ℕ → Bool) (key : ℕ) → 0 < used → ((j : ℕ) → is j ≡ true → keyOf j ≡ key) → Seeking s is used key key 0
+  seek-start is key l same = record { standing = l; comes = λ j h e. rw (same j e) at (t .found j h); ends = refl }
+
+  module _ {is : ℕ → Bool} {first key at : ℕ} (k : Seeking s is used first key at) (f : is at ≡ false) where
+    pub seek-on : 0 < next s at key → Seeking s is used first (bitsAbove key) (next s at key)
+    seek-on h =
+        let w = t .later at key (k .standing) h in
+        let e : used ≡ suc (used - 1) = omega arith in
+        record {
+          standing = w .1;
+          comes = λ j l p. leads-on is f p (k .comes j l p) .1;
+          ends = last-enough used (used - 1) (next s at key) (bitsAbove key) (w .1) (omega arith) (omega arith)
+              ∙ sym (rw (← e) at (last-on s (used - 1) at key h)) ∙ k .ends;
+        }
+
+    -- a search that leads nowhere finds nothing, and there is where a new record goes
+    pub seek-none : (other : Search) → next s at key ≡ 0 → firstOf is 0 used other ≡ other
+    seek-none other z = first-none is other 0 used (λ j l h e. let w = leads-on is f e (k .comes j (omega arith) e) .0 in omega arith)
+
+    pub seek-end : next s at key ≡ 0 → linkOf at key ≡ lastLink s used 0 first
+    seek-end z =
+        let l = k .standing in
+        let e : used ≡ suc (used - 1) = omega arith in
+        sym (rw (← e) at (last-stop s (used - 1) at key z)) ∙ k .ends
 
 -- ---- a record more
 
@@ -108,7 +131,7 @@ pub record LinkBelow (used w : ℕ) : Type 0 where
   pub low : of < used
 
 pub link-words : (i key : ℕ) → (i * 8 + 6 ≤ linkOf i key) × (linkOf i key ≤ i * 8 + 7)
-unfolding linkOf
+unfolding linkWord
 link-words i key = go (isHigh key)
   where
     go : (b : Bool) → (i * 8 + 6 ≤ i * 8 + cond b 7 6) × (i * 8 + cond b 7 6 ≤ i * 8 + 7)
@@ -171,49 +194,3 @@ module _ {s : List ℕ} {keyOf : ℕ → ℕ} {used : ℕ} (t : Indexed s keyOf 
           let p : 0 < next s i key = let z = eqb-false (next s i key) 0 e in omega arith in
           let f : next (set s w new) i key ≡ next s i key = next-kept s w new free i key p in
           leads-by (set s w new) key i (next s i key) new f p (rest p q)
-
--- one step of the search for the last link
-module _ (s : List ℕ) (n i key : ℕ) where
-  last-on : 0 < next s i key → lastLink s (suc n) i key ≡ lastLink s n (next s i key) (bitsAbove key)
-  unfolding lastLink
-  last-on h = rw (ne-eqb (next s i key) 0 (λ (z : next s i key ≡ 0). omega arith), lastLink)
-
-  last-stop : next s i key ≡ 0 → lastLink s (suc n) i key ≡ linkOf i key
-  unfolding lastLink
-  last-stop z = rw (eq-eqb (next s i key) 0 z, lastLink)
-
--- a search for its last link stands at record `at`
-pub record Ending (s : List ℕ) (used first key at link to : ℕ) : Type 0 where
-  pub standing : at < used
-  pub same : lastLink s used at key ≡ lastLink s used 0 first
-  pub here-link : link ≡ linkOf at key
-  pub leads : to ≡ next s at key
-
-module _ {s : List ℕ} {keyOf : ℕ → ℕ} {used : ℕ} (t : Indexed s keyOf used) {first key at link to : ℕ} (k : Ending s used first key at link to) where
-  pub ending-on : 0 < to → (at < to) × (to < used)
-  ending-on h = rw (← k .leads) at (t .later at key (k .standing) (rw (← k .leads) h))
-
-  pub ending-same : 0 < to → lastLink s used to (bitsAbove key) ≡ lastLink s used 0 first
-  ending-same h =
-      let w = ending-on h in
-      let e : used ≡ suc (used - 1) = omega arith in
-      let f : lastLink s (suc (used - 1)) at key ≡ lastLink s (used - 1) to (bitsAbove key) =
-      rw (k .leads) (last-on s (used - 1) at key (rw (← k .leads) h)) in
-      last-enough t used (used - 1) to (bitsAbove key) (w .1) (omega arith) (omega arith) ∙ sym (rw (← e) at f) ∙ k .same
-
-  pub ending-stop : to ≡ 0 → link ≡ lastLink s used 0 first
-  ending-stop z =
-      let l = k .standing in
-      let e : used ≡ suc (used - 1) = omega arith in
-      k .here-link ∙ sym (last-stop s (used - 1) at key (sym (k .leads) ∙ z)) ∙ rw (← e) (k .same)
-
--- a record is linked where the search ended; the first is not
-pub linked-some : (s : List ℕ) (new key : ℕ) → (new ≡ 0 → ⊥) → linked s new key ≡ set s (lastLink s new 0 key) new
-unfolding linked
-linked-some s zero key h = absurd (h refl)
-linked-some s (suc m) key h = refl
-
-pub linked-first : (s : List ℕ) (new key : ℕ) → new ≡ 0 → linked s new key ≡ s
-unfolding linked
-linked-first s zero key h = refl
-linked-first s (suc m) key h = absurd (omega arith)
