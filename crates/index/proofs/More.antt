@@ -1,20 +1,24 @@
 -- One record more: linked where the search for its key ended, it is found, and so are all before it.
 -- Assumes nothing.
-use Prim.Native.Nat.{ℕ, zero, suc, _*_, _≤_, _<_}
+use Prim.Native.Nat.{ℕ, zero, suc, _+_, _*_, _≤_, _<_}
 use mathlib.Core.Path.{_≡_, refl, sym, ap, _∙_, subst}
 use mathlib.Core.Bool.{Bool, true, false}
 use mathlib.Core.List.{List}
 use mathlib.Core.Logic.{⊎-elim}
-use native.Mathlib.Nat.{eq-or-lt-of-le, le-of-suc-le-suc}
+use native.Mathlib.Nat.{eq-or-lt-of-le, le-of-suc-le-suc, add-zero}
 use native.Mathlib.Omega.{arith}
 use lib.Dec.{eqb}
 use lib.ListN.{length, getD, set, length-set}
 use lib.Seq.{getD-set-same, getD-set-other, set-getD}
 use borrow.Author.Tests.{eqb-true, eqb-false}
-use Rattle.index.specs.Tree.{linkOf, next, lastLink, linked}
+use Rattle.index.specs.Tree.{linkWord, linkOf, next, lastLink, linked}
 use Rattle.index.specs.Indexed.{Leads, here, Indexed}
 use Rattle.index.specs.Numbers.{numberOf, Numbered}
-use Rattle.index.proofs.Seek.{LinkBelow, link-words, link-place, link-first, leads-kept, leads-new, last-is, last-free}
+use Rattle.index.specs.Names.{nameOf, keyOf, Named}
+use Rattle.base.specs.Bytes.{sameBytes}
+use Rattle.base.proofs.Lists.{same-is, same-refl}
+use lib.Seq.{slice}
+use Rattle.index.proofs.Seek.{LinkBelow, link-words, link-place, link-other, leads-kept, leads-new, last-is, last-free}
 
 -- a statement of each record below `suc n`: of those below n, and of n
 below-last : (P : ℕ → Type 0) (n : ℕ) → ((i : ℕ) → i < n → P i) → P n → (i : ℕ) → i < suc n → P i
@@ -74,33 +78,71 @@ indexed-by s keyOf keyOf′ used same t = record {
   found = λ j l. rw (← same j l) (t .found j l);
 }
 
--- a record more, whose number no other has
+-- what tells the records in use apart tells one more apart from them
+distinct-more : (R : ℕ → ℕ → Type 0) (used : ℕ) → ((i j : ℕ) → R i j → R j i) → ((i j : ℕ) → i < used → j < used → R i j → i ≡ j)
+    → ((j : ℕ) → j < used → R j used → ⊥) → (i j : ℕ) → i < suc used → j < suc used → R i j → i ≡ j
+distinct-more R used turn old other i j l h e =
+    ⊎-elim
+    (λ (p : i ≡ used). ⊎-elim
+    (λ (q : j ≡ used). p ∙ sym q)
+    (λ (b : j < used). absurd (other j b (turn used j (rw p at e))))
+    (eq-or-lt-of-le (le-of-suc-le-suc h)))
+    (λ (a : i < used). ⊎-elim
+    (λ (q : j ≡ used). absurd (other i a (rw q at e)))
+    (λ (b : j < used). old i j a b e)
+    (eq-or-lt-of-le (le-of-suc-le-suc h)))
+    (eq-or-lt-of-le (le-of-suc-le-suc l))
+
+-- a record more: linked where the search for its key ended, it is found, and so are all before it
+indexed-more : (s : List ℕ) (keyOf keyOf′ : ℕ → ℕ) (used w : ℕ) → Indexed s keyOf used → suc used * 8 ≤ length s → ((key : ℕ) → next s used key ≡ 0)
+    → w ≡ lastLink s used 0 (keyOf used) → ((j : ℕ) → keyOf j ≡ keyOf′ j) → Indexed (set s w used) keyOf′ (suc used)
+indexed-more s keyOf keyOf′ zero w t room free is same =
+    subst (λ (l : List ℕ). Indexed l keyOf′ 1) (sym (ap (λ (i : ℕ). set s i 0) is ∙ linked-first s (keyOf 0) (free (keyOf 0)))) (indexed-first s keyOf′ room free)
+indexed-more s keyOf keyOf′ (suc m) w t room free is same =
+    indexed-by (set s w (suc m)) keyOf keyOf′ (suc (suc m)) (λ j l. same j) (indexed-set s keyOf m t room free w is)
+
+-- the link that is set holds none of a record's other words
+kept-word : (s : List ℕ) (keyOf : ℕ → ℕ) (used : ℕ) → Indexed s keyOf used → (j r : ℕ) → r < 6 → getD (linked s used (keyOf used)) (j * 8 + r) 0 ≡ getD s (j * 8 + r) 0
+unfolding lastLink linkWord
+kept-word s keyOf zero t j r h = getD-set-other s (linkOf 0 (keyOf 0)) (j * 8 + r) 0 0 (λ e. let p = link-words 0 (keyOf 0) in omega arith)
+kept-word s keyOf (suc m) t j r h =
+    let k = last-is t (suc m) (omega arith) (suc m) 0 (keyOf (suc m)) (omega arith) (omega arith) in
+    getD-set-other s (lastLink s (suc m) 0 (keyOf (suc m))) (j * 8 + r) (suc m) 0 (link-other k j r h)
+
+-- a number that no other record has
 pub numbered-more : (s : List ℕ) (used : ℕ) → Numbered s used → suc used * 8 ≤ length s → ((key : ℕ) → next s used key ≡ 0)
     → ((j : ℕ) → j < used → numberOf s j ≡ numberOf s used → ⊥) → Numbered (linked s used (numberOf s used)) (suc used)
-numbered-more s zero t room free other =
-    subst (λ (l : List ℕ). Numbered l 1) (sym (linked-first s (numberOf s 0) (free (numberOf s 0))))
-    (record { tree = indexed-first s (numberOf s) room free; distinct = λ i j l h e. omega arith })
-numbered-more s (suc m) t room free other =
-    let n = numberOf s (suc m) in
-    let w = lastLink s (suc m) 0 n in
-    let k = new-link s (numberOf s) m (t .tree) room free w refl in
-    let same : (j : ℕ) → numberOf s j ≡ numberOf (set s w (suc m)) j = λ j. sym (getD-set-other s w (j * 8) (suc m) 0 (link-first k j)) in
+numbered-more s used t room free other =
+    let l = linked s used (numberOf s used) in
+    let same : (j : ℕ) → numberOf s j ≡ numberOf l j = λ j. sym (rw (add-zero (j * 8)) at (kept-word s (numberOf s) used (t .tree) j 0 (omega arith))) in
     record {
-      tree = indexed-by (set s w (suc m)) (numberOf s) (numberOf (set s w (suc m))) (suc (suc m)) (λ j l. same j)
-          (indexed-set s (numberOf s) m (t .tree) room free w refl);
-      distinct = λ i j l h e. distinct-more i j l h (same i ∙ e ∙ sym (same j));
+      tree = indexed-more s (numberOf s) (numberOf l) used _ (t .tree) room free refl same;
+      distinct = λ i j a b e. distinct-more (λ i j. numberOf s i ≡ numberOf s j) used (λ i j e. sym e) (t .distinct) other i j a b (same i ∙ e ∙ sym (same j));
     }
-  where
-    distinct-more : (i j : ℕ) → i < suc (suc m) → j < suc (suc m) → numberOf s i ≡ numberOf s j → i ≡ j
-    distinct-more i j l h e =
-        ⊎-elim
-        (λ (p : i ≡ suc m). ⊎-elim (λ (q : j ≡ suc m). p ∙ sym q) (λ (b : j < suc m). absurd (other j b (sym e ∙ ap (numberOf s) p))) (eq-or-lt-of-le (le-of-suc-le-suc h)))
-        (λ (a : i < suc m). ⊎-elim (λ (q : j ≡ suc m). absurd (other i a (e ∙ ap (numberOf s) q))) (λ (b : j < suc m). t .distinct i j a b e) (eq-or-lt-of-le (le-of-suc-le-suc h)))
-        (eq-or-lt-of-le (le-of-suc-le-suc l))
+
+-- a name that no other record has
+pub named-more : (file s : List ℕ) (used : ℕ) → Named file s used → suc used * 8 ≤ length s → ((key : ℕ) → next s used key ≡ 0)
+    → ((j : ℕ) → j < used → sameBytes (nameOf file s j) (nameOf file s used) ≡ true → ⊥) → Named file (linked s used (keyOf (nameOf file s used))) (suc used)
+unfolding nameOf
+named-more file s used t room free other =
+    let key : ℕ → ℕ = λ i. keyOf (nameOf file s i) in
+    let l = linked s used (key used) in
+    let first : (j : ℕ) → getD s (j * 8) 0 ≡ getD l (j * 8) 0 = λ j. sym (rw (add-zero (j * 8)) at (kept-word s key used (t .tree) j 0 (omega arith))) in
+    let second : (j : ℕ) → getD s (j * 8 + 1) 0 ≡ getD l (j * 8 + 1) 0 = λ j. sym (kept-word s key used (t .tree) j 1 (omega arith)) in
+    let same : (j : ℕ) → nameOf file s j ≡ nameOf file l j = λ j i. slice (first j i) (second j i) file in
+    record {
+      tree = indexed-more s key (λ i. keyOf (nameOf file l i)) used _ (t .tree) room free refl (λ j. ap keyOf (same j));
+      distinct = λ i j a b e. distinct-more (λ i j. nameOf file s i ≡ nameOf file s j) used (λ i j e. sym e)
+          (λ i j a b e. t .distinct i j a b (rw e (same-refl (nameOf file s j))))
+          (λ j b e. other j b (rw e (same-refl (nameOf file s used)))) i j a b (same i ∙ same-is _ _ e ∙ sym (same j));
+    }
 
 -- before the first record
+indexed-none : (s : List ℕ) (keyOf : ℕ → ℕ) → Indexed s keyOf 0
+indexed-none s keyOf = record { inside = omega arith; later = λ i key l. absurd (omega arith); found = λ j l. absurd (omega arith) }
+
 pub numbered-none : (s : List ℕ) → Numbered s 0
-numbered-none s = record {
-  tree = record { inside = omega arith; later = λ i key l. absurd (omega arith); found = λ j l. absurd (omega arith) };
-  distinct = λ i j l. absurd (omega arith);
-}
+numbered-none s = record { tree = indexed-none s (numberOf s); distinct = λ i j l. absurd (omega arith) }
+
+pub named-none : (file s : List ℕ) → Named file s 0
+named-none file s = record { tree = indexed-none s (λ i. keyOf (nameOf file s i)); distinct = λ i j l. absurd (omega arith) }

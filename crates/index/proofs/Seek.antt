@@ -141,9 +141,9 @@ link-words i key = go (isHigh key)
 pub link-place : {used w : ℕ} → LinkBelow used w → w < used * 8
 link-place k = let p = link-words (k .of) (k .for) in let q = k .is in let l = k .low in omega arith
 
--- it is the first word of no record
-pub link-first : {used w : ℕ} → LinkBelow used w → (j : ℕ) → j * 8 ≡ w → ⊥
-link-first k j e = let p = link-words (k .of) (k .for) in let q = k .is in omega arith
+-- it is none of the first six words of a record
+pub link-other : {used w : ℕ} → LinkBelow used w → (j r : ℕ) → r < 6 → j * 8 + r ≡ w → ⊥
+link-other k j r h e = let p = link-words (k .of) (k .for) in let q = k .is in omega arith
 
 -- the search for a key comes to the record that is linked where it ended
 module _ {s : List ℕ} {keyOf : ℕ → ℕ} {used : ℕ} (t : Indexed s keyOf used) (new : ℕ) (some : 0 < new) where

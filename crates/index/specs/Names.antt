@@ -1,4 +1,4 @@
--- Records that have a name: its place in the file and its length, their first two words.
+-- Records that have a name: the places in the file where it begins and ends, their first two words.
 use Prim.Native.Nat.{ℕ, _+_, _*_, _<_}
 use mathlib.Core.Path.{_≡_}
 use mathlib.Core.Bool.{true}
@@ -13,7 +13,7 @@ use Rattle.index.specs.Tree.{lastLink}
 use Rattle.index.specs.Indexed.{Indexed}
 
 unfoldable pub nameOf : List ℕ → List ℕ → ℕ → List ℕ
-nameOf file s i = slice (getD s (i * 8) 0) (getD s (i * 8) 0 + getD s (i * 8 + 1) 0) file
+nameOf file s i = slice (getD s (i * 8) 0) (getD s (i * 8 + 1) 0) file
 
 -- a name as a key: its bytes as one number, the last byte lowest
 unfoldable pub keyFrom : ℕ → List ℕ → ℕ
