@@ -9,7 +9,7 @@ use native.Mathlib.Omega.{arith}
 use lib.Dec.{eqb, ltb}
 use lib.ListN.{length, take, drop, getD, replicate, length-drop, drop-of-length-le, List·getD-eq-default}
 use lib.Seq.{take-all, drop-cons, slice, slice-cons, slice-empty}
-use borrow.Author.Tests.{ltb-true, ltb-false}
+use borrow.Author.Tests.{ltb-true, ltb-false, eqb-true, eq-eqb}
 use Rattle.base.specs.Bytes.{sameBytes}
 
 -- what stands from `at` on is the element there and those from the next place on
@@ -57,3 +57,20 @@ module _ (s : List ℕ) (at : ℕ) (w : List ℕ) (i : ℕ) where
       sameBytes (drop at s) (drop i w) ≡ elim t [ true ↦ sameBytes (drop (at + 1) s) (drop (i + 1) w) | false ↦ false ]
   unfolding sameBytes
   same-at h k e = rw (drop-next s at h, drop-next w i k, e, sameBytes)
+
+-- strings that compare the same are the same
+pub same-is : (a b : List ℕ) → sameBytes a b ≡ true → a ≡ b
+unfolding sameBytes
+same-is [] [] e = refl
+same-is [] (y ∷ b) e = cc
+same-is (x ∷ a) [] e = cc
+same-is (x ∷ a) (y ∷ b) e = go (eqb x y) refl e (same-is a b)
+  where
+    go : (t : Bool) → eqb x y ≡ t → elim t [ true ↦ sameBytes a b | false ↦ false ] ≡ true → (sameBytes a b ≡ true → a ≡ b) → x ∷ a ≡ y ∷ b
+    go true f e rest = λ i. eqb-true x y f i ∷ rest e i
+    go false f e rest = cc
+
+pub same-refl : (a : List ℕ) → sameBytes a a ≡ true
+unfolding sameBytes
+same-refl [] = refl
+same-refl (x ∷ a) = rw (eq-eqb x x refl, sameBytes) (same-refl a)

@@ -1,0 +1,5 @@
+pub mod First
+pub mod Tree
+pub mod Indexed
+pub mod Numbers
+pub mod Names
