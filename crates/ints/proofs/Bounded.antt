@@ -44,6 +44,12 @@ unfolding signed
 abs-signed true n = abs-neg (pos n)
 abs-signed false n = refl
 
+-- a number is its size with its sign
+pub signed-parts : (z : ℤ) → signed (isNeg z) (natAbs z) ≡ z
+unfolding signed isNeg
+signed-parts (pos n) = refl
+signed-parts (negsuc n) = refl
+
 -- ---- a size below 2 ^ 63 fits, and what is read back from the bits is what was written
 
 mag-abs : (z : ℤ) → mag z ≤ natAbs z
@@ -55,6 +61,10 @@ fits-of z h = record { sfits = omega (arith, mag-abs z) }
 
 pub back : (z : ℤ) → natAbs z < 2 ^ 63 → toZ w64 (ofZ w64 z) ≡ z
 back z h = toZ-ofZ (fits-of z h)
+
+-- the same of a field, of which the record has the range itself
+pub in-bits : (z : ℤ) → mag z < 2 ^ 63 → toZ w64 (ofZ w64 z) ≡ z
+in-bits z h = toZ-ofZ (record { sfits = h })
 
 pub pos-bits : (n : ℕ) → n < 2 ^ 63 → toZ w64 n ≡ pos n
 pos-bits n h = toZ-pos w64 h
