@@ -1,0 +1,2 @@
+pub mod EitherSide
+pub mod Written
