@@ -22,6 +22,16 @@ pub false-and : (b : Bool) → (false and b) ≡ false
 unfolding _and_
 false-and b = refl
 
+pub and-true : (b : Bool) → (b and true) ≡ b
+unfolding _and_
+and-true true = refl
+and-true false = refl
+
+pub and-false : (b : Bool) → (b and false) ≡ false
+unfolding _and_
+and-false true = refl
+and-false false = refl
+
 pub ruleset ands = (true-and, false-and)
 
 pub and-i : (a b : Bool) → a ≡ true → b ≡ true → (a and b) ≡ true

@@ -80,7 +80,6 @@ pub fn difference(a: i64, b: i64) -> Reckoned
 
 // a * b, rounded.
 pub fn product(a: i64, b: i64) -> Reckoned
-    requires { ⌜ (natAbs a < 10 ^ 12) × (natAbs b < 10 ^ 12) ⌝ }
     ensures { λ r. ⌜ r ≡ productOf a b ⌝ }
 {
     let p = size_of_product(a, b);

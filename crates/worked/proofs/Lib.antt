@@ -1,2 +1,2 @@
-pub mod EitherSide
-pub mod Written
+pub mod Cases
+pub mod Numbers

@@ -1,1 +1,1 @@
-// Document 01's worked examples, proved from the definitions that the code is held to: see proofs/.
+// The worked cases of document 01, proved from the definitions: specs/ has the tables, proofs/ their statements. No code.

@@ -1,0 +1,33 @@
+-- The worked cases of document 01 hold of the definitions: both sides compute to the same answers.
+-- Assumes nothing.
+use mathlib.Core.Path.{_≡_, refl}
+use mathlib.Core.List.{map}
+use Rattle.base.specs.And.{_and_}
+use Rattle.base.specs.Or.{_or_}
+use Rattle.base.specs.Text.{bytes}
+use Rattle.ints.specs.Ints.{signed, eqZ, isNeg}
+use Rattle.points.specs.Points.{samePoint}
+use Rattle.digits.specs.Digits.{isDigit, allDigits, valueOf}
+use Rattle.digits.specs.Sign.{hasMinus, afterSign}
+use Rattle.digits.specs.Zeros.{dropLeadingZeros, before, dropTrailingZeros}
+use Rattle.decimal.specs.Point.{beforePoint, afterPoint}
+use Rattle.decimal.specs.Decimal.{isDecimal, inMillionths, amountOf, numeralOf, decimalOf}
+use Rattle.reckon.specs.Rounding.{nearest, keptOf, productOf, quotientOf, reckonedRefusal}
+use Rattle.reckon.specs.Thermal.{gapFits, thermalFits}
+use Rattle.reckon.specs.ArcCentre.{seenFrom, parallel, between, strictlyBetween, nonsenseCentre}
+use Rattle.worked.specs.Questions.{worth, reading, readingAt, reckonedAs, answer}
+use Rattle.worked.specs.Table.{said, questionOf, saidOf, table, further}
+
+pub either-side-of-a-line : map (λ r. answer (questionOf r)) table ≡ map (λ r. said (saidOf r)) table
+unfolding answer questionOf said saidOf table worth reading readingAt reckonedAs
+    bytes isDigit allDigits valueOf hasMinus afterSign dropLeadingZeros before dropTrailingZeros beforePoint afterPoint isDecimal inMillionths amountOf numeralOf decimalOf
+    signed eqZ isNeg _and_ _or_ nearest keptOf productOf quotientOf reckonedRefusal gapFits thermalFits
+    samePoint seenFrom parallel between strictlyBetween nonsenseCentre
+either-side-of-a-line = refl
+
+pub decided : map (λ r. answer (questionOf r)) further ≡ map (λ r. said (saidOf r)) further
+unfolding answer questionOf said saidOf further worth reading readingAt reckonedAs
+    bytes isDigit allDigits valueOf hasMinus afterSign dropLeadingZeros before dropTrailingZeros beforePoint afterPoint isDecimal inMillionths amountOf numeralOf decimalOf
+    signed eqZ isNeg _and_ _or_ nearest keptOf productOf quotientOf reckonedRefusal
+    samePoint seenFrom parallel between strictlyBetween nonsenseCentre
+decided = refl

@@ -1,0 +1,22 @@
+-- Written numbers say what the table has: each row is what the definitions make of it.
+-- Assumes nothing.
+use mathlib.Core.Path.{_≡_, refl}
+use mathlib.Core.List.{map}
+use Rattle.base.specs.And.{_and_}
+use Rattle.base.specs.Or.{_or_}
+use Rattle.base.specs.Text.{bytes}
+use Rattle.ints.specs.Ints.{signed}
+use Rattle.digits.specs.Digits.{isDigit, allDigits, isNumber, valueOf}
+use Rattle.digits.specs.Sign.{hasMinus, afterSign}
+use Rattle.digits.specs.Zeros.{dropLeadingZeros, before, dropTrailingZeros}
+use Rattle.digits.specs.Coordinate.{wholeOf, coordinateOf}
+use Rattle.digits.specs.Natural.{naturalOf}
+use Rattle.decimal.specs.Point.{beforePoint, afterPoint}
+use Rattle.decimal.specs.Decimal.{isDecimal, inMillionths, amountOf, numeralOf, decimalOf}
+use Rattle.worked.specs.Written.{worth, table, read}
+
+pub written-numbers : map read table ≡ table
+unfolding read table worth
+    bytes isDigit allDigits isNumber valueOf hasMinus afterSign dropLeadingZeros before dropTrailingZeros beforePoint afterPoint
+    wholeOf coordinateOf naturalOf isDecimal inMillionths amountOf numeralOf decimalOf signed _and_ _or_
+written-numbers = refl

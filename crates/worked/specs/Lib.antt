@@ -1,0 +1,3 @@
+pub mod Questions
+pub mod Table
+pub mod Written
