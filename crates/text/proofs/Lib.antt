@@ -1,0 +1,3 @@
+pub mod Among
+pub mod First
+pub mod Name

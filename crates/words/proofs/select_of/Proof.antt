@@ -1,0 +1,28 @@
+-- `words::select_of` meets its contract: the number is what follows the D.
+-- Assumes nothing.
+use Rattle.words.specs.Words.{selectOf}
+use borrow.Author.Needs.{needs}
+use Rattle.words.proofs.select_of.Statement.{statement}
+use Rattle.words.proofs.select_of.Tie as tie
+use Rattle.words.proofs.select_of.Reads as reads
+use Rattle.words.proofs.select_of.Lts as lts
+use Rattle.base.proofs.from_on.Reads as from-on-reads
+use Rattle.command.proofs.aperture_number.Reads as aperture-number-reads
+use Rattle.command.proofs.judged.Reads as judged-reads
+
+from-on-requires : tie.Need-from-on-requires
+from-on-requires c κs = search needs
+
+aperture-number-requires : tie.Need-aperture-number-requires
+aperture-number-requires c κs = search needs
+
+judged-requires : tie.Need-judged-requires
+judged-requires c κs = search needs
+
+returns : tie.Need-returns
+unfolding selectOf
+returns c = cc
+
+pub select-of-spec : {M : Type 1} → statement M
+select-of-spec =
+    tie.close (tie.spec from-on-requires aperture-number-requires judged-requires returns)

@@ -1,0 +1,57 @@
+-- Word commands (01, What is read; decisions 18 to 28).
+use Prim.Native.Nat.{ℕ}
+use Prim.Native.Char.{code}
+use mathlib.Core.List.{List, [], _∷_}
+use lib.ListN.{drop}
+use Rattle.text.specs.Text.{_is_, _begins_, _ends_, among}
+use Rattle.command.specs.Choose.{pick, choose}
+use Rattle.command.specs.Numbers.{judged, apertureNumber}
+use Rattle.command.specs.declared.Number.{Number}
+use Rattle.command.specs.declared.Command.{Command}
+use Rattle.command.specs.declared.Command.the-variants.{
+  NotForm,
+  Comment,
+  Linear,
+  Clockwise,
+  Counterclockwise,
+  MultiQuadrant,
+  RegionStart,
+  RegionEnd,
+  End,
+  Select,
+}
+use Rattle.operations.specs.Operations.{drawOf, moveOf, flashOf}
+
+-- G04 and a string, in which no `%` stands
+unfoldable pub commentOf : List ℕ → Command
+commentOf s = pick (among s (code "%")) NotForm Comment
+
+-- Dn
+unfoldable pub selectOf : List ℕ → Command
+selectOf s = let n : Number = apertureNumber (drop 1 s) in judged (n .formless) (n .long) (Select (n .value))
+
+-- the codes that stand alone
+unfoldable pub codeOf : List ℕ → Command
+codeOf s =
+    choose
+    ((s is "G01", Linear)
+    ∷ (s is "G02", Clockwise)
+    ∷ (s is "G03", Counterclockwise)
+    ∷ (s is "G75", MultiQuadrant)
+    ∷ (s is "G36", RegionStart)
+    ∷ (s is "G37", RegionEnd)
+    ∷ (s is "M02", End)
+    ∷ [])
+    NotForm
+
+-- a word command; n is that of FS, 0 before it
+unfoldable pub wordOf : ℕ → List ℕ → Command
+wordOf n s =
+    choose
+    ((s begins "G04", commentOf s)
+    ∷ (s ends "D01", drawOf n s)
+    ∷ (s ends "D02", moveOf n s)
+    ∷ (s ends "D03", flashOf n s)
+    ∷ (s begins "D", selectOf s)
+    ∷ [])
+    (codeOf s)
