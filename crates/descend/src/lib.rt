@@ -1,0 +1,123 @@
+// The total, one item, and a run of items of a sheet, by descent: no copy is written out.
+use place::Item;
+use place::Pose;
+use sheet::Container;
+use sheet::Entry;
+use sheet::Role;
+ghost use mathlib.Core.Path.{_≡_};
+ghost use Prim.Native.Nat.{_≤_, _<_, _+_};
+ghost use Rattle.sheet.specs.Records.{entryOf, entryRoom};
+ghost use Rattle.descend.specs.Search.{Found, Held, Split, copyOf, Descends, Asked, Answered};
+ghost use Rattle.descend.specs.Answers.{totalOf, answerOf};
+
+// How many items stand before entry i in its container.
+fn before_at(e: &[u64], i: usize) -> u64
+    requires { ⌜ i < entryRoom (now e) ⌝ }
+    ensures { λ r. ⌜ r ≡ entryOf (now (e .entry)) i .before ⌝ }
+{
+    base::word_at(e, i * 15 + 1)
+}
+
+// The last entry of a container that has at most n items before it.
+fn find(e: &[u64], k: Container, n: u64) -> usize
+    requires { ⌜ (k .first + k .len ≤ entryRoom (now e)) × (0 < k .len) × (entryOf (now e) (k .first) .before ≤ n) ⌝ }
+    ensures { λ q. ⌜ Found (now (e .entry)) k n q ⌝ }
+{
+    let mut low = k.first;
+    let mut high = k.first + k.len;
+    while low + 1 < high {
+        let middle = low + (high - low) / 2;
+        if before_at(e, middle) <= n {
+            low = middle;
+        } else {
+            high = middle;
+        }
+    }
+    low
+}
+
+// One step of the descent: the item itself, or which item of which lower container it is, and how it is placed.
+pub enum Step {
+    Here(Item),
+    Below(Container, u64, Pose),
+}
+
+// Item j of the copies of a repeat: which item of the body, in which copy.
+fn copy_of(r: Entry, j: u64) -> Step
+    requires { ⌜ Split r j ⌝ }
+    ensures { λ s. ⌜ s ≡ copyOf r j ⌝ }
+{
+    let m = r.count;
+    let column = r.sy * m;
+    let q = j % column;
+    let pose = place::step_to(sheet::repeat_of(r), j / column, q / m);
+    Step::Below(sheet::body_of(r), q % m, pose)
+}
+
+// Where item n of a container lies.
+fn descend(e: &[u64], a: &[u64], k: Container, n: u64) -> Step
+    requires { ⌜ Held (now e) (now a) k n ⌝ }
+    ensures { λ s. ⌜ Descends (now (e .entry)) (now (a .entry)) k n s ⌝ }
+{
+    let r = sheet::entry_at(e, find(e, k, n));
+    let j = n - r.before;
+    match sheet::role_of(r.kind) {
+        Role::Uses => Step::Below(
+            sheet::block_at(a, sheet::index(r.who)),
+            j,
+            sheet::pose_of(r),
+        ),
+        Role::Repeats => copy_of(r, j),
+        Role::Draws => Step::Here(sheet::draw(r)),
+        Role::Defines => Step::Here(sheet::draw(r)),
+        Role::Unknown => Step::Here(sheet::draw(r)),
+    }
+}
+
+// Item n of a container, which is no higher than `left`.
+fn item_at(e: &[u64], a: &[u64], left: u64, k: Container, n: u64) -> Item
+    requires { ⌜ Asked (now e) (now a) left k n ⌝ }
+    ensures { λ t. ⌜ Answered (now (e .entry)) (now (a .entry)) left k n t ⌝ }
+{
+    match descend(e, a, k, n) {
+        Step::Here(t) => t,
+        Step::Below(under, j, m) => place::place_item(m, item_at(e, a, left - 1, under, j)),
+    }
+}
+
+// The number of items.
+pub enum Total {
+    Is(u64),
+    NotSheet,
+}
+
+// An item.
+pub enum Answer {
+    Is(Item),
+    Past,
+    NotSheet,
+}
+
+// The number of items of a sheet.
+pub fn sheet_total(head: &[u64; 8], e: &[u64], a: &[u64]) -> Total
+    ensures { λ r. ⌜ r ≡ totalOf (now (head .entry)) (now (e .entry)) (now (a .entry)) ⌝ }
+{
+    if inspect::is_sheet(head, e, a) {
+        return Total::Is(head[7]);
+    }
+    Total::NotSheet
+}
+
+// Item n of a sheet.
+pub fn sheet_item(head: &[u64; 8], e: &[u64], a: &[u64], n: u64) -> Answer
+    ensures { λ r. ⌜ r ≡ answerOf (now (head .entry)) (now (e .entry)) (now (a .entry)) n ⌝ }
+{
+    if inspect::is_sheet(head, e, a) {
+        let top = sheet::top_of(head);
+        if n < top.items {
+            return Answer::Is(item_at(e, a, 10, top, n));
+        }
+        return Answer::Past;
+    }
+    Answer::NotSheet
+}
