@@ -1,0 +1,3 @@
+pub mod Amounts
+pub mod Examples
+pub mod Rotation
