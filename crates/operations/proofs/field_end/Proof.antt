@@ -1,3 +1,4 @@
+-- `operations::field_end` meets its contract: the first byte says whether the field is there.
 use mathlib.Core.Path.{sym}
 use Rattle.base.proofs.Tests.{tests}
 -- `operations::field_end` meets its contract: the first byte picks the case of `fieldEnd`.

@@ -1,3 +1,4 @@
+-- `operations::field_of` meets its contract: the first byte says whether the field is there, and the digits behind it what it is.
 use mathlib.Core.Path.{sym}
 use Rattle.base.proofs.Tests.{tests}
 -- `operations::field_of` meets its contract: the first byte picks the case of `fieldOf`.

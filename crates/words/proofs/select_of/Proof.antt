@@ -4,11 +4,6 @@ use Rattle.words.specs.Words.{selectOf}
 use borrow.Author.Needs.{needs}
 use Rattle.words.proofs.select_of.Statement.{statement}
 use Rattle.words.proofs.select_of.Tie as tie
-use Rattle.words.proofs.select_of.Reads as reads
-use Rattle.words.proofs.select_of.Lts as lts
-use Rattle.base.proofs.from_on.Reads as from-on-reads
-use Rattle.command.proofs.aperture_number.Reads as aperture-number-reads
-use Rattle.command.proofs.judged.Reads as judged-reads
 
 from-on-requires : tie.Need-from-on-requires
 from-on-requires c κs = search needs
