@@ -140,7 +140,7 @@ fn command_at(file: &[u8], place: usize) -> Scan
 }
 
 // The first place from `from` on that holds no CR or LF.
-fn skip(file: &[u8], from: usize) -> usize
+pub fn skip(file: &[u8], from: usize) -> usize
     ensures { λ r. ⌜ r ≡ skipped (now (file .entry)) from ⌝ }
 {
     let mut at = from;

@@ -1,0 +1,88 @@
+-- `apertures::parameters_of` meets its contract. The loop's invariant: what is gathered, with the parameters from here on, is what all
+-- of them come to; no more of them are counted than bytes were passed.
+-- Assumes nothing.
+use Rattle.apertures.proofs.Texts.{gather-next, gather-end}
+use Rattle.apertures.specs.Parameters.{texts, more, gathered, parametersOf}
+use Rattle.text.proofs.First.{first-from}
+use borrow.Author.Needs.{needs}
+use native.Mathlib.Omega.{arith}
+use lib.ListN.{length, drop}
+use lib.Dec.{eqb}
+use mathlib.Core.Path.{_≡_, refl, sym, _∙_}
+use Prim.Native.Char.{code}
+use Prim.Native.Nat.{_-_, _+_, _≤_}
+use Rattle.apertures.proofs.parameters_of.Statement.{statement}
+use Rattle.apertures.proofs.parameters_of.Tie as tie
+
+abbrev Inv-loop : tie.InvT-loop
+Inv-loop s comma formless₀ long₀ count₀ at₀ formless long count at = (gathered (record { formless = formless; long = long; count = count }) (texts (drop at s)) ≡ parametersOf (drop comma s)) × (count ≤ at)
+
+abbrev μ-loop : tie.MeasureT-loop
+μ-loop s comma formless₀ long₀ count₀ at₀ formless long count at = length s - at
+
+loop-holds : tie.Need-loop-holds Inv-loop μ-loop
+unfolding parametersOf
+loop-holds c = (refl, omega arith)
+
+add-find : tie.Need-add-find Inv-loop μ-loop
+add-find c = omega arith
+
+find-requires : tie.Need-find-requires Inv-loop μ-loop
+find-requires c κs = search needs
+
+add-part : tie.Need-add-part Inv-loop μ-loop
+add-part c = omega arith
+
+part-requires : tie.Need-part-requires Inv-loop μ-loop
+part-requires c κs = search needs
+
+size-of-requires : tie.Need-size-of-requires Inv-loop μ-loop
+size-of-requires c κs = search needs
+
+either-requires : tie.Need-either-requires Inv-loop μ-loop
+either-requires c κs = search needs
+
+either-requires-2 : tie.Need-either-requires-2 Inv-loop μ-loop
+either-requires-2 c κs = search needs
+
+add-count : tie.Need-add-count Inv-loop μ-loop
+add-count c = omega (arith, c .before .before .before .before .before .before .loop .inv .1)
+
+loop-less : tie.Need-loop-less Inv-loop μ-loop
+loop-less c =
+    let l = c .before .before .before .before .before .before .loop in
+    omega (arith, first-from (λ b. eqb b (code "X")) (c .before .before .before .before .before .before .before .before .args .s .now) (l .at + 1), c .before .before .before .before .find .ensures)
+
+loop-again : tie.Need-loop-again Inv-loop μ-loop
+unfolding more
+loop-again c =
+    let l = c .before .before .before .before .before .before .loop in
+    let s = c .before .before .before .before .before .before .before .before .args .s .now in (
+      simp (c .before .either .ensures, c .either2 .ensures, c .before .before .size-of .ensures, c .before .before .before .part .ensures, c .before .before .before .before .find .ensures)
+          (sym (gather-next s (l .at) (c .before .before .before .before .before .loop-test .taken) (record { formless = l .formless; long = l .long; count = l .count })) ∙ l .inv .0),
+      omega (arith, first-from (λ b. eqb b (code "X")) s (l .at + 1), c .before .before .before .before .find .ensures, l .inv .1),
+    )
+
+returns : tie.Need-returns Inv-loop μ-loop
+returns c =
+    let l = c .before .loop in
+    sym (gather-end _ _ (c .loop-test .left) (record { formless = l .formless; long = l .long; count = l .count })) ∙ l .inv .0
+
+pub parameters-of-spec : {M : Type 1} → statement M
+parameters-of-spec =
+    tie.close
+    (tie.spec
+    Inv-loop
+    μ-loop
+    loop-holds
+    add-find
+    find-requires
+    add-part
+    part-requires
+    size-of-requires
+    either-requires
+    either-requires-2
+    add-count
+    loop-less
+    loop-again
+    returns)

@@ -1,0 +1,4 @@
+pub mod Blocks
+pub mod Definitions
+pub mod Macros
+pub mod Parameters

@@ -1,0 +1,134 @@
+// Commands that make apertures: AD, AB, and AM up to its blocks. The text of AD and AB is that of one data block, without its `*`.
+ghost use mathlib.Core.Path.{_≡_};
+ghost use mathlib.Core.Bool.{not};
+ghost use lib.ListN.{drop};
+ghost use Rattle.digits.specs.Digits.{isDigit};
+ghost use Rattle.text.specs.First.{first};
+ghost use Rattle.apertures.specs.Blocks.{blockStart, blockOf};
+ghost use Rattle.apertures.specs.Definitions.{definition, apertureOf};
+ghost use Rattle.apertures.specs.Macros.{macroOf};
+ghost use Rattle.apertures.specs.Parameters.{parametersOf};
+use command::Command;
+use command::Size;
+use command::Span;
+
+// The parameters of an AD: whether one is no decimal, whether one is too long, and how many there are.
+pub struct Parameters {
+    pub formless: bool,
+    pub long: bool,
+    pub count: usize,
+}
+
+// `ABD` and what follows it.
+fn block_start(t: &[u8]) -> Command
+    ensures { λ r. ⌜ r ≡ blockStart (now (t .entry)) ⌝ }
+{
+    let n = command::aperture_number(t);
+    command::judged(n.formless, n.long, Command::BlockStart(n.value))
+}
+
+// AB.
+pub fn block_of(s: &[u8]) -> Command
+    ensures { λ r. ⌜ r ≡ blockOf (now (s .entry)) ⌝ }
+{
+    if text::is(s, b"AB") {
+        return Command::BlockEnd;
+    }
+    if text::begins(s, b"ABD") {
+        return block_start(base::from_on(s, 3));
+    }
+    Command::NotForm
+}
+
+// The first place from `from` on that holds no digit.
+fn digits_end(s: &[u8], from: usize) -> usize
+    ensures { λ r. ⌜ r ≡ first (λ b. not (isDigit b)) (now (s .entry)) from ⌝ }
+{
+    let mut at = from;
+    while at < s.len() {
+        if digits::is_digit(s[at]) {
+            at += 1;
+        } else {
+            return at;
+        }
+    }
+    at
+}
+
+// The parameters of an AD, from the comma on.
+fn parameters_of(s: &[u8], comma: usize) -> Parameters
+    ensures { λ r. ⌜ r ≡ parametersOf (drop comma (now (s .entry))) ⌝ }
+{
+    let mut formless = false;
+    let mut long = false;
+    let mut count: usize = 0;
+    let mut at = comma;
+    while at < s.len() {
+        let next = text::find(s, at + 1, b'X');
+        let d = command::size_of(base::part(s, at + 1, next));
+        formless = base::either(formless, d.formless);
+        long = base::either(long, d.long);
+        count += 1;
+        at = next;
+    }
+    Parameters {
+        formless,
+        long,
+        count,
+    }
+}
+
+// An AD with its number up to p and its name up to q.
+fn defined(s: &[u8], p: usize, q: usize) -> Command
+    ensures { λ r. ⌜ r ≡ definition (now (s .entry)) p q ⌝ }
+{
+    let n = command::aperture_number(base::part(s, 3, p));
+    let named = text::is_name(base::part(s, p, q));
+    let ps = parameters_of(s, q);
+    let formless = base::either(base::either(n.formless, !named), ps.formless);
+    let long = base::either(base::either(n.long, ps.long), 65 <= ps.count);
+    let name = Span { from: p, to: q };
+    let parameters = Span {
+        from: q,
+        to: s.len(),
+    };
+    command::judged(
+        formless,
+        long,
+        Command::Aperture {
+            number: n.value,
+            name,
+            parameters,
+            count: ps.count,
+        },
+    )
+}
+
+// AD.
+pub fn aperture_of(s: &[u8]) -> Command
+    ensures { λ r. ⌜ r ≡ apertureOf (now (s .entry)) ⌝ }
+{
+    if text::begins(s, b"ADD") {
+        let p = digits_end(s, 3);
+        let q = text::find(s, p, b',');
+        return defined(s, p, q);
+    }
+    Command::NotForm
+}
+
+// AM with its name, whatever its blocks are.
+pub fn macro_of(s: &[u8]) -> Command
+    ensures { λ r. ⌜ r ≡ macroOf (now (s .entry)) ⌝ }
+{
+    let q = text::find(s, 2, b'*');
+    if q < s.len() {
+        let headed = base::both(text::begins(s, b"AM"), text::is_name(base::part(s, 2, q)));
+        let name = Span { from: 2, to: q };
+        let blocks = Span {
+            from: q + 1,
+            to: s.len(),
+        };
+        return command::pick(headed, Command::Macro { name, blocks }, Command::NotForm);
+    }
+    Command::NotForm
+}

@@ -1,0 +1,139 @@
+// Commands that set something or repeat it: FS, MO, LP, LM, LR, LS and SR. A text is that of one data block, without its `*`.
+ghost use mathlib.Core.Path.{_≡_};
+ghost use Rattle.settings.specs.Header.{formatOf, unitOf};
+ghost use Rattle.settings.specs.Transformations.{rotationOf, scaleOf, mirrorOf, transformationOf};
+ghost use Rattle.settings.specs.Repeats.{repeats, repeatStart, repeatOf};
+use command::Command;
+use command::Number;
+use command::Size;
+
+// FS.
+pub fn format_of(s: &[u8]) -> Command
+    ensures { λ r. ⌜ r ≡ formatOf (now (s .entry)) ⌝ }
+{
+    let n = base::byte_at(s, 5);
+    if n < b'1' {
+        return Command::NotForm;
+    }
+    if n > b'6' {
+        return Command::NotForm;
+    }
+    let form = [b'F', b'S', b'L', b'A', b'X', n, b'6', b'Y', n, b'6'];
+    command::pick(
+        text::is(s, &form),
+        Command::Format((n - b'0') as usize),
+        Command::NotForm,
+    )
+}
+
+// MO.
+pub fn unit_of(s: &[u8]) -> Command
+    ensures { λ r. ⌜ r ≡ unitOf (now (s .entry)) ⌝ }
+{
+    let inches = command::row(s, b"MOIN", Command::Inches, Command::NotForm);
+    command::row(s, b"MOMM", Command::Millimetres, inches)
+}
+
+// LR.
+fn rotation_of(s: &[u8]) -> Command
+    ensures { λ r. ⌜ r ≡ rotationOf (now (s .entry)) ⌝ }
+{
+    let d = command::size_of(base::from_on(s, 2));
+    let angle = d.value;
+    command::judged(d.formless, d.long, Command::Rotation(angle))
+}
+
+// LS.
+fn scale_of(s: &[u8]) -> Command
+    ensures { λ r. ⌜ r ≡ scaleOf (now (s .entry)) ⌝ }
+{
+    let d = command::size_of(base::from_on(s, 2));
+    let scale = d.value;
+    command::judged(d.formless, d.long, Command::Scale(scale))
+}
+
+// LM.
+fn mirror_of(s: &[u8]) -> Command
+    ensures { λ r. ⌜ r ≡ mirrorOf (now (s .entry)) ⌝ }
+{
+    let xy = command::row(
+        s,
+        b"LMXY",
+        Command::Mirror { x: true, y: true },
+        Command::NotForm,
+    );
+    let y = command::row(s, b"LMY", Command::Mirror { x: false, y: true }, xy);
+    let x = command::row(s, b"LMX", Command::Mirror { x: true, y: false }, y);
+    command::row(s, b"LMN", Command::Mirror { x: false, y: false }, x)
+}
+
+// LP, LM, LR and LS.
+pub fn transformation_of(s: &[u8]) -> Command
+    ensures { λ r. ⌜ r ≡ transformationOf (now (s .entry)) ⌝ }
+{
+    if text::is(s, b"LPD") {
+        return Command::Dark;
+    }
+    if text::is(s, b"LPC") {
+        return Command::Clear;
+    }
+    if text::begins(s, b"LM") {
+        return mirror_of(s);
+    }
+    if text::begins(s, b"LR") {
+        return rotation_of(s);
+    }
+    if text::begins(s, b"LS") {
+        return scale_of(s);
+    }
+    Command::NotForm
+}
+
+// A repeat of these numbers.
+fn repeated(nx: Number, ny: Number, dx: Size, dy: Size) -> Command
+    ensures { λ r. ⌜ r ≡ repeats nx ny dx dy ⌝ }
+{
+    let formless = base::either(
+        base::either(base::either(nx.formless, ny.formless), dx.formless),
+        dy.formless,
+    );
+    let x = dx.value;
+    let y = dy.value;
+    command::judged(
+        formless,
+        base::either(dx.long, dy.long),
+        Command::RepeatStart {
+            nx: nx.value,
+            ny: ny.value,
+            dx: x,
+            dy: y,
+        },
+    )
+}
+
+// What follows `SRX`.
+fn repeat_start(x: &[u8]) -> Command
+    ensures { λ r. ⌜ r ≡ repeatStart (now (x .entry)) ⌝ }
+{
+    let y = text::after(x, b'Y');
+    let i = text::after(y, b'I');
+    let j = text::after(i, b'J');
+    let nx = command::copies(text::before(x, b'Y'));
+    let ny = command::copies(text::before(y, b'I'));
+    let dx = command::size_of(text::before(i, b'J'));
+    let dy = command::size_of(j);
+    repeated(nx, ny, dx, dy)
+}
+
+// SR.
+pub fn repeat_of(s: &[u8]) -> Command
+    ensures { λ r. ⌜ r ≡ repeatOf (now (s .entry)) ⌝ }
+{
+    if text::is(s, b"SR") {
+        return Command::RepeatEnd;
+    }
+    if text::begins(s, b"SRX") {
+        return repeat_start(base::from_on(s, 3));
+    }
+    Command::NotForm
+}
