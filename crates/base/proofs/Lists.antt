@@ -20,6 +20,7 @@ drop-next s at h = rw (add-one, drop-cons s at 0)
 pub slice-next : (s : List ℕ) (i to : ℕ) → i < to → to ≤ length s → slice i to s ≡ getD s i 0 ∷ slice (i + 1) to s
 slice-next s i to h k = rw (add-one, slice-cons i to s 0 h k)
 
+-- a part that ends where it begins is empty
 pub slice-none : (s : List ℕ) (i to : ℕ) → i ≤ to → to ≤ i → slice i to s ≡ []
 slice-none s i to h k = let e : i ≡ to = omega arith in rw e (slice-empty to s)
 

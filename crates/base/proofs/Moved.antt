@@ -10,9 +10,11 @@ use lib.ListN.{length, getD, set, length-set}
 use lib.Seq.{getD-set-same, getD-set-other}
 use Rattle.base.specs.Moved.{Moved}
 
+-- no word moved: nothing changed
 pub moved-none : (l : List ℕ) (dst src : ℕ) → Moved l l dst src 0
 moved-none l dst src = record { as-long = refl; inside = λ i lt. absurd (omega arith); below = λ k lt. refl; above = λ k lt. refl }
 
+-- one word more: the store at the next place leaves all else as it was
 pub moved-more : (l l′ : List ℕ) (dst src n : ℕ) → dst + n < length l → dst + n ≤ src + n → Moved l l′ dst src n → Moved l (set l′ (dst + n) (getD l′ (src + n) 0)) dst src (n + 1)
 moved-more l l′ dst src n room low m =
     let long = m .as-long in

@@ -9,6 +9,7 @@ use lib.ListN.{length, getD, length-append, List·getD-append}
 use lib.Seq.{getD-append-add}
 use Rattle.base.specs.Run.{run, sums}
 
+-- equal numbers have equal sums, and n times the same is a product
 pub sums-cong : (F G : ℕ → ℕ) (p n : ℕ) → ((i : ℕ) → i < n → F (p + i) ≡ G (p + i)) → sums F p n ≡ sums G p n
 unfolding sums
 sums-cong F G p zero h = refl
@@ -29,6 +30,7 @@ factor-pos k n zero l = omega arith
 factor-pos k n (suc m) l = omega arith
 
 module _ {A : Type 0} (f : ℕ → List A) where
+  -- as long as the pieces together
   pub length-run : (p n : ℕ) → length (run f p n) ≡ sums (λ i. length (f i)) p n
   unfolding run sums
   length-run p zero = refl
@@ -80,6 +82,7 @@ pub below-cons : (P : ℕ → Type 0) (n : ℕ) → P 0 → ((i : ℕ) → i < n
 below-cons P n z s zero l = z
 below-cons P n z s (suc i) l = s i (le-of-suc-le-suc l)
 
+-- one number more
 pub sums-snoc : (F : ℕ → ℕ) (p n : ℕ) → sums F p (suc n) ≡ sums F p n + F (p + n)
 unfolding sums
 sums-snoc F p zero = rw (add-zero p) (omega arith)
