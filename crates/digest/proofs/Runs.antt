@@ -30,8 +30,8 @@ pub length-empty : length empty ≡ 64
 unfolding empty
 length-empty = length-replicate {A = ℕ} 64 0
 
+-- a byte that leaves the block open, and one that fills it
 module _ (s : State) (b : ℕ) where
-  -- a byte that leaves the block open, and one that fills it
   pub pushed-open : (s .length % 64 ≡ 63 → ⊥) → pushed s b ≡ state (s .words) (set (s .rest) (s .length % 64) b) ((s .length + 1) % 2 ^ 64)
   unfolding pushed
   pushed-open h = rw (ne-eqb _ _ h)
@@ -40,33 +40,21 @@ module _ (s : State) (b : ℕ) where
   unfolding pushed
   pushed-full h = rw (eq-eqb _ _ h)
 
-  by-length : (t : Bool) (v w : Words) (x y : List ℕ) (n : ℕ) → cond t (state v x n) (state w y n) .length ≡ n
-  by-length true v w x y n = refl
-  by-length false v w x y n = refl
+either : (t : Bool) (x y : List ℕ) → length x ≡ 64 → length y ≡ 64 → length (cond t x y) ≡ 64
+either true x y p q = p
+either false x y p q = q
 
-  pushed-length : pushed s b .length ≡ (s .length + 1) % 2 ^ 64
-  unfolding pushed
-  pushed-length = by-length (eqb (s .length % 64) 63) _ _ _ _ _
-
-  by-rest : (t : Bool) (v w : Words) (x y : List ℕ) (n : ℕ) → length x ≡ 64 → length y ≡ 64 → length (cond t (state v x n) (state w y n) .rest) ≡ 64
-  by-rest true v w x y n p q = p
-  by-rest false v w x y n p q = q
-
-  pushed-rest : length (s .rest) ≡ 64 → length (pushed s b .rest) ≡ 64
-  unfolding pushed
-  pushed-rest h = by-rest (eqb (s .length % 64) 63) _ _ _ _ _ length-empty (length-set (s .rest) (s .length % 64) b ∙ h)
-
+-- the length, and the room for a block
 pub fed-length : (s : State) (t : List ℕ) → s .length < 2 ^ 64 → fed s t .length ≡ (s .length + length t) % 2 ^ 64
-unfolding fed
+unfolding fed pushed
 fed-length s [] h = omega arith
-fed-length s (b ∷ t) h =
-    let p = pushed-length s b in
-    fed-length (pushed s b) t (omega arith) ∙ rw (p, counted (s .length) 1 (length t) (length (b ∷ t)) (omega arith))
+fed-length s (b ∷ t) h = fed-length (pushed s b) t (omega arith) ∙ counted (s .length) 1 (length t) (length (b ∷ t)) (omega arith)
 
 pub fed-rest : (s : State) (t : List ℕ) → length (s .rest) ≡ 64 → length (fed s t .rest) ≡ 64
-unfolding fed
+unfolding fed pushed
 fed-rest s [] h = h
-fed-rest s (b ∷ t) h = fed-rest (pushed s b) t (pushed-rest s b h)
+fed-rest s (b ∷ t) h =
+    fed-rest (pushed s b) t (either (eqb (s .length % 64) 63) _ _ length-empty (length-set (s .rest) (s .length % 64) b ∙ h))
 
 -- the bytes that fill the block: they go to their places, and the block is worked into the words
 pub fed-full : (s : State) (t : List ℕ) → s .length % 64 + length t ≡ 64 →

@@ -23,8 +23,8 @@ started = state initial empty 0
 unfoldable pub pushed : State → ℕ → State
 pushed s b =
     let x = set (s .rest) (s .length % 64) b in
-    let n = (s .length + 1) % 2 ^ 64 in
-    cond (eqb (s .length % 64) 63) (state (block x (s .words)) empty n) (state (s .words) x n)
+    let full = eqb (s .length % 64) 63 in
+    state (cond full (block x (s .words)) (s .words)) (cond full empty x) ((s .length + 1) % 2 ^ 64)
 
 -- a run more
 unfoldable pub fed : State → List ℕ → State

@@ -80,7 +80,13 @@ returns-2 c =
     let t = a .t .now in
     let end = length t - (length t - lead) % 64 in
     let short : length (drop end t) ≤ length t - end = simp length-drop (omega arith) in
-    rw (c .feed-bytes3 .ensures, c .before .before .before .feed-blocks .ensures, c .before .before .wrapping-add-u64 .ensures, c .before .before .before .before .before .feed-bytes2 .ensures, take-all (length t - end) (drop end t) short)
+    rw (
+      c .feed-bytes3 .ensures,
+      c .before .before .before .feed-blocks .ensures,
+      c .before .before .wrapping-add-u64 .ensures,
+      c .before .before .before .before .before .feed-bytes2 .ensures,
+      take-all (length t - end) (drop end t) short,
+    )
     (fed-parts (a .s) t lead end (fits s) (size s) (omega arith) (omega arith) (omega arith) (omega arith))
 
 pub feed-spec : {M : Type 1} → statement M

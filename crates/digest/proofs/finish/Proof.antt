@@ -45,7 +45,14 @@ returns : tie.Need-returns
 unfolding finished tail
 returns c =
     let a = c .before .before .before .before .before .before .before .before .args in
-    rw (c .output-of .ensures, c .before .feed2 .ensures, c .before .before .before .bytes-of .ensures, c .before .before .before .before .before .feed .ensures, first-padding (a .s .length), length-field (a .s .length))
+    rw (
+      c .output-of .ensures,
+      c .before .feed2 .ensures,
+      c .before .before .before .bytes-of .ensures,
+      c .before .before .before .before .before .feed .ensures,
+      first-padding (a .s .length),
+      length-field (a .s .length),
+    )
     (ap (λ q. output (q .words)) (sym (fed-append (a .s) (padding (a .s .length)) (lengthOf (a .s .length)))))
 
 pub finish-spec : {M : Type 1} → statement M
