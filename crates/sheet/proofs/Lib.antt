@@ -1,4 +1,5 @@
 pub mod Records
+pub mod Stored
 pub mod Every
 pub mod Conditions
 pub mod Sound

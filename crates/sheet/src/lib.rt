@@ -4,8 +4,9 @@ use place::Pose;
 use place::Repeat;
 use points::Point;
 ghost use mathlib.Core.Path.{_≡_};
-ghost use Prim.Native.Nat.{_-_, _≤_};
-ghost use Rattle.sheet.specs.Records.{entryIn, entryOf, apertureIn, apertureOf, roleOf, entryRoom, apertureRoom};
+ghost use Prim.Native.Nat.{_+_, _-_, _*_, _≤_, _<_};
+ghost use lib.ListN.{length};
+ghost use Rattle.sheet.specs.Records.{entryIn, entryOf, apertureIn, apertureOf, roleOf, entryRoom, apertureRoom, entryWords, stored};
 ghost use Rattle.sheet.specs.Containers.{blockOf, bodyOf, topOf};
 ghost use Rattle.sheet.specs.Meaning.{pointOf, drawn, poseOf, repeatOf};
 
@@ -239,4 +240,41 @@ pub fn repeat_of(r: Entry) -> Repeat
         dx: r.cx,
         dy: r.cy,
     }
+}
+
+// Stores words from a place on.
+pub fn put_words(s: &mut [u64], at: usize, w: &[u64])
+    requires { ⌜ at + length (now w) ≤ length (now s) ⌝ }
+    ensures { λ _. ⌜ now (s .exit) ≡ stored (now (s .entry)) at (now (w .entry)) ⌝ }
+{
+    let mut j: usize = 0;
+    while j < w.len() {
+        s[at + j] = w[j];
+        j += 1;
+    }
+}
+
+// Stores entry i.
+pub fn put_entry(e: &mut [u64], i: usize, r: Entry)
+    requires { ⌜ i < entryRoom (now e) ⌝ }
+    ensures { λ _. ⌜ now (e .exit) ≡ stored (now (e .entry)) (i * 15) (entryWords r) ⌝ }
+{
+    let w = [
+        r.kind,
+        r.before,
+        r.who,
+        r.clear,
+        r.flip,
+        r.angle,
+        r.scale,
+        r.sx,
+        r.sy,
+        r.ex,
+        r.ey,
+        r.cx,
+        r.cy,
+        r.count,
+        r.place,
+    ];
+    put_words(e, i * 15, &w);
 }
