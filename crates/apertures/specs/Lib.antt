@@ -1,4 +1,3 @@
 pub mod Blocks
 pub mod Definitions
-pub mod Macros
 pub mod Parameters

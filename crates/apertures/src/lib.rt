@@ -1,4 +1,4 @@
-// Commands that make apertures: AD, AB, and AM up to its blocks. The text of AD and AB is that of one data block, without its `*`.
+// Commands that make apertures: AD and AB. Their text is that of one data block, without its `*`.
 ghost use mathlib.Core.Path.{_≡_};
 ghost use mathlib.Core.Bool.{not};
 ghost use lib.ListN.{drop};
@@ -6,7 +6,6 @@ ghost use Rattle.digits.specs.Digits.{isDigit};
 ghost use Rattle.text.specs.First.{first};
 ghost use Rattle.apertures.specs.Blocks.{blockStart, blockOf};
 ghost use Rattle.apertures.specs.Definitions.{definition, apertureOf};
-ghost use Rattle.apertures.specs.Macros.{macroOf};
 ghost use Rattle.apertures.specs.Parameters.{parametersOf};
 use command::Command;
 use command::Size;
@@ -112,23 +111,6 @@ pub fn aperture_of(s: &[u8]) -> Command
         let p = digits_end(s, 3);
         let q = text::find(s, p, b',');
         return defined(s, p, q);
-    }
-    Command::NotForm
-}
-
-// AM with its name, whatever its blocks are.
-pub fn macro_of(s: &[u8]) -> Command
-    ensures { λ r. ⌜ r ≡ macroOf (now (s .entry)) ⌝ }
-{
-    let q = text::find(s, 2, b'*');
-    if q < s.len() {
-        let headed = base::both(text::begins(s, b"AM"), text::is_name(base::part(s, 2, q)));
-        let name = Span { from: 2, to: q };
-        let blocks = Span {
-            from: q + 1,
-            to: s.len(),
-        };
-        return command::pick(headed, Command::Macro { name, blocks }, Command::NotForm);
     }
     Command::NotForm
 }

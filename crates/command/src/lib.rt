@@ -99,10 +99,11 @@ pub enum Command {
         parameters: Span,
         count: usize,
     },
-    // AM
+    // AM, its blocks without the last `*`, and whether its parentheses are too deep
     Macro {
         name: Span,
         blocks: Span,
+        deep: bool,
     },
     // AB
     BlockStart(u64),

@@ -1,0 +1,23 @@
+-- `form::after_operand` meets its contract: field by field it is `afterOperand`.
+-- Assumes nothing.
+use Rattle.form.specs.Expression.{afterOperand}
+use borrow.Author.Needs.{needs}
+use Rattle.form.proofs.after_operand.Statement.{statement}
+use Rattle.form.proofs.after_operand.Tie as tie
+
+either-requires : tie.Need-either-requires
+either-requires c κs = search needs
+
+either-requires-2 : tie.Need-either-requires-2
+either-requires-2 c κs = search needs
+
+either-requires-3 : tie.Need-either-requires-3
+either-requires-3 c κs = search needs
+
+returns : tie.Need-returns
+unfolding afterOperand
+returns c = cc
+
+pub after-operand-spec : {M : Type 1} → statement M
+after-operand-spec =
+    tie.close (tie.spec either-requires either-requires-2 either-requires-3 returns)

@@ -1,0 +1,44 @@
+-- `form::assignment` meets its contract: its two parts are those of `assignmentForm`.
+-- Assumes nothing.
+use Rattle.form.specs.Blocks.{assignmentForm}
+use borrow.Author.Needs.{needs}
+use Rattle.form.proofs.assignment.Statement.{statement}
+use Rattle.form.proofs.assignment.Tie as tie
+
+before-requires : tie.Need-before-requires
+before-requires c κs = search needs
+
+from-on-requires : tie.Need-from-on-requires
+from-on-requires c κs = search needs
+
+variable-number-requires : tie.Need-variable-number-requires
+variable-number-requires c κs = search needs
+
+numbered-requires : tie.Need-numbered-requires
+numbered-requires c κs = search needs
+
+after-requires : tie.Need-after-requires
+after-requires c κs = search needs
+
+expression-requires : tie.Need-expression-requires
+expression-requires c κs = search needs
+
+both-requires : tie.Need-both-requires
+both-requires c κs = search needs
+
+returns : tie.Need-returns
+unfolding assignmentForm
+returns c = cc
+
+pub assignment-spec : {M : Type 1} → statement M
+assignment-spec =
+    tie.close
+    (tie.spec
+    before-requires
+    from-on-requires
+    variable-number-requires
+    numbered-requires
+    after-requires
+    expression-requires
+    both-requires
+    returns)

@@ -1,0 +1,22 @@
+-- `form::both` meets its contract: field by field it is `joined`.
+-- Assumes nothing.
+use Rattle.form.specs.Blocks.{joined}
+use borrow.Author.Needs.{needs}
+use Rattle.form.proofs.both.Statement.{statement}
+use Rattle.form.proofs.both.Tie as tie
+
+either-requires : tie.Need-either-requires
+either-requires c κs = search needs
+
+either-requires-2 : tie.Need-either-requires-2
+either-requires-2 c κs = search needs
+
+either-requires-3 : tie.Need-either-requires-3
+either-requires-3 c κs = search needs
+
+returns : tie.Need-returns
+unfolding joined
+returns c = cc
+
+pub both-spec : {M : Type 1} → statement M
+both-spec = tie.close (tie.spec either-requires either-requires-2 either-requires-3 returns)

@@ -1,0 +1,3 @@
+pub mod Blocks
+pub mod Expression
+pub mod Macro

@@ -1,0 +1,4 @@
+pub mod LineEnds
+pub mod Pieces
+pub mod Tokens
+pub mod Words
