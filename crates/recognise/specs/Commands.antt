@@ -1,0 +1,52 @@
+-- What a command says (01, What is read): a word command, an extended one, or AM.
+use Prim.Native.Nat.{ℕ, _+_}
+use Prim.Native.Char.{code}
+use mathlib.Core.Bool.{Bool}
+use mathlib.Core.List.{List, [], _∷_}
+use lib.Dec.{ltb, leb}
+use lib.ListN.{length, take}
+use Rattle.base.specs.And.{_and_}
+use Rattle.text.specs.First.{place}
+use Rattle.text.specs.Text.{_begins_}
+use Rattle.scan.specs.Scan.{skipped}
+use Rattle.scan.specs.declared.Kind.{Kind}
+use Rattle.scan.specs.declared.Kind.the-variants.{Word, Extended, Macro}
+use Rattle.command.specs.Choose.{pick, choose}
+use Rattle.command.specs.declared.Command.{Command}
+use Rattle.command.specs.declared.Command.the-variants.{NotForm}
+use Rattle.words.specs.Words.{wordOf}
+use Rattle.settings.specs.Header.{formatOf, unitOf}
+use Rattle.settings.specs.Repeats.{repeatOf}
+use Rattle.settings.specs.Transformations.{transformationOf}
+use Rattle.apertures.specs.Definitions.{apertureOf}
+use Rattle.apertures.specs.Blocks.{blockOf}
+use Rattle.apertures.specs.Macros.{macroOf}
+use Rattle.attributes.specs.Attributes.{attributeOf, deletionOf}
+
+-- one data block: after its `*` CR and LF only (decisions 3, 6 and 31)
+unfoldable pub oneBlock : List ℕ → ℕ → Bool
+oneBlock s star = ltb star (length s) and leb (length s) (skipped s (star + 1))
+
+-- a data block without its `*`, by its first letters; what is none of these is 4
+unfoldable pub dataOf : List ℕ → Command
+dataOf s =
+    choose
+    ((s begins "FS", formatOf s)
+    ∷ (s begins "MO", unitOf s)
+    ∷ (s begins "AD", apertureOf s)
+    ∷ (s begins "AB", blockOf s)
+    ∷ (s begins "SR", repeatOf s)
+    ∷ (s begins "L", transformationOf s)
+    ∷ (s begins "TD", deletionOf s)
+    ∷ [])
+    (attributeOf s)
+
+-- an extended command but AM is one data block
+unfoldable pub extendedOf : List ℕ → Command
+extendedOf s = let star : ℕ = place (code "*") s 0 in pick (oneBlock s star) (dataOf (take star s)) NotForm
+
+-- the command of this kind with this text; n is that of FS, 0 before it
+unfoldable pub commandOf : ℕ → Kind → List ℕ → Command
+commandOf n Word s = wordOf n s
+commandOf n Extended s = extendedOf s
+commandOf n Macro s = macroOf s
