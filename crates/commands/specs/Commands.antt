@@ -1,0 +1,38 @@
+-- The commands of a file in order, up to M02, and what is at fault by the rules 1 to 4 and 18 alone.
+use Prim.Native.Nat.{ℕ, zero, suc}
+use mathlib.Core.Bool.{cond}
+use mathlib.Core.List.{List, [], _∷_}
+use lib.ListN.{length}
+use Rattle.scan.specs.Permitted.{fits}
+use Rattle.scan.specs.Tail.{tailOf}
+use Rattle.commands.specs.Turns.{refusal, turnOf, tailFault}
+use Rattle.commands.specs.declared.Placed.{Placed}
+use Rattle.commands.specs.declared.Refusal.{Refusal}
+use Rattle.commands.specs.declared.Turn.the-variants.{Fault, Last, More}
+
+-- the commands before the first fault, M02 the last of them where there is none before it, and that fault; 0 at 0 without one
+pub record Listing : Type 0 where
+  pub commands : List Placed
+  pub fault : Refusal
+
+-- no command more
+abbrev pub stopped : Refusal → Listing
+stopped f = record { commands = []; fault = f }
+
+-- a command, then the others
+abbrev pub followed : Placed → Listing → Listing
+followed c l = record { commands = c ∷ l .commands; fault = l .fault }
+
+-- from `at` on, in at most k turns, after FS with this n, 0 before it; a file that ends before M02 is 3 at its length
+unfoldable pub commandsFrom : ℕ → ℕ → List ℕ → ℕ → Listing
+commandsFrom zero n file at = stopped (refusal 3 (length file))
+commandsFrom (suc k) n file at =
+    elim (turnOf n file at) [
+      | Fault f ↦ stopped f
+      | Last c next ↦ followed c (stopped (tailFault (tailOf file next)))
+      | More c m next ↦ followed c (commandsFrom k m file next)
+    ]
+
+-- each command takes a byte at least, and so a turn more than there are bytes is enough
+unfoldable pub commandsOf : List ℕ → Listing
+commandsOf file = cond (fits file) (commandsFrom (suc (length file)) 0 file 0) (stopped (refusal 1 0))

@@ -1,0 +1,125 @@
+// The commands of a file, one after the other, with the faults 2, 3, 4 and 18.
+ghost use mathlib.Core.Path.{_≡_};
+ghost use Rattle.scan.specs.Tail.{tailOf};
+ghost use Rattle.commands.specs.Leads.{leadOf};
+ghost use Rattle.commands.specs.Turns.{led, turnOf, tailFault};
+use command::Command;
+use scan::Scan;
+use scan::Tail;
+
+// A refusal of the reading: document 01's number, and the place; 0 at 0 is none.
+pub struct Refusal {
+    pub number: u64,
+    pub place: usize,
+}
+
+// A command of the file: where it begins, its text from..end, and what it says.
+pub struct Placed {
+    pub place: usize,
+    pub from: usize,
+    pub end: usize,
+    pub command: Command,
+}
+
+// How a command leads on.
+pub enum Lead {
+    Broken,
+    Last,
+    Format(usize),
+    Plain,
+}
+
+// What stands next: a fault; M02, with the place past it; another command, with the n of FS from there on and the place past it.
+pub enum Turn {
+    Fault(Refusal),
+    Last {
+        command: Placed,
+        next: usize,
+    },
+    More {
+        command: Placed,
+        n: usize,
+        next: usize,
+    },
+}
+
+// How a command leads on.
+fn lead_of(c: Command) -> Lead
+    ensures { λ r. ⌜ r ≡ leadOf c ⌝ }
+{
+    match c {
+        Command::NotForm => Lead::Broken,
+        Command::End => Lead::Last,
+        Command::Format(n) => Lead::Format(n),
+        _ => Lead::Plain,
+    }
+}
+
+// A command that leads on so, n being FS's before it.
+fn led(n: usize, c: Placed, lead: Lead, next: usize) -> Turn
+    ensures { λ r. ⌜ r ≡ led n c lead next ⌝ }
+{
+    match lead {
+        Lead::Broken => Turn::Fault(Refusal {
+            number: 4,
+            place: c.place,
+        }),
+        Lead::Last => Turn::Last { command: c, next },
+        Lead::Format(m) => Turn::More {
+            command: c,
+            n: m,
+            next,
+        },
+        Lead::Plain => Turn::More {
+            command: c,
+            n,
+            next,
+        },
+    }
+}
+
+// What stands next from a place on; n is that of FS, 0 before it.
+pub fn turn_at(n: usize, file: &[u8], at: usize) -> Turn
+    ensures { λ r. ⌜ r ≡ turnOf n (now (file .entry)) at ⌝ }
+{
+    let s = scan::next_command(file, at);
+    match s {
+        Scan::Command {
+            kind,
+            place,
+            from,
+            end,
+            next,
+        } => {
+            let command = recognise::command_of(n, kind, base::part(file, from, end));
+            led(
+                n,
+                Placed {
+                    place,
+                    from,
+                    end,
+                    command,
+                },
+                lead_of(command),
+                next,
+            )
+        }
+        Scan::BadByte { place } => Turn::Fault(Refusal { number: 2, place }),
+        Scan::Ended { place } => Turn::Fault(Refusal { number: 3, place }),
+    }
+}
+
+// The fault of what follows M02, from the place past it on.
+pub fn tail_fault(file: &[u8], next: usize) -> Refusal
+    ensures { λ r. ⌜ r ≡ tailFault (tailOf (now (file .entry)) next) ⌝ }
+{
+    let t = scan::tail_from(file, next);
+    match t {
+        Tail::Clean => Refusal {
+            number: 0,
+            place: 0,
+        },
+        Tail::Unprintable { place } => Refusal { number: 2, place },
+        Tail::More { place } => Refusal { number: 18, place },
+    }
+}
