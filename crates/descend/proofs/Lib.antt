@@ -1,3 +1,4 @@
 pub mod Located
 pub mod Descent
+pub mod Slots
 pub mod Answers

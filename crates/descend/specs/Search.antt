@@ -78,3 +78,10 @@ pub record Asked (e a : List ℕ) (left : ℕ) (k : Container) (n : ℕ) : Type 
 pub record Answered (e a : List ℕ) (left : ℕ) (k : Container) (n : ℕ) (t : Item) : Type 0 where
   pub is : t ≡ getD (items e a left k) n zeroItem
   pub near : ItemWithin (spread (k .height)) t
+
+-- the items of k from n on are asked for, one after the other
+pub record Whole (e a : List ℕ) (k : Container) (n : ℕ) : Type 0 where
+  pub head : List ℕ
+  pub ok : valid head e a ≡ true
+  pub sound : Sound head e a k
+  pub starts : n ≤ k .items

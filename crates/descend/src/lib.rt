@@ -1,14 +1,20 @@
 // The total, one item, and a run of items of a sheet, by descent: no copy is written out.
 use place::Item;
 use place::Pose;
+use points::Point;
 use sheet::Container;
 use sheet::Entry;
 use sheet::Role;
 ghost use mathlib.Core.Path.{_≡_};
 ghost use Prim.Native.Nat.{_≤_, _<_, _+_};
-ghost use Rattle.sheet.specs.Records.{entryOf, entryRoom};
-ghost use Rattle.descend.specs.Search.{Found, Held, Split, copyOf, Descends, Asked, Answered};
+ghost use lib.ListN.{length, replicate};
+ghost use mir.Syntax.{w64};
+ghost use mir.Val.{ofZ};
+ghost use Rattle.sheet.specs.Records.{entryOf, entryRoom, stored};
+ghost use Rattle.sheet.specs.Meaning.{items};
+ghost use Rattle.descend.specs.Search.{Found, Held, Split, copyOf, Descends, Asked, Answered, Whole};
 ghost use Rattle.descend.specs.Answers.{totalOf, answerOf};
+ghost use Rattle.descend.specs.Slots.{flagWord, itemWords, slots, fetchOf, fetched};
 
 // How many items stand before entry i in its container.
 fn before_at(e: &[u64], i: usize) -> u64
@@ -120,4 +126,90 @@ pub fn sheet_item(head: &[u64; 8], e: &[u64], a: &[u64], n: u64) -> Answer
         return Answer::Past;
     }
     Answer::NotSheet
+}
+
+// What a call for a run of items comes to.
+pub enum Fetch {
+    Done,
+    Past,
+    NotSheet,
+}
+
+fn flag_word(b: bool) -> u64
+    ensures { λ r. ⌜ r ≡ flagWord b ⌝ }
+{
+    if b { 1 } else { 0 }
+}
+
+fn x_word(p: Point) -> u64
+    ensures { λ r. ⌜ r ≡ ofZ w64 (p .x) ⌝ }
+{
+    ints::word(p.x)
+}
+
+fn y_word(p: Point) -> u64
+    ensures { λ r. ⌜ r ≡ ofZ w64 (p .y) ⌝ }
+{
+    ints::word(p.y)
+}
+
+// Stores an item's fourteen words from a place on.
+fn put_item(out: &mut [u64], at: usize, t: Item)
+    requires { ⌜ at + 14 ≤ length (now out) ⌝ }
+    ensures { λ _. ⌜ now (out .exit) ≡ stored (now (out .entry)) at (itemWords t) ⌝ }
+{
+    let start = t.start;
+    let end = t.end;
+    let centre = t.centre;
+    let w = [
+        t.kind,
+        t.aperture,
+        flag_word(t.clear),
+        flag_word(t.flip),
+        t.angle,
+        t.scale,
+        x_word(start),
+        y_word(start),
+        x_word(end),
+        y_word(end),
+        x_word(centre),
+        y_word(centre),
+        t.count,
+        t.place,
+    ];
+    sheet::put_words(out, at, &w);
+}
+
+// Items n, n + 1, .. of a container, into words that are all 0.
+fn fill(e: &[u64], a: &[u64], k: Container, n: u64, out: &mut [u64])
+    requires { ⌜ Whole (now e) (now a) k n × (now out ≡ replicate (length (now out)) 0) ⌝ }
+    ensures { λ _. ⌜ now (out .exit) ≡ slots (items (now (e .entry)) (now (a .entry)) 10 k) n (length (now (out .entry))) ⌝ }
+{
+    let room = (out.len() / 14) as u64;
+    let mut j: u64 = 0;
+    while j < room {
+        if n + j >= k.items {
+            return;
+        }
+        let t = item_at(e, a, 10, k, n + j);
+        put_item(out, sheet::index(j * 14), t);
+        j += 1;
+    }
+}
+
+// Items n, n + 1, .. of a sheet, fourteen words each, in as many slots as there is room for; the store is looked at once.
+pub fn sheet_run(head: &[u64; 8], e: &[u64], a: &[u64], n: u64, out: &mut [u64]) -> Fetch
+    ensures { λ r. ⌜ (r ≡ fetchOf (now (head .entry)) (now (e .entry)) (now (a .entry)) n)
+        × (now (out .exit) ≡ fetched (now (head .entry)) (now (e .entry)) (now (a .entry)) n (length (now (out .entry)))) ⌝ }
+{
+    base::clear(out);
+    if inspect::is_sheet(head, e, a) {
+        let top = sheet::top_of(head);
+        if n < top.items {
+            fill(e, a, top, n, out);
+            return Fetch::Done;
+        }
+        return Fetch::Past;
+    }
+    Fetch::NotSheet
 }
