@@ -71,7 +71,8 @@ ok-same a used h f g n t same o =
       items-are = sym (part n (omega arith)) ∙ o .items-are;
     }
 
-sums-from : (F : ℕ → ℕ) (p n : ℕ) → sums F p n ≡ sums (λ i. F (p + i)) 0 n
+-- numbers added from place p on
+pub sums-from : (F : ℕ → ℕ) (p n : ℕ) → sums F p n ≡ sums (λ i. F (p + i)) 0 n
 unfolding sums
 sums-from F p zero = refl
 sums-from F p (suc n) = sums-snoc F p n ∙ rw (sums-from F p n) (sym (rw (zero-add n) at (sums-snoc (λ i. F (p + i)) 0 n)))

@@ -1,0 +1,9 @@
+pub mod Frame
+pub mod Same
+pub mod Grow
+pub mod Steps
+pub mod Push
+pub mod Settle
+pub mod Close
+pub mod Finish
+pub mod Contour
