@@ -1,0 +1,6 @@
+pub mod Digits
+pub mod Examples
+pub mod Judged
+pub mod Notes
+pub mod Short
+pub mod Walking

@@ -1,0 +1,81 @@
+-- `signature::judge` meets its contract: at each return the tests that led there pick the case of `judged`.
+use mathlib.Core.Bool.{true, false}
+use mathlib.Core.Path.{_≡_, sym, _∙_}
+use borrow.Author.Needs.{needs}
+use Rattle.hex.specs.Hex.{hexOf}
+use Rattle.digest.specs.Runs.{finished}
+use Rattle.signature.specs.Digits.{sameDigits}
+use Rattle.signature.specs.Form.{isSignature, digitsOf}
+use Rattle.signature.specs.Held.{textOf}
+use Rattle.signature.specs.Signature.{signed, judged}
+use Rattle.signature.proofs.Judged.{judged-signed, judged-other, judged-none}
+use Rattle.signature.proofs.judge.Statement.{statement}
+use Rattle.signature.proofs.judge.Tie as tie
+
+slice-aggregate-up-to : tie.Need-slice-aggregate-up-to
+slice-aggregate-up-to c = search needs
+
+up-to-requires : tie.Need-up-to-requires
+up-to-requires c κs = search needs
+
+is-signature-requires : tie.Need-is-signature-requires
+is-signature-requires c κs = search needs
+
+finish-requires : tie.Need-finish-requires
+finish-requires c κs = search needs
+
+digits-of-requires : tie.Need-digits-of-requires
+digits-of-requires c κs = search needs
+
+hex-requires : tie.Need-hex-requires
+hex-requires c κs = search needs
+
+slice-aggregate-same-digits : tie.Need-slice-aggregate-same-digits
+slice-aggregate-same-digits c = search needs
+
+same-digits-requires : tie.Need-same-digits-requires
+same-digits-requires c κs = search needs
+
+returns : tie.Need-returns
+unfolding textOf signed
+returns c =
+    let a = c .before .before .before .before .before .before .before .before .before .before .before .args in
+    let e : isSignature (textOf (a .h)) ≡ true = cc in
+    let f : sameDigits (digitsOf (textOf (a .h))) (hexOf (finished (a .s))) ≡ true = cc in
+    rw (c .before .before .before .before .before .finish .ensures) (sym (judged-signed (a .place) (textOf (a .h)) (finished (a .s)) e f))
+
+refuse-requires : tie.Need-refuse-requires
+refuse-requires c κs = search needs
+
+returns-2 : tie.Need-returns-2
+unfolding textOf
+returns-2 c =
+    let a = c .before .before .before .before .before .before .before .before .before .before .before .before .args in
+    let e : isSignature (textOf (a .h)) ≡ true = cc in
+    let f : sameDigits (digitsOf (textOf (a .h))) (hexOf (finished (a .s))) ≡ false = cc in
+    c .refuse .ensures ∙ sym (judged-other (a .place) (textOf (a .h)) (finished (a .s)) e f)
+
+refuse-requires-2 : tie.Need-refuse-requires-2
+refuse-requires-2 c κs = search needs
+
+returns-3 : tie.Need-returns-3
+unfolding textOf
+returns-3 c = c .refuse2 .ensures ∙ sym (judged-none _ (textOf (c .before .before .before .before .before .before .args .h)) _ cc)
+
+pub judge-spec : {M : Type 1} → statement M
+judge-spec =
+    tie.close
+    (tie.spec
+    slice-aggregate-up-to
+    up-to-requires
+    is-signature-requires
+    finish-requires
+    digits-of-requires
+    hex-requires
+    slice-aggregate-same-digits
+    same-digits-requires
+    returns
+    refuse-requires
+    returns-2
+    refuse-requires-2
+    returns-3)
