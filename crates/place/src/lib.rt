@@ -58,7 +58,8 @@ fn either(a: bool, b: bool) -> bool
     if a { true } else { b }
 }
 
-fn differ(a: bool, b: bool) -> bool
+// One of the two holds, and not the other.
+pub fn differ(a: bool, b: bool) -> bool
     ensures { λ r. ⌜ r ≡ xor a b ⌝ }
 {
     if a { !b } else { b }

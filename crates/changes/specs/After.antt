@@ -1,0 +1,102 @@
+-- What each command changes of the graphics state (01, State; decisions 81 to 89).
+use Prim.Native.Nat.{ℕ}
+use mathlib.Core.Bool.{Bool, true, false, cond, not}
+use lib.IntN.{ℤ, natAbs}
+use Rattle.base.specs.And.{_and_}
+use Rattle.points.specs.Points.{pt}
+use Rattle.points.specs.declared.Point.{Point}
+use Rattle.command.specs.declared.Axis.{Axis}
+use Rattle.command.specs.declared.Axis.the-variants as axis
+use Rattle.command.specs.declared.Command.{Command}
+use Rattle.command.specs.declared.Command.the-variants as command
+use Rattle.graphics.specs.Graphics.{unset, origin, noRegion, withFormat, withPoint, withMode, withQuadrants, withTransform, withRegion}
+use Rattle.graphics.specs.Orientation.{angleOf}
+use Rattle.graphics.specs.declared.Format.{Format}
+use Rattle.graphics.specs.declared.Mirror.{Mirror}
+use Rattle.graphics.specs.declared.Transform.{Transform}
+use Rattle.graphics.specs.declared.Region.{Region}
+use Rattle.graphics.specs.declared.Graphics.{Graphics}
+
+-- "a missing X or Y keeps the current one"
+unfoldable pub along : Axis → ℤ → ℤ
+along axis.Missing old = old
+along (axis.At v) old = v
+
+-- the point that an operation goes to
+unfoldable pub target : Graphics → Axis → Axis → Point
+target g x y = pt (along x (g .point .at .x)) (along y (g .point .at .y))
+
+unfoldable pub goingTo : Point → Graphics → Graphics
+goingTo p = withPoint (record { set = true; at = p })
+
+-- a region in which no contour has begun
+unfoldable pub emptyRegion : Region
+emptyRegion = record { on = true; contour = false; first = origin }
+
+-- "The first D01 starts a contour at the current point": whether a D01 here is the first of a contour
+unfoldable pub startsContour : Region → Bool
+startsContour r = r .on and not (r .contour)
+
+unfoldable pub drawing : Region → Point → Region
+drawing r p = record { on = r .on; contour = r .on; first = cond (startsContour r) p (r .first) }
+
+-- "D02 or G37 ends it"
+unfoldable pub ended : Region → Region
+ended r = record { on = r .on; contour = false; first = origin }
+
+-- the parts of FS and MO, and of LP, LM, LR and LS
+unfoldable pub withDigits : ℕ → Format → Format
+withDigits n f = record { digits = n; unit = f .unit }
+
+unfoldable pub withUnit : ℕ → Format → Format
+withUnit u f = record { digits = f .digits; unit = u }
+
+unfoldable pub withClear : Bool → Transform → Transform
+withClear c t = record { clear = c; mirror = t .mirror; rotation = t .rotation; scale = t .scale }
+
+unfoldable pub withMirror : Mirror → Transform → Transform
+withMirror m t = record { clear = t .clear; mirror = m; rotation = t .rotation; scale = t .scale }
+
+unfoldable pub withRotation : ℕ → Transform → Transform
+withRotation a t = record { clear = t .clear; mirror = t .mirror; rotation = a; scale = t .scale }
+
+unfoldable pub withScale : ℕ → Transform → Transform
+withScale s t = record { clear = t .clear; mirror = t .mirror; rotation = t .rotation; scale = s }
+
+-- What stands after a command that is accepted; Dn sets the aperture, by `withAperture`.
+unfoldable pub after : Command → Graphics → Graphics
+after (command.Format n) g = withFormat (withDigits n (g .format)) g
+after command.Millimetres g = withFormat (withUnit 1 (g .format)) g
+after command.Inches g = withFormat (withUnit 2 (g .format)) g
+after command.Linear g = withMode 1 g
+after command.Clockwise g = withMode 2 g
+after command.Counterclockwise g = withMode 3 g
+after command.MultiQuadrant g = withQuadrants true g
+after command.Dark g = withTransform (withClear false (g .transform)) g
+after command.Clear g = withTransform (withClear true (g .transform)) g
+after (command.Mirror x y) g = withTransform (withMirror (record { x = x; y = y }) (g .transform)) g
+after (command.Rotation a) g = withTransform (withRotation (angleOf (a .millionths)) (g .transform)) g
+after (command.Scale a) g = withTransform (withScale (natAbs (a .millionths)) (g .transform)) g
+after command.RegionStart g = withRegion emptyRegion g
+after command.RegionEnd g = withRegion noRegion g
+after (command.Draw x y i) g = goingTo (target g x y) (withRegion (drawing (g .region) (g .point .at)) g)
+after (command.Move x y) g = goingTo (target g x y) (withRegion (ended (g .region)) g)
+after (command.Flash x y) g = goingTo (target g x y) g
+-- "After AB or SR opens or closes the point is unset (house)"
+after (command.BlockStart n) g = withPoint unset g
+after command.BlockEnd g = withPoint unset g
+after (command.RepeatStart nx ny dx dy) g = withPoint unset g
+after command.RepeatEnd g = withPoint unset g
+-- the others change nothing of it
+after command.NotForm g = g
+after command.TooLong g = g
+after command.Comment g = g
+after command.End g = g
+after (command.Select n) g = g
+after (command.Aperture n name ps count) g = g
+after (command.Macro name blocks) g = g
+after (command.FileAttribute name value) g = g
+after (command.ApertureAttribute name value) g = g
+after (command.ObjectAttribute name value) g = g
+after (command.Delete name) g = g
+after command.DeleteAll g = g

@@ -1,0 +1,264 @@
+// What each command changes of the graphics state.
+ghost use mathlib.Core.Path.{_≡_};
+ghost use lib.IntN.{natAbs};
+ghost use Rattle.points.specs.Points.{pt};
+ghost use Rattle.graphics.specs.Orientation.{angleOf};
+ghost use Rattle.graphics.specs.Graphics.{unset, noRegion, withFormat, withPoint, withTransform, withRegion};
+ghost use Rattle.changes.specs.After.{along, target, goingTo, emptyRegion, startsContour, drawing, ended, withDigits, withUnit, withClear, withMirror, withRotation, withScale, after};
+use command::Axis;
+use command::Command;
+use decimal::Amount;
+use graphics::Current;
+use graphics::Format;
+use graphics::Graphics;
+use graphics::Mirror;
+use graphics::Region;
+use graphics::Transform;
+use points::Point;
+
+// The point with the x that is given, else as it was.
+fn across(p: Point, a: Axis) -> Point
+    ensures { λ r. ⌜ r ≡ pt (along a (p .x)) (p .y) ⌝ }
+{
+    match a {
+        Axis::Missing => p,
+        Axis::At(v) => Point { x: v, y: p.y },
+    }
+}
+
+// The point with the y that is given, else as it was.
+fn up(p: Point, a: Axis) -> Point
+    ensures { λ r. ⌜ r ≡ pt (p .x) (along a (p .y)) ⌝ }
+{
+    match a {
+        Axis::Missing => p,
+        Axis::At(v) => Point { x: p.x, y: v },
+    }
+}
+
+// The point that an operation goes to.
+pub fn target(g: Graphics, x: Axis, y: Axis) -> Point
+    ensures { λ r. ⌜ r ≡ target g x y ⌝ }
+{
+    let p = g.point.at;
+    up(across(p, x), y)
+}
+
+// A D01 here is the first of a contour.
+pub fn starts_contour(r: Region) -> bool
+    ensures { λ t. ⌜ t ≡ startsContour r ⌝ }
+{
+    base::both(r.on, !r.contour)
+}
+
+// The region after a D01 from p on.
+fn drawing(r: Region, p: Point) -> Region
+    ensures { λ t. ⌜ t ≡ drawing r p ⌝ }
+{
+    if starts_contour(r) {
+        return Region {
+            on: r.on,
+            contour: r.on,
+            first: p,
+        };
+    }
+    let first = r.first;
+    Region {
+        on: r.on,
+        contour: r.on,
+        first,
+    }
+}
+
+// FS.
+fn set_digits(n: usize, g: Graphics) -> Graphics
+    ensures { λ r. ⌜ r ≡ withFormat (withDigits n (g .format)) g ⌝ }
+{
+    let f = Format {
+        digits: n,
+        unit: g.format.unit,
+    };
+    graphics::with_format(f, g)
+}
+
+// MO.
+fn set_unit(u: u64, g: Graphics) -> Graphics
+    ensures { λ r. ⌜ r ≡ withFormat (withUnit u (g .format)) g ⌝ }
+{
+    let f = Format {
+        digits: g.format.digits,
+        unit: u,
+    };
+    graphics::with_format(f, g)
+}
+
+// LP.
+fn set_clear(clear: bool, g: Graphics) -> Graphics
+    ensures { λ r. ⌜ r ≡ withTransform (withClear clear (g .transform)) g ⌝ }
+{
+    let mirror = g.transform.mirror;
+    let t = Transform {
+        clear,
+        mirror,
+        rotation: g.transform.rotation,
+        scale: g.transform.scale,
+    };
+    graphics::with_transform(t, g)
+}
+
+// LM.
+fn set_mirror(mirror: Mirror, g: Graphics) -> Graphics
+    ensures { λ r. ⌜ r ≡ withTransform (withMirror mirror (g .transform)) g ⌝ }
+{
+    let t = Transform {
+        clear: g.transform.clear,
+        mirror,
+        rotation: g.transform.rotation,
+        scale: g.transform.scale,
+    };
+    graphics::with_transform(t, g)
+}
+
+// LR.
+fn set_rotation(a: Amount, g: Graphics) -> Graphics
+    ensures { λ r. ⌜ r ≡ withTransform (withRotation (angleOf (a .millionths)) (g .transform)) g ⌝ }
+{
+    let mirror = g.transform.mirror;
+    let t = Transform {
+        clear: g.transform.clear,
+        mirror,
+        rotation: graphics::angle_of(a.millionths),
+        scale: g.transform.scale,
+    };
+    graphics::with_transform(t, g)
+}
+
+// LS.
+fn set_scale(a: Amount, g: Graphics) -> Graphics
+    ensures { λ r. ⌜ r ≡ withTransform (withScale (natAbs (a .millionths)) (g .transform)) g ⌝ }
+{
+    let mirror = g.transform.mirror;
+    let t = Transform {
+        clear: g.transform.clear,
+        mirror,
+        rotation: g.transform.rotation,
+        scale: ints::size(a.millionths),
+    };
+    graphics::with_transform(t, g)
+}
+
+// G36.
+fn begin_region(g: Graphics) -> Graphics
+    ensures { λ r. ⌜ r ≡ withRegion emptyRegion g ⌝ }
+{
+    let r = Region {
+        on: true,
+        contour: false,
+        first: Point { x: 0, y: 0 },
+    };
+    graphics::with_region(r, g)
+}
+
+// G37.
+fn end_region(g: Graphics) -> Graphics
+    ensures { λ r. ⌜ r ≡ withRegion noRegion g ⌝ }
+{
+    let r = Region {
+        on: false,
+        contour: false,
+        first: Point { x: 0, y: 0 },
+    };
+    graphics::with_region(r, g)
+}
+
+// AB and SR, opening and closing.
+fn unplaced(g: Graphics) -> Graphics
+    ensures { λ r. ⌜ r ≡ withPoint unset g ⌝ }
+{
+    let p = Current {
+        set: false,
+        at: Point { x: 0, y: 0 },
+    };
+    graphics::with_point(p, g)
+}
+
+// The current point is p.
+fn going_to(p: Point, g: Graphics) -> Graphics
+    ensures { λ r. ⌜ r ≡ goingTo p g ⌝ }
+{
+    graphics::with_point(Current { set: true, at: p }, g)
+}
+
+// D01.
+fn drawn(x: Axis, y: Axis, g: Graphics) -> Graphics
+    ensures { λ r. ⌜ r ≡ goingTo (target g x y) (withRegion (drawing (g .region) (g .point .at)) g) ⌝ }
+{
+    let r = g.region;
+    let p = g.point.at;
+    going_to(target(g, x, y), graphics::with_region(drawing(r, p), g))
+}
+
+// D02.
+fn moved(x: Axis, y: Axis, g: Graphics) -> Graphics
+    ensures { λ r. ⌜ r ≡ goingTo (target g x y) (withRegion (ended (g .region)) g) ⌝ }
+{
+    let r = Region {
+        on: g.region.on,
+        contour: false,
+        first: Point { x: 0, y: 0 },
+    };
+    going_to(target(g, x, y), graphics::with_region(r, g))
+}
+
+// D03.
+fn flashed(x: Axis, y: Axis, g: Graphics) -> Graphics
+    ensures { λ r. ⌜ r ≡ goingTo (target g x y) g ⌝ }
+{
+    going_to(target(g, x, y), g)
+}
+
+// The state after a command that is accepted.
+pub fn after(c: Command, g: Graphics) -> Graphics
+    ensures { λ r. ⌜ r ≡ after c g ⌝ }
+{
+    match c {
+        Command::Format(n) => set_digits(n, g),
+        Command::Millimetres => set_unit(1, g),
+        Command::Inches => set_unit(2, g),
+        Command::Linear => graphics::with_mode(1, g),
+        Command::Clockwise => graphics::with_mode(2, g),
+        Command::Counterclockwise => graphics::with_mode(3, g),
+        Command::MultiQuadrant => graphics::with_quadrants(true, g),
+        Command::Dark => set_clear(false, g),
+        Command::Clear => set_clear(true, g),
+        Command::Mirror { x, y } => set_mirror(Mirror { x, y }, g),
+        Command::Rotation(a) => set_rotation(a, g),
+        Command::Scale(a) => set_scale(a, g),
+        Command::RegionStart => begin_region(g),
+        Command::RegionEnd => end_region(g),
+        Command::Draw { x, y, centre } => drawn(x, y, g),
+        Command::Move { x, y } => moved(x, y, g),
+        Command::Flash { x, y } => flashed(x, y, g),
+        Command::BlockStart(n) => unplaced(g),
+        Command::BlockEnd => unplaced(g),
+        Command::RepeatStart { nx, ny, dx, dy } => unplaced(g),
+        Command::RepeatEnd => unplaced(g),
+        Command::NotForm => g,
+        Command::TooLong => g,
+        Command::Comment => g,
+        Command::End => g,
+        Command::Select(n) => g,
+        Command::Aperture {
+            number,
+            name,
+            parameters,
+            count,
+        } => g,
+        Command::Macro { name, blocks } => g,
+        Command::FileAttribute { name, value } => g,
+        Command::ApertureAttribute { name, value } => g,
+        Command::ObjectAttribute { name, value } => g,
+        Command::Delete { name } => g,
+        Command::DeleteAll => g,
+    }
+}

@@ -1,0 +1,12 @@
+-- `graphics::start` meets its contract: each part is as `start` says.
+use Rattle.graphics.specs.Graphics.{start, unset, origin, noAperture, noRegion}
+use borrow.Author.Needs.{needs}
+use Rattle.graphics.proofs.start.Statement.{statement}
+use Rattle.graphics.proofs.start.Tie as tie
+
+returns : tie.Need-returns
+unfolding start unset origin noAperture noRegion
+returns c = search needs
+
+pub start-spec : {M : Type 1} → statement M
+start-spec = tie.close (tie.spec returns)

@@ -1,0 +1,269 @@
+// The graphics state, by value: what the commands so far have set, and what each command changes.
+ghost use mathlib.Core.Path.{_≡_};
+ghost use Rattle.graphics.specs.Graphics.{start, withFormat, withPoint, withAperture, withMode, withQuadrants, withTransform, withRegion};
+ghost use Rattle.graphics.specs.Orientation.{angleOf, angleAfter, orientation};
+use points::Point;
+
+// FS's n and MO's unit, 1 mm or 2 inch; 0 before each.
+pub struct Format {
+    pub digits: usize,
+    pub unit: u64,
+}
+
+// The current point.
+pub struct Current {
+    pub set: bool,
+    pub at: Point,
+}
+
+// The current aperture: its number, its record, whether it is a C without hole, whether it is a block, and a block's items and
+// height.
+pub struct Selected {
+    pub set: bool,
+    pub number: u64,
+    pub slot: usize,
+    pub circle: bool,
+    pub block: bool,
+    pub items: u64,
+    pub height: u64,
+}
+
+// LM: whether it mirrors x, and y.
+pub struct Mirror {
+    pub x: bool,
+    pub y: bool,
+}
+
+// LP, LM, LR and LS; the rotation is from 0 up to a full turn.
+pub struct Transform {
+    pub clear: bool,
+    pub mirror: Mirror,
+    pub rotation: u64,
+    pub scale: u64,
+}
+
+// A region, and the first point of the contour that is open in it.
+pub struct Region {
+    pub on: bool,
+    pub contour: bool,
+    pub first: Point,
+}
+
+// The mode is 0 before it is set, else the kind of item that a D01 draws: 1 line, 2 clockwise, 3 counterclockwise.
+pub struct Graphics {
+    pub format: Format,
+    pub point: Current,
+    pub aperture: Selected,
+    pub mode: u64,
+    pub quadrants: bool,
+    pub transform: Transform,
+    pub region: Region,
+}
+
+// Flip and angle, as LM and LR give them.
+pub struct Orientation {
+    pub flip: bool,
+    pub angle: u64,
+}
+
+// The state at the start of a file.
+pub fn start() -> Graphics
+    ensures { λ r. ⌜ r ≡ start ⌝ }
+{
+    let origin = Point { x: 0, y: 0 };
+    Graphics {
+        format: Format { digits: 0, unit: 0 },
+        point: Current {
+            set: false,
+            at: origin,
+        },
+        aperture: Selected {
+            set: false,
+            number: 0,
+            slot: 0,
+            circle: false,
+            block: false,
+            items: 0,
+            height: 0,
+        },
+        mode: 0,
+        quadrants: false,
+        transform: Transform {
+            clear: false,
+            mirror: Mirror { x: false, y: false },
+            rotation: 0,
+            scale: 1000000,
+        },
+        region: Region {
+            on: false,
+            contour: false,
+            first: origin,
+        },
+    }
+}
+
+// The state with FS and MO set anew.
+pub fn with_format(v: Format, g: Graphics) -> Graphics
+    ensures { λ r. ⌜ r ≡ withFormat v g ⌝ }
+{
+    let point = g.point;
+    let aperture = g.aperture;
+    let transform = g.transform;
+    let region = g.region;
+    Graphics {
+        format: v,
+        point: point,
+        aperture: aperture,
+        mode: g.mode,
+        quadrants: g.quadrants,
+        transform: transform,
+        region: region,
+    }
+}
+
+// The state with the current point set anew.
+pub fn with_point(v: Current, g: Graphics) -> Graphics
+    ensures { λ r. ⌜ r ≡ withPoint v g ⌝ }
+{
+    let format = g.format;
+    let aperture = g.aperture;
+    let transform = g.transform;
+    let region = g.region;
+    Graphics {
+        format: format,
+        point: v,
+        aperture: aperture,
+        mode: g.mode,
+        quadrants: g.quadrants,
+        transform: transform,
+        region: region,
+    }
+}
+
+// The state with the current aperture set anew.
+pub fn with_aperture(v: Selected, g: Graphics) -> Graphics
+    ensures { λ r. ⌜ r ≡ withAperture v g ⌝ }
+{
+    let format = g.format;
+    let point = g.point;
+    let transform = g.transform;
+    let region = g.region;
+    Graphics {
+        format: format,
+        point: point,
+        aperture: v,
+        mode: g.mode,
+        quadrants: g.quadrants,
+        transform: transform,
+        region: region,
+    }
+}
+
+// The state with the mode set anew.
+pub fn with_mode(v: u64, g: Graphics) -> Graphics
+    ensures { λ r. ⌜ r ≡ withMode v g ⌝ }
+{
+    let format = g.format;
+    let point = g.point;
+    let aperture = g.aperture;
+    let transform = g.transform;
+    let region = g.region;
+    Graphics {
+        format: format,
+        point: point,
+        aperture: aperture,
+        mode: v,
+        quadrants: g.quadrants,
+        transform: transform,
+        region: region,
+    }
+}
+
+// The state with G75 set anew.
+pub fn with_quadrants(v: bool, g: Graphics) -> Graphics
+    ensures { λ r. ⌜ r ≡ withQuadrants v g ⌝ }
+{
+    let format = g.format;
+    let point = g.point;
+    let aperture = g.aperture;
+    let transform = g.transform;
+    let region = g.region;
+    Graphics {
+        format: format,
+        point: point,
+        aperture: aperture,
+        mode: g.mode,
+        quadrants: v,
+        transform: transform,
+        region: region,
+    }
+}
+
+// The state with LP, LM, LR and LS set anew.
+pub fn with_transform(v: Transform, g: Graphics) -> Graphics
+    ensures { λ r. ⌜ r ≡ withTransform v g ⌝ }
+{
+    let format = g.format;
+    let point = g.point;
+    let aperture = g.aperture;
+    let region = g.region;
+    Graphics {
+        format: format,
+        point: point,
+        aperture: aperture,
+        mode: g.mode,
+        quadrants: g.quadrants,
+        transform: v,
+        region: region,
+    }
+}
+
+// The state with the region set anew.
+pub fn with_region(v: Region, g: Graphics) -> Graphics
+    ensures { λ r. ⌜ r ≡ withRegion v g ⌝ }
+{
+    let format = g.format;
+    let point = g.point;
+    let aperture = g.aperture;
+    let transform = g.transform;
+    Graphics {
+        format: format,
+        point: point,
+        aperture: aperture,
+        mode: g.mode,
+        quadrants: g.quadrants,
+        transform: transform,
+        region: v,
+    }
+}
+
+// The angle from 0 up to a full turn.
+pub fn angle_of(a: i64) -> u64
+    ensures { λ r. ⌜ r ≡ angleOf a ⌝ }
+{
+    let n = ints::size(a);
+    if ints::negative(a) {
+        return (360000000 - n % 360000000) % 360000000;
+    }
+    n % 360000000
+}
+
+// The angle of LR after a mirror of y, or without one.
+fn angle_after(y: bool, rotation: u64) -> u64
+    ensures { λ r. ⌜ r ≡ angleAfter y rotation ⌝ }
+{
+    if y {
+        return (180000000 + rotation % 360000000) % 360000000;
+    }
+    rotation % 360000000
+}
+
+// Flip and angle, as LM and LR give them.
+pub fn oriented(t: Transform) -> Orientation
+    ensures { λ r. ⌜ r ≡ orientation t ⌝ }
+{
+    Orientation {
+        flip: place::differ(t.mirror.x, t.mirror.y),
+        angle: angle_after(t.mirror.y, t.rotation),
+    }
+}
