@@ -14,7 +14,7 @@ use Rattle.commands.specs.Leads.{leadOf}
 use Rattle.commands.specs.declared.Lead.the-variants.{Plain}
 
 -- n tags from the first on, without those that are gone
-abbrev others : List ℕ → ℕ → ℕ → List ℕ
+abbrev pub others : List ℕ → ℕ → ℕ → List ℕ
 others gone first zero = []
 others gone first (suc n) = elim (hasKey gone first) [ true ↦ others gone (suc first) n | false ↦ first ∷ others gone (suc first) n ]
 

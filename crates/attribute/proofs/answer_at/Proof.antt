@@ -1,0 +1,34 @@
+-- `attribute::answer_at` meets its contract: whether the attribute is taken there picks the row.
+-- Assumes nothing.
+use mathlib.Core.Path.{sym, _∙_, ap}
+use Rattle.command.proofs.Choose.{row-holds, row-fails}
+use Rattle.attribute.specs.Sayings.{takenAt}
+use Rattle.attribute.specs.Attribute.{answerAt}
+use borrow.Author.Needs.{needs}
+use Rattle.attribute.proofs.answer_at.Statement.{statement}
+use Rattle.attribute.proofs.answer_at.Tie as tie
+
+part-requires : tie.Need-part-requires
+part-requires c κs = search needs
+
+taken-at-requires : tie.Need-taken-at-requires
+taken-at-requires c κs = search needs
+
+held-requires : tie.Need-held-requires
+held-requires c κs = search needs
+
+returns : tie.Need-returns
+unfolding answerAt
+returns c = row-holds _ (ap (takenAt _) (sym (c .before .before .before .part .ensures)) ∙ sym (c .before .before .taken-at .ensures) ∙ c .before .if1 .taken) (c .held .ensures)
+
+refused-requires : tie.Need-refused-requires
+refused-requires c κs = search needs
+
+returns-2 : tie.Need-returns-2
+unfolding answerAt
+returns-2 c = row-fails _ (ap (takenAt _) (sym (c .before .before .before .part .ensures)) ∙ sym (c .before .before .taken-at .ensures) ∙ c .before .if1 .left) (c .refused .ensures)
+
+pub answer-at-spec : {M : Type 1} → statement M
+answer-at-spec =
+    tie.close
+    (tie.spec part-requires taken-at-requires held-requires returns refused-requires returns-2)

@@ -1,0 +1,105 @@
+-- `attribute::pass` meets its contract. The loop's invariant: what is found and said so far, with the commands from here on, comes to the answer.
+-- Assumes nothing.
+use borrow.Author.Needs.{needs}
+use Prim.Native.Nat.{_-_, _≤_}
+use mathlib.Core.Path.{_≡_, sym, _∙_, ap}
+use lib.ListN.{length}
+use native.Mathlib.Omega.{arith}
+use Rattle.attribute.proofs.Left.{outcome, pass-starts, pass-more, pass-stops}
+use Rattle.attribute.specs.Attribute.{answerIn}
+use Rattle.commands.proofs.Walk.{walk, walk-fault, walk-last, walk-more, more-onward}
+use Rattle.attribute.proofs.pass.Statement.{statement}
+use Rattle.attribute.proofs.pass.Tie as tie
+
+abbrev Inv-loop : tie.InvT-loop
+Inv-loop file kind place name n₀ at₀ s₀ found₀ n at s found = (at ≤ length file) × (outcome file kind place name found s (walk n file at) ≡ answerIn file kind place name (walk 0 file 0))
+
+abbrev μ-loop : tie.MeasureT-loop
+μ-loop file kind place name n₀ at₀ s₀ found₀ n at s found = length file - at
+
+loop-holds : tie.Need-loop-holds Inv-loop μ-loop
+loop-holds c = (omega arith, pass-starts _ _ _ _ _)
+
+turn-at-requires : tie.Need-turn-at-requires Inv-loop μ-loop
+turn-at-requires c κs = search needs
+
+enum-known-t : tie.Need-enum-known-t Inv-loop μ-loop
+enum-known-t c = search needs
+
+judged-requires : tie.Need-judged-requires Inv-loop μ-loop
+judged-requires c κs = search needs
+
+returns : tie.Need-returns Inv-loop μ-loop
+returns c =
+    let l = c .before .before .before .before .before .loop in
+    let e = sym (c .before .before .before .before .turn-at .ensures) ∙ c .before .before .t .given .1 in
+    c .judged .ensures ∙ sym (pass-stops _ _ _ _ _ (l .s) _) ∙ sym (ap (outcome _ _ _ _ _ _) (walk-fault (l .n) _ (l .at) e)) ∙ l .inv .1
+
+enum-known-t-2 : tie.Need-enum-known-t-2 Inv-loop μ-loop
+enum-known-t-2 c = search needs
+
+tail-fault-requires : tie.Need-tail-fault-requires Inv-loop μ-loop
+tail-fault-requires c κs = search needs
+
+met-requires : tie.Need-met-requires Inv-loop μ-loop
+met-requires c κs = search needs
+
+judged-requires-2 : tie.Need-judged-requires-2 Inv-loop μ-loop
+judged-requires-2 c κs = search needs
+
+returns-2 : tie.Need-returns-2 Inv-loop μ-loop
+returns-2 c =
+    let l = c .before .before .before .before .before .before .before .loop in
+    let e = sym (c .before .before .before .before .before .before .turn-at .ensures) ∙ c .before .before .before .before .t2 .given .1 in
+    simp (c .judged2 .ensures, c .before .met .ensures, c .before .before .tail-fault .ensures)
+    (sym (pass-stops _ _ _ _ _ _ _) ∙ sym (pass-more _ _ _ _ (l .found) (l .s) _ _) ∙ sym (ap (outcome _ _ _ _ _ _) (walk-last (l .n) _ (l .at) e)) ∙ l .inv .1)
+
+enum-known-t-3 : tie.Need-enum-known-t-3 Inv-loop μ-loop
+enum-known-t-3 c = search needs
+
+met-requires-2 : tie.Need-met-requires-2 Inv-loop μ-loop
+met-requires-2 c κs = search needs
+
+saying-of-requires : tie.Need-saying-of-requires Inv-loop μ-loop
+saying-of-requires c κs = search needs
+
+later-requires : tie.Need-later-requires Inv-loop μ-loop
+later-requires c κs = search needs
+
+loop-less : tie.Need-loop-less Inv-loop μ-loop
+loop-less c =
+    let l = c .before .before .before .before .before .before .before .loop in
+    let e = sym (c .before .before .before .before .before .before .turn-at .ensures) ∙ c .before .before .before .before .t3 .given .1 in
+    omega (arith, more-onward (l .n) _ (l .at) (l .inv .0) e .0, more-onward (l .n) _ (l .at) (l .inv .0) e .1)
+
+loop-again : tie.Need-loop-again Inv-loop μ-loop
+loop-again c =
+    let l = c .before .before .before .before .before .before .before .loop in
+    let e = sym (c .before .before .before .before .before .before .turn-at .ensures) ∙ c .before .before .before .before .t3 .given .1 in (
+      more-onward (l .n) _ (l .at) (l .inv .0) e .1,
+      simp (c .later .ensures, c .before .saying-of .ensures, c .before .before .met2 .ensures)
+          (sym (pass-more _ _ _ _ (l .found) (l .s) _ _) ∙ sym (ap (outcome _ _ _ _ _ _) (walk-more (l .n) _ (l .at) (l .inv .0) e)) ∙ l .inv .1),
+    )
+
+pub pass-spec : {M : Type 1} → statement M
+pass-spec =
+    tie.close
+    (tie.spec
+    Inv-loop
+    μ-loop
+    loop-holds
+    turn-at-requires
+    enum-known-t
+    judged-requires
+    returns
+    enum-known-t-2
+    tail-fault-requires
+    met-requires
+    judged-requires-2
+    returns-2
+    enum-known-t-3
+    met-requires-2
+    saying-of-requires
+    later-requires
+    loop-less
+    loop-again)

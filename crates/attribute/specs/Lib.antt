@@ -1,0 +1,4 @@
+pub mod Attribute
+pub mod Deeds
+pub mod Pass
+pub mod Sayings

@@ -1,0 +1,25 @@
+-- The pass over the commands: what is found at the command asked, once it is met, and what is answered at the end.
+use Prim.Native.Nat.{ℕ}
+use mathlib.Core.List.{List}
+use lib.Dec.{eqb}
+use Rattle.command.specs.Choose.{pick}
+use Rattle.commands.specs.declared.Placed.{Placed}
+use Rattle.attribute.specs.Attribute.{refused, answerAt}
+use Rattle.attribute.specs.declared.Answer.{Answer}
+use Rattle.attribute.specs.declared.Found.{Found}
+use Rattle.attribute.specs.declared.Found.the-variants.{NotYet, Is}
+use Rattle.attribute.specs.declared.Kind.{Kind}
+use Rattle.attribute.specs.declared.Saying.{Saying}
+
+-- a command more, s being what those before it say
+unfoldable pub met : List ℕ → Kind → ℕ → Saying → Placed → Found → Found
+met file kind place s c (Is a) = Is a
+met file kind place s c NotYet = pick (eqb (c .place) place) (Is (answerAt file kind c s)) NotYet
+
+-- no command more: 22 where none was asked
+unfoldable pub closing : Found → Answer
+closing NotYet = refused 22
+closing (Is a) = a
+
+unfoldable pub judged : ℕ → Found → Answer
+judged number found = pick (eqb number 0) (closing found) (refused number)

@@ -1,0 +1,60 @@
+-- What a command says of the attribute that is asked, TA or TO and its name.
+use Prim.Native.Nat.{ℕ, _+_, _-_}
+use Prim.Native.Char.{code}
+use mathlib.Core.Bool.{Bool, true, false, not}
+use mathlib.Core.List.{List}
+use lib.Dec.{ltb}
+use lib.ListN.{take}
+use lib.Seq.{slice}
+use Rattle.base.specs.And.{_and_}
+use Rattle.base.specs.Bytes.{sameBytes}
+use Rattle.base.specs.Or.{_or_}
+use Rattle.text.specs.First.{place}
+use Rattle.text.specs.Text.{_begins_}
+use Rattle.command.specs.Choose.{pick}
+use Rattle.command.specs.declared.Span.{Span}
+use Rattle.commands.specs.declared.Placed.{Placed}
+use Rattle.attribute.specs.Deeds.{deedOf}
+use Rattle.attribute.specs.declared.Deed.{Deed}
+use Rattle.attribute.specs.declared.Deed.the-variants as deed
+use Rattle.attribute.specs.declared.Kind.{Kind}
+use Rattle.attribute.specs.declared.Kind.the-variants.{Aperture, Object}
+use Rattle.attribute.specs.declared.Saying.{Saying}
+use Rattle.attribute.specs.declared.Saying.the-variants.{Silent, Deletes, Sets}
+
+-- a command's text
+abbrev pub textOf : List ℕ → Placed → List ℕ
+textOf file c = slice (c .from) (c .end) file
+
+-- the bytes after the first comma of a command, up to its `*`; 0 and 0 without one (decisions 112 and 212)
+unfoldable pub valueIn : List ℕ → ℕ → Saying
+valueIn s from =
+    let comma : ℕ = place (code ",") s from in
+    let star : ℕ = place (code "*") s from in
+    pick (ltb comma star) (Sets (comma + 1) (star - (comma + 1))) (Sets 0 0)
+
+-- a part of the text is the name asked, byte for byte
+abbrev pub named : List ℕ → Span → List ℕ → Bool
+named text n name = sameBytes (slice (n .from) (n .to) text) name
+
+-- TA is asked, not TO
+unfoldable pub asksTA : Kind → Bool
+asksTA Aperture = true
+asksTA Object = false
+
+-- the two kinds are held apart, and TD speaks of both
+unfoldable pub saying : Kind → List ℕ → List ℕ → Saying → Deed → Saying
+saying kind name text value deed.Nothing = Silent
+saying kind name text value (deed.Aperture n) = pick (asksTA kind and named text n name) value Silent
+saying kind name text value (deed.Object n) = pick (not (asksTA kind) and named text n name) value Silent
+saying kind name text value (deed.Delete n) = pick (named text n name) Deletes Silent
+saying kind name text value deed.DeleteAll = Deletes
+
+-- what a command says of the name
+unfoldable pub sayingOf : List ℕ → Kind → List ℕ → Placed → Saying
+sayingOf file kind name c = saying kind name (textOf file c) (valueIn (take (c .end) file) (c .from)) (deedOf (c .command))
+
+-- TO is taken at any command, TA at AD and at an AB opening, whatever their numbers are (decisions 109, 111 and 211)
+unfoldable pub takenAt : Kind → List ℕ → Bool
+takenAt Object text = true
+takenAt Aperture text = text begins "AD" or text begins "ABD"
