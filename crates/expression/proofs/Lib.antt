@@ -1,0 +1,5 @@
+pub mod Chain
+pub mod Seen
+pub mod Sizes
+pub mod Steps
+pub mod Told
