@@ -13,7 +13,8 @@ use Rattle.base.proofs.Run.{run-snoc, length-copies}
 use Rattle.place.specs.declared.Item.{Item}
 use Rattle.place.specs.Item.{zeroItem}
 use Rattle.sheet.specs.Records.{stored}
-use Rattle.descend.specs.Slots.{flagWord, itemWords, slot, slots}
+use Rattle.sheet.specs.Meaning.{flagWord}
+use Rattle.descend.specs.Slots.{itemWords, slot, slots}
 
 -- a run of n pieces and one of m from where it ends are a run of n + m
 pub run-join : {A : Type 0} (f : ℕ → List A) (k n m : ℕ) → run f k n ++ run f (k + n) m ≡ run f k (n + m)

@@ -1,6 +1,6 @@
 -- Items as words, fourteen each (docs/SHEET.md), and a run of them in a lent slice.
 use Prim.Native.Nat.{ℕ, _/_, _%_}
-use mathlib.Core.Bool.{Bool, cond}
+use mathlib.Core.Bool.{cond}
 use mathlib.Core.List.{List, [], _∷_, _++_}
 use lib.Dec.{ltb}
 use lib.ListN.{length, getD, replicate}
@@ -9,13 +9,10 @@ use mir.Val.{ofZ}
 use Rattle.base.specs.Run.{run}
 use Rattle.place.specs.declared.Item.{Item}
 use Rattle.place.specs.Item.{zeroItem}
-use Rattle.sheet.specs.Meaning.{sheetItems}
+use Rattle.sheet.specs.Meaning.{flagWord, sheetItems}
 use Rattle.sheet.specs.Valid.{valid}
 use Rattle.descend.specs.declared.Fetch.{Fetch}
 use Rattle.descend.specs.declared.Fetch.the-variants as F
-
-unfoldable pub flagWord : Bool → ℕ
-flagWord b = cond b 1 0
 
 -- coordinates in two's complement (decision 201)
 unfoldable pub itemWords : Item → List ℕ

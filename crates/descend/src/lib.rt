@@ -1,20 +1,17 @@
 // The total, one item, and a run of items of a sheet, by descent: no copy is written out.
 use place::Item;
 use place::Pose;
-use points::Point;
 use sheet::Container;
 use sheet::Entry;
 use sheet::Role;
 ghost use mathlib.Core.Path.{_≡_};
 ghost use Prim.Native.Nat.{_≤_, _<_, _+_};
 ghost use lib.ListN.{length, replicate};
-ghost use mir.Syntax.{w64};
-ghost use mir.Val.{ofZ};
 ghost use Rattle.sheet.specs.Records.{entryOf, entryRoom, stored};
 ghost use Rattle.sheet.specs.Meaning.{items};
 ghost use Rattle.descend.specs.Search.{Found, Held, Split, copyOf, Descends, Asked, Answered, Whole};
 ghost use Rattle.descend.specs.Answers.{totalOf, answerOf};
-ghost use Rattle.descend.specs.Slots.{flagWord, itemWords, slots, fetchOf, fetched};
+ghost use Rattle.descend.specs.Slots.{itemWords, slots, fetchOf, fetched};
 
 // How many items stand before entry i in its container.
 fn before_at(e: &[u64], i: usize) -> u64
@@ -135,24 +132,6 @@ pub enum Fetch {
     NotSheet,
 }
 
-fn flag_word(b: bool) -> u64
-    ensures { λ r. ⌜ r ≡ flagWord b ⌝ }
-{
-    if b { 1 } else { 0 }
-}
-
-fn x_word(p: Point) -> u64
-    ensures { λ r. ⌜ r ≡ ofZ w64 (p .x) ⌝ }
-{
-    ints::word(p.x)
-}
-
-fn y_word(p: Point) -> u64
-    ensures { λ r. ⌜ r ≡ ofZ w64 (p .y) ⌝ }
-{
-    ints::word(p.y)
-}
-
 // Stores an item's fourteen words from a place on.
 fn put_item(out: &mut [u64], at: usize, t: Item)
     requires { ⌜ at + 14 ≤ length (now out) ⌝ }
@@ -164,16 +143,16 @@ fn put_item(out: &mut [u64], at: usize, t: Item)
     let w = [
         t.kind,
         t.aperture,
-        flag_word(t.clear),
-        flag_word(t.flip),
+        sheet::flag_word(t.clear),
+        sheet::flag_word(t.flip),
         t.angle,
         t.scale,
-        x_word(start),
-        y_word(start),
-        x_word(end),
-        y_word(end),
-        x_word(centre),
-        y_word(centre),
+        sheet::x_word(start),
+        sheet::y_word(start),
+        sheet::x_word(end),
+        sheet::y_word(end),
+        sheet::x_word(centre),
+        sheet::y_word(centre),
         t.count,
         t.place,
     ];

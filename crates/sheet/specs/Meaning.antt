@@ -1,5 +1,6 @@
 -- What a store means: the items that its entries put out.
 use Prim.Native.Nat.{ℕ, zero, suc}
+use mathlib.Core.Bool.{Bool, cond}
 use mathlib.Core.List.{List, [], _∷_, map}
 use lib.Dec.{eqb}
 use mir.Syntax.{w64}
@@ -22,6 +23,10 @@ use Rattle.sheet.specs.declared.Role.the-variants.{Draws, Uses, Repeats,
 -- coordinates stand in two's complement
 unfoldable pub pointOf : ℕ → ℕ → Point
 pointOf x y = pt (toZ w64 x) (toZ w64 y)
+
+-- a flag as a word
+unfoldable pub flagWord : Bool → ℕ
+flagWord b = cond b 1 0
 
 unfoldable pub drawn : Entry → Item
 drawn r = record {

@@ -6,9 +6,11 @@ use points::Point;
 ghost use mathlib.Core.Path.{_≡_};
 ghost use Prim.Native.Nat.{_+_, _-_, _*_, _≤_, _<_};
 ghost use lib.ListN.{length};
+ghost use mir.Syntax.{w64};
+ghost use mir.Val.{ofZ};
 ghost use Rattle.sheet.specs.Records.{entryIn, entryOf, apertureIn, apertureOf, roleOf, entryRoom, apertureRoom, entryWords, stored};
 ghost use Rattle.sheet.specs.Containers.{blockOf, bodyOf, topOf};
-ghost use Rattle.sheet.specs.Meaning.{pointOf, drawn, poseOf, repeatOf};
+ghost use Rattle.sheet.specs.Meaning.{flagWord, pointOf, drawn, poseOf, repeatOf};
 
 // An entry's fifteen words.
 pub struct Entry {
@@ -193,6 +195,25 @@ fn point_of(x: u64, y: u64) -> Point
         x: ints::from_word(x),
         y: ints::from_word(y),
     }
+}
+
+// A flag, and a coordinate of a point, as a word.
+pub fn flag_word(b: bool) -> u64
+    ensures { λ r. ⌜ r ≡ flagWord b ⌝ }
+{
+    if b { 1 } else { 0 }
+}
+
+pub fn x_word(p: Point) -> u64
+    ensures { λ r. ⌜ r ≡ ofZ w64 (p .x) ⌝ }
+{
+    ints::word(p.x)
+}
+
+pub fn y_word(p: Point) -> u64
+    ensures { λ r. ⌜ r ≡ ofZ w64 (p .y) ⌝ }
+{
+    ints::word(p.y)
 }
 
 // The item that an entry draws.

@@ -10,11 +10,6 @@ use Prim.Native.Nat.{_-_, _≤_, _/_}
 use borrow.Author.Needs.{needs}
 use Rattle.descend.proofs.fill.Statement.{statement}
 use Rattle.descend.proofs.fill.Tie as tie
-use Rattle.descend.proofs.fill.Reads as reads
-use Rattle.descend.proofs.fill.Lts as lts
-use Rattle.descend.proofs.item_at.Reads as item-at-reads
-use Rattle.descend.proofs.put_item.Reads as put-item-reads
-use Rattle.sheet.proofs.index.Reads as index-reads
 
 abbrev Inv-loop : tie.InvT-loop
 Inv-loop e a k n out₀ room j₀ out j = (j ≤ room) × (length out ≡ length out₀) × (out ≡ filled (items e a 10 k) n (length out₀) j) × (Whole e a k n) × (room ≡ length out₀ / 14)

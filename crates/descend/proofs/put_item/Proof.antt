@@ -3,12 +3,6 @@ use Rattle.descend.specs.Slots.{itemWords}
 use borrow.Author.Needs.{needs}
 use Rattle.descend.proofs.put_item.Statement.{statement}
 use Rattle.descend.proofs.put_item.Tie as tie
-use Rattle.descend.proofs.put_item.Reads as reads
-use Rattle.descend.proofs.put_item.Lts as lts
-use Rattle.descend.proofs.flag_word.Reads as flag-word-reads
-use Rattle.descend.proofs.x_word.Reads as x-word-reads
-use Rattle.descend.proofs.y_word.Reads as y-word-reads
-use Rattle.sheet.proofs.put_words.Reads as put-words-reads
 
 flag-word-requires : tie.Need-flag-word-requires
 flag-word-requires c κs = search needs

@@ -4,12 +4,6 @@ use mathlib.Core.Path.{sym, _∙_}
 use borrow.Author.Needs.{needs}
 use Rattle.descend.proofs.sheet_run.Statement.{statement}
 use Rattle.descend.proofs.sheet_run.Tie as tie
-use Rattle.descend.proofs.sheet_run.Reads as reads
-use Rattle.descend.proofs.sheet_run.Lts as lts
-use Rattle.base.proofs.clear.Reads as clear-reads
-use Rattle.descend.proofs.fill.Reads as fill-reads
-use Rattle.inspect.proofs.is_sheet.Reads as is-sheet-reads
-use Rattle.sheet.proofs.top_of.Reads as top-of-reads
 
 clear-requires : tie.Need-clear-requires
 clear-requires c κs = search needs

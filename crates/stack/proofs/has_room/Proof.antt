@@ -9,8 +9,6 @@ use Prim.Native.Nat.{_+_, _-_, _/_}
 use borrow.Author.Needs.{needs}
 use Rattle.stack.proofs.has_room.Statement.{statement}
 use Rattle.stack.proofs.has_room.Tie as tie
-use Rattle.stack.proofs.has_room.Reads as reads
-use Rattle.stack.proofs.has_room.Lts as lts
 
 sub-result : tie.Need-sub-result
 sub-result c = search needs

@@ -7,10 +7,6 @@ use Prim.Native.Nat.{_+_, _/_, _<_}
 use borrow.Author.Needs.{needs}
 use Rattle.stack.proofs.push.Statement.{statement}
 use Rattle.stack.proofs.push.Tie as tie
-use Rattle.stack.proofs.push.Reads as reads
-use Rattle.stack.proofs.push.Lts as lts
-use Rattle.sheet.proofs.put_entry.Reads as put-entry-reads
-use Rattle.stack.proofs.has_room.Reads as has-room-reads
 
 has-room-requires : tie.Need-has-room-requires
 has-room-requires c κs = search needs

@@ -6,10 +6,6 @@ use mathlib.Core.Path.{_≡_, _∙_}
 use Prim.Native.Nat.{_+_, _-_, _≤_}
 use Rattle.stack.proofs.turn_over.Statement.{statement}
 use Rattle.stack.proofs.turn_over.Tie as tie
-use Rattle.stack.proofs.turn_over.Reads as reads
-use Rattle.stack.proofs.turn_over.Lts as lts
-use Rattle.sheet.proofs.entry_at.Reads as entry-at-reads
-use Rattle.sheet.proofs.put_entry.Reads as put-entry-reads
 
 abbrev Inv-loop : tie.InvT-loop
 Inv-loop e₀ lo hi n i₀ e i = (i ≤ n) × Swapped e₀ e lo hi i × (lo + n ≤ hi) × (hi ≤ entryRoom e₀)
