@@ -64,14 +64,14 @@ fn breaks_after(kind: Kind, last: u8) -> bool
 }
 
 // b is a CR or LF that may stand after this byte in a command of this kind.
-fn may_break(kind: Kind, last: u8, b: u8) -> bool
+pub fn may_break(kind: Kind, last: u8, b: u8) -> bool
     ensures { λ r. ⌜ r ≡ mayBreak kind last b ⌝ }
 {
     base::both(text::one_of(b"\r\n", b), breaks_after(kind, last))
 }
 
 // The byte that ends a command of this kind.
-fn end_of(kind: Kind) -> u8
+pub fn end_of(kind: Kind) -> u8
     ensures { λ r. ⌜ r ≡ endOf kind ⌝ }
 {
     match kind {

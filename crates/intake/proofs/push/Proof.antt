@@ -1,0 +1,75 @@
+-- `intake::push` meets its contract: each field is what its call ensures.
+use borrow.Author.Needs.{needs}
+use Rattle.intake.specs.Runs.{pushed}
+use Rattle.intake.proofs.push.Statement.{statement}
+use Rattle.intake.proofs.push.Tie as tie
+
+does-begin-requires : tie.Need-does-begin-requires
+does-begin-requires c κs = search needs
+
+fresh-requires : tie.Need-fresh-requires
+fresh-requires c κs = search needs
+
+pick-requires : tie.Need-pick-requires
+pick-requires c κs = search needs
+
+slice-aggregate-grow : tie.Need-slice-aggregate-grow
+slice-aggregate-grow c = search needs
+
+grow-requires : tie.Need-grow-requires
+grow-requires c κs = search needs
+
+way-after-requires : tie.Need-way-after-requires
+way-after-requires c κs = search needs
+
+holds-end-requires : tie.Need-holds-end-requires
+holds-end-requires c κs = search needs
+
+settle-requires : tie.Need-settle-requires
+settle-requires c κs = search needs
+
+slice-aggregate-feed-text : tie.Need-slice-aggregate-feed-text
+slice-aggregate-feed-text c = search needs
+
+feed-text-requires : tie.Need-feed-text-requires
+feed-text-requires c κs = search needs
+
+pick-requires-2 : tie.Need-pick-requires-2
+pick-requires-2 c κs = search needs
+
+wrapping-add-usize-requires : tie.Need-wrapping-add-usize-requires
+wrapping-add-usize-requires c κs = search needs
+
+returns : tie.Need-returns
+unfolding pushed
+returns c =
+    rw (
+      c .wrapping-add-usize .ensures,
+      c .before .pick2 .ensures,
+      c .before .before .feed-text .ensures,
+      c .before .before .before .before .settle .ensures,
+      c .before .before .before .before .before .holds-end .ensures,
+      c .before .before .before .before .before .before .way-after .ensures,
+      c .before .before .before .before .before .before .before .before .grow .ensures,
+      c .before .before .before .before .before .before .before .before .before .before .pick .ensures,
+      c .before .before .before .before .before .before .before .before .before .before .before .fresh .ensures,
+      c .before .before .before .before .before .before .before .before .before .before .before .before .does-begin .ensures,
+    )
+
+pub push-spec : {M : Type 1} → statement M
+push-spec =
+    tie.close
+    (tie.spec
+    does-begin-requires
+    fresh-requires
+    pick-requires
+    slice-aggregate-grow
+    grow-requires
+    way-after-requires
+    holds-end-requires
+    settle-requires
+    slice-aggregate-feed-text
+    feed-text-requires
+    pick-requires-2
+    wrapping-add-usize-requires
+    returns)

@@ -1,0 +1,42 @@
+-- `intake::way_over` meets its contract: at each return the tests that led there pick the case of `after`.
+use mathlib.Core.Path.{sym}
+use borrow.Author.Needs.{needs}
+use Rattle.base.proofs.Tests.{tests}
+use Rattle.intake.specs.Ways.{after}
+use Rattle.intake.proofs.way_over.Statement.{statement}
+use Rattle.intake.proofs.way_over.Tie as tie
+
+is-break-requires : tie.Need-is-break-requires
+is-break-requires c κs = search needs
+
+returns : tie.Need-returns
+unfolding after
+returns c =
+    let e1 = sym (c .before .is-break .ensures) in
+    let b2 = c .if1 .taken in
+    simp (tests, e1, b2)
+
+is-printable-requires : tie.Need-is-printable-requires
+is-printable-requires c κs = search needs
+
+returns-2 : tie.Need-returns-2
+unfolding after
+returns-2 c =
+    let e1 = sym (c .before .before .before .is-break .ensures) in
+    let b2 = c .before .before .if1 .left in
+    let e3 = sym (c .before .is-printable .ensures) in
+    let b4 = c .if2 .taken in
+    simp (tests, e1, b2, e3, b4)
+
+returns-3 : tie.Need-returns-3
+unfolding after
+returns-3 c =
+    let e1 = sym (c .before .before .before .is-break .ensures) in
+    let b2 = c .before .before .if1 .left in
+    let e3 = sym (c .before .is-printable .ensures) in
+    let b4 = c .if2 .left in
+    simp (tests, e1, b2, e3, b4)
+
+pub way-over-spec : {M : Type 1} → statement M
+way-over-spec =
+    tie.close (tie.spec is-break-requires returns is-printable-requires returns-2 returns-3)
