@@ -254,7 +254,7 @@ pub fn after(c: Command, g: Graphics) -> Graphics
             parameters,
             count,
         } => g,
-        Command::Macro { name, blocks } => g,
+        Command::Macro { name, blocks, deep } => g,
         Command::FileAttribute { name, value } => g,
         Command::ApertureAttribute { name, value } => g,
         Command::ObjectAttribute { name, value } => g,

@@ -60,6 +60,6 @@ pub fn command_of(n: usize, kind: Kind, s: &[u8]) -> Command
     match kind {
         Kind::Word => words::word_of(n, s),
         Kind::Extended => extended_of(s),
-        Kind::Macro => apertures::macro_of(s),
+        Kind::Macro => form::macro_of(s),
     }
 }
