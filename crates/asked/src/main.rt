@@ -1,8 +1,8 @@
 // Attributes asked of the file on standard input: three names, as TA and as TO, at every place. A line for each answer but 22: what
 // was asked, then the answer as the second reader writes it.
 use attribute::Answer;
-use attribute::Kind;
 use libc::STDOUT_FILENO;
+use sayings::Kind;
 
 // A tab and a number.
 fn number(n: usize) {

@@ -11,13 +11,13 @@ use Rattle.commands.specs.declared.Placed.{Placed}
 use Rattle.commands.specs.declared.Refusal.{Refusal}
 use Rattle.attribute.specs.Attribute.{refused, before, fromOn, later, lastSaying, answerFor, answerIn}
 use Rattle.attribute.specs.Pass.{met, closing, judged}
-use Rattle.attribute.specs.Sayings.{sayingOf}
+use Rattle.sayings.specs.Sayings.{sayingOf}
 use Rattle.attribute.specs.declared.Answer.{Answer}
 use Rattle.attribute.specs.declared.Found.{Found}
 use Rattle.attribute.specs.declared.Found.the-variants.{NotYet, Is}
-use Rattle.attribute.specs.declared.Kind.{Kind}
-use Rattle.attribute.specs.declared.Saying.{Saying}
-use Rattle.attribute.specs.declared.Saying.the-variants.{Silent, Deletes, Sets}
+use Rattle.sayings.specs.declared.Kind.{Kind}
+use Rattle.sayings.specs.declared.Saying.{Saying}
+use Rattle.sayings.specs.declared.Saying.the-variants.{Silent, Deletes, Sets}
 
 later-silent : (s : Saying) → later Silent s ≡ s
 unfolding later

@@ -7,11 +7,11 @@ use lib.Dec.{eqb}
 use Rattle.command.specs.Choose.{pick}
 use Rattle.commands.specs.Commands.{Listing, commandsOf}
 use Rattle.commands.specs.declared.Placed.{Placed}
-use Rattle.attribute.specs.Sayings.{textOf, sayingOf, takenAt}
+use Rattle.sayings.specs.Sayings.{textOf, sayingOf, takenAt}
 use Rattle.attribute.specs.declared.Answer.{Answer}
-use Rattle.attribute.specs.declared.Kind.{Kind}
-use Rattle.attribute.specs.declared.Saying.{Saying}
-use Rattle.attribute.specs.declared.Saying.the-variants.{Silent, Deletes, Sets}
+use Rattle.sayings.specs.declared.Kind.{Kind}
+use Rattle.sayings.specs.declared.Saying.{Saying}
+use Rattle.sayings.specs.declared.Saying.the-variants.{Silent, Deletes, Sets}
 
 -- 01's number, with place and length 0
 abbrev pub refused : ℕ → Answer

@@ -1,4 +1,2 @@
 pub mod Attribute
-pub mod Deeds
 pub mod Pass
-pub mod Sayings

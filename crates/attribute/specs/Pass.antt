@@ -8,8 +8,8 @@ use Rattle.attribute.specs.Attribute.{refused, answerAt}
 use Rattle.attribute.specs.declared.Answer.{Answer}
 use Rattle.attribute.specs.declared.Found.{Found}
 use Rattle.attribute.specs.declared.Found.the-variants.{NotYet, Is}
-use Rattle.attribute.specs.declared.Kind.{Kind}
-use Rattle.attribute.specs.declared.Saying.{Saying}
+use Rattle.sayings.specs.declared.Kind.{Kind}
+use Rattle.sayings.specs.declared.Saying.{Saying}
 
 -- a command more, s being what those before it say
 unfoldable pub met : List ℕ → Kind → ℕ → Saying → Placed → Found → Found

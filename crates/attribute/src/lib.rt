@@ -2,22 +2,13 @@
 ghost use mathlib.Core.Path.{_≡_};
 ghost use lib.ListN.{length};
 ghost use Prim.Native.Nat.{suc};
-ghost use Rattle.command.specs.Choose.{pick};
 ghost use Rattle.commands.specs.Commands.{commandsFrom};
 ghost use Rattle.attribute.specs.Attribute.{refused, later, held, answerAt, answerIn, attributeOf};
-ghost use Rattle.attribute.specs.Deeds.{deedOf};
 ghost use Rattle.attribute.specs.Pass.{met, judged};
-ghost use Rattle.attribute.specs.Sayings.{valueIn, named, asksTA, sayingOf, takenAt};
-use command::Command;
-use command::Span;
 use commands::Placed;
 use commands::Turn;
-
-// The kind that is asked: TA or TO.
-pub enum Kind {
-    Aperture,
-    Object,
-}
+use sayings::Kind;
+use sayings::Saying;
 
 // Document 01's number, 0 where the name is held, and the place and length of its value in the file.
 pub struct Answer {
@@ -26,106 +17,10 @@ pub struct Answer {
     pub length: usize,
 }
 
-// What a command does to the attributes that are held, with the place of the name in its text.
-pub enum Deed {
-    Nothing,
-    Aperture(Span),
-    Object(Span),
-    Delete(Span),
-    DeleteAll,
-}
-
-// What a command says of the name that is asked.
-pub enum Saying {
-    Silent,
-    Deletes,
-    Sets { place: usize, length: usize },
-}
-
 // What is answered at the command asked, once it is met.
 pub enum Found {
     NotYet,
     Is(Answer),
-}
-
-// What a command does to the attributes that are held.
-fn deed_of(c: Command) -> Deed
-    ensures { λ r. ⌜ r ≡ deedOf c ⌝ }
-{
-    match c {
-        Command::ApertureAttribute { name, .. } => Deed::Aperture(name),
-        Command::ObjectAttribute { name, .. } => Deed::Object(name),
-        Command::Delete { name } => Deed::Delete(name),
-        Command::DeleteAll => Deed::DeleteAll,
-        _ => Deed::Nothing,
-    }
-}
-
-// The first where the test holds, else the second.
-fn pick(test: bool, yes: Saying, no: Saying) -> Saying
-    ensures { λ r. ⌜ r ≡ pick test yes no ⌝ }
-{
-    if test { yes } else { no }
-}
-
-// The value behind the first comma from `from` on, up to the first `*`.
-fn value_in(s: &[u8], from: usize) -> Saying
-    ensures { λ r. ⌜ r ≡ valueIn (now (s .entry)) from ⌝ }
-{
-    let comma = text::find(s, from, b',');
-    let star = text::find(s, from, b'*');
-    if comma < star {
-        return Saying::Sets {
-            place: comma + 1,
-            length: star - (comma + 1),
-        };
-    }
-    Saying::Sets {
-        place: 0,
-        length: 0,
-    }
-}
-
-// A part of the text is the name asked.
-fn is_named(t: &[u8], n: Span, name: &[u8]) -> bool
-    ensures { λ r. ⌜ r ≡ named (now (t .entry)) n (now (name .entry)) ⌝ }
-{
-    text::is(base::part(t, n.from, n.to), name)
-}
-
-// TA is asked, not TO.
-fn asks_ta(kind: Kind) -> bool
-    ensures { λ r. ⌜ r ≡ asksTA kind ⌝ }
-{
-    match kind {
-        Kind::Aperture => true,
-        Kind::Object => false,
-    }
-}
-
-// What a command says of the attribute.
-fn saying_of(file: &[u8], kind: Kind, name: &[u8], c: Placed) -> Saying
-    ensures { λ r. ⌜ r ≡ sayingOf (now (file .entry)) kind (now (name .entry)) c ⌝ }
-{
-    let from = c.from;
-    let end = c.end;
-    let t = base::part(file, from, end);
-    let ta = asks_ta(kind);
-    let command = c.command;
-    let deed = deed_of(command);
-    match deed {
-        Deed::Nothing => Saying::Silent,
-        Deed::Aperture(n) => {
-            let value = value_in(base::up_to(file, end), from);
-            pick(base::both(ta, is_named(t, n, name)), value, Saying::Silent)
-        }
-        Deed::Object(n) => {
-            let value = value_in(base::up_to(file, end), from);
-            pick(base::both(!ta, is_named(t, n, name)), value, Saying::Silent)
-        }
-        Deed::Delete(n) => pick(is_named(t, n, name), Saying::Deletes, Saying::Silent),
-        Deed::DeleteAll => Saying::Deletes,
-    }
 }
 
 // Of two sayings the later, if it is one.
@@ -165,23 +60,13 @@ fn held(s: Saying) -> Answer
     }
 }
 
-// An attribute of this kind is taken at a command with this text.
-fn taken_at(kind: Kind, t: &[u8]) -> bool
-    ensures { λ r. ⌜ r ≡ takenAt kind (now (t .entry)) ⌝ }
-{
-    match kind {
-        Kind::Aperture => base::either(text::begins(t, b"AD"), text::begins(t, b"ABD")),
-        Kind::Object => true,
-    }
-}
-
 // The answer at a command, s being what those before it say.
 fn answer_at(file: &[u8], kind: Kind, c: Placed, s: Saying) -> Answer
     ensures { λ r. ⌜ r ≡ answerAt (now (file .entry)) kind c s ⌝ }
 {
     let from = c.from;
     let end = c.end;
-    if taken_at(kind, base::part(file, from, end)) {
+    if sayings::taken_at(kind, base::part(file, from, end)) {
         return held(s);
     }
     refused(23)
@@ -239,7 +124,7 @@ fn pass(file: &[u8], kind: Kind, place: usize, name: &[u8]) -> Answer
                 next,
             } => {
                 found = met(file, kind, place, s, command, found);
-                s = later(s, saying_of(file, kind, name, command));
+                s = later(s, sayings::saying_of(file, kind, name, command));
                 n = m;
                 at = next;
             }

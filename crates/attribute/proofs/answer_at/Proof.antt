@@ -2,7 +2,7 @@
 -- Assumes nothing.
 use mathlib.Core.Path.{sym, _∙_, ap}
 use Rattle.command.proofs.Choose.{row-holds, row-fails}
-use Rattle.attribute.specs.Sayings.{takenAt}
+use Rattle.sayings.specs.Sayings.{takenAt}
 use Rattle.attribute.specs.Attribute.{answerAt}
 use borrow.Author.Needs.{needs}
 use Rattle.attribute.proofs.answer_at.Statement.{statement}

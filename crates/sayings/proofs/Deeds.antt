@@ -9,8 +9,8 @@ use Rattle.command.specs.declared.Command.{Command}
 use Rattle.command.specs.declared.Command.the-variants as cmd
 use Rattle.command.proofs.Command.{the-type}
 use Rattle.commands.proofs.Leads.{others}
-use Rattle.attribute.specs.Deeds.{deedOf}
-use Rattle.attribute.specs.declared.Deed.the-variants.{Nothing}
+use Rattle.sayings.specs.Deeds.{deedOf}
+use Rattle.sayings.specs.declared.Deed.the-variants.{Nothing}
 
 -- of 33 commands all but TA, TO and TD's two
 abbrev idleTags : List ℕ

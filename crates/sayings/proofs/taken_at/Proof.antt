@@ -1,9 +1,9 @@
--- `attribute::taken_at` meets its contract, kind by kind.
+-- `sayings::taken_at` meets its contract, kind by kind.
 -- Assumes nothing.
-use Rattle.attribute.specs.Sayings.{takenAt}
+use Rattle.sayings.specs.Sayings.{takenAt}
 use borrow.Author.Needs.{needs}
-use Rattle.attribute.proofs.taken_at.Statement.{statement}
-use Rattle.attribute.proofs.taken_at.Tie as tie
+use Rattle.sayings.proofs.taken_at.Statement.{statement}
+use Rattle.sayings.proofs.taken_at.Tie as tie
 
 enum-told : tie.Need-enum-told
 enum-told c = search needs

@@ -1,8 +1,8 @@
--- `attribute::pick` meets its contract: the test picks the case.
+-- `sayings::pick` meets its contract: the test picks the case.
 -- Assumes nothing.
 use Rattle.command.specs.Choose.{pick}
-use Rattle.attribute.proofs.pick.Statement.{statement}
-use Rattle.attribute.proofs.pick.Tie as tie
+use Rattle.sayings.proofs.pick.Statement.{statement}
+use Rattle.sayings.proofs.pick.Tie as tie
 
 returns : tie.Need-returns
 unfolding pick

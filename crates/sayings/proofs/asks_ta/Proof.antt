@@ -1,9 +1,9 @@
--- `attribute::asks_ta` meets its contract, kind by kind.
+-- `sayings::asks_ta` meets its contract, kind by kind.
 -- Assumes nothing.
-use Rattle.attribute.specs.Sayings.{asksTA}
+use Rattle.sayings.specs.Sayings.{asksTA}
 use borrow.Author.Needs.{needs}
-use Rattle.attribute.proofs.asks_ta.Statement.{statement}
-use Rattle.attribute.proofs.asks_ta.Tie as tie
+use Rattle.sayings.proofs.asks_ta.Statement.{statement}
+use Rattle.sayings.proofs.asks_ta.Tie as tie
 
 enum-told : tie.Need-enum-told
 enum-told c = search needs

@@ -1,10 +1,10 @@
--- `attribute::saying_of` meets its contract: what the command does picks the case of `saying`.
+-- `sayings::saying_of` meets its contract: what the command does picks the case of `saying`.
 -- Assumes nothing.
 use mathlib.Core.Path.{sym}
-use Rattle.attribute.specs.Sayings.{saying, sayingOf}
+use Rattle.sayings.specs.Sayings.{saying, sayingOf}
 use borrow.Author.Needs.{needs}
-use Rattle.attribute.proofs.saying_of.Statement.{statement}
-use Rattle.attribute.proofs.saying_of.Tie as tie
+use Rattle.sayings.proofs.saying_of.Statement.{statement}
+use Rattle.sayings.proofs.saying_of.Tie as tie
 
 part-requires : tie.Need-part-requires
 part-requires c κs = search needs

@@ -1,10 +1,10 @@
--- `attribute::deed_of` meets its contract: four commands by their cases, every other because its tag is none of theirs.
+-- `sayings::deed_of` meets its contract: four commands by their cases, every other because its tag is none of theirs.
 -- Assumes nothing.
-use Rattle.attribute.proofs.Deeds.{idle}
-use Rattle.attribute.specs.Deeds.{deedOf}
+use Rattle.sayings.proofs.Deeds.{idle}
+use Rattle.sayings.specs.Deeds.{deedOf}
 use borrow.Author.Needs.{needs}
-use Rattle.attribute.proofs.deed_of.Statement.{statement}
-use Rattle.attribute.proofs.deed_of.Tie as tie
+use Rattle.sayings.proofs.deed_of.Statement.{statement}
+use Rattle.sayings.proofs.deed_of.Tie as tie
 
 enum-known-c : tie.Need-enum-known-c
 enum-known-c c = search needs

@@ -1,8 +1,8 @@
 -- What a command does to the attributes that are held (01, State; decision 107).
 use Rattle.command.specs.declared.Command.{Command}
 use Rattle.command.specs.declared.Command.the-variants as cmd
-use Rattle.attribute.specs.declared.Deed.{Deed}
-use Rattle.attribute.specs.declared.Deed.the-variants.{Nothing, Aperture, Object, Delete, DeleteAll}
+use Rattle.sayings.specs.declared.Deed.{Deed}
+use Rattle.sayings.specs.declared.Deed.the-variants.{Nothing, Aperture, Object, Delete, DeleteAll}
 
 -- TA and TO set a name, TD deletes one or all; each with the place of its name in the command's text
 unfoldable pub deedOf : Command → Deed

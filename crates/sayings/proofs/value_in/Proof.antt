@@ -1,12 +1,12 @@
--- `attribute::value_in` meets its contract: whether the comma stands before the `*` picks the row.
+-- `sayings::value_in` meets its contract: whether the comma stands before the `*` picks the row.
 -- Assumes nothing.
 use mathlib.Core.Path.{refl, sym}
 use borrow.Author.Tests.{lt-ltb, le-ltb}
 use Rattle.command.proofs.Choose.{row-holds, row-fails}
-use Rattle.attribute.specs.Sayings.{valueIn}
+use Rattle.sayings.specs.Sayings.{valueIn}
 use borrow.Author.Needs.{needs}
-use Rattle.attribute.proofs.value_in.Statement.{statement}
-use Rattle.attribute.proofs.value_in.Tie as tie
+use Rattle.sayings.proofs.value_in.Statement.{statement}
+use Rattle.sayings.proofs.value_in.Tie as tie
 
 find-requires : tie.Need-find-requires
 find-requires c κs = search needs

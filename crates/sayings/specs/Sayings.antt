@@ -14,13 +14,13 @@ use Rattle.text.specs.Text.{_begins_}
 use Rattle.command.specs.Choose.{pick}
 use Rattle.command.specs.declared.Span.{Span}
 use Rattle.commands.specs.declared.Placed.{Placed}
-use Rattle.attribute.specs.Deeds.{deedOf}
-use Rattle.attribute.specs.declared.Deed.{Deed}
-use Rattle.attribute.specs.declared.Deed.the-variants as deed
-use Rattle.attribute.specs.declared.Kind.{Kind}
-use Rattle.attribute.specs.declared.Kind.the-variants.{Aperture, Object}
-use Rattle.attribute.specs.declared.Saying.{Saying}
-use Rattle.attribute.specs.declared.Saying.the-variants.{Silent, Deletes, Sets}
+use Rattle.sayings.specs.Deeds.{deedOf}
+use Rattle.sayings.specs.declared.Deed.{Deed}
+use Rattle.sayings.specs.declared.Deed.the-variants as deed
+use Rattle.sayings.specs.declared.Kind.{Kind}
+use Rattle.sayings.specs.declared.Kind.the-variants.{Aperture, Object}
+use Rattle.sayings.specs.declared.Saying.{Saying}
+use Rattle.sayings.specs.declared.Saying.the-variants.{Silent, Deletes, Sets}
 
 -- a command's text
 abbrev pub textOf : List ℕ → Placed → List ℕ

@@ -1,8 +1,8 @@
--- `attribute::is_named` meets its contract: the part of the text is compared.
+-- `sayings::is_named` meets its contract: the part of the text is compared.
 -- Assumes nothing.
 use borrow.Author.Needs.{needs}
-use Rattle.attribute.proofs.is_named.Statement.{statement}
-use Rattle.attribute.proofs.is_named.Tie as tie
+use Rattle.sayings.proofs.is_named.Statement.{statement}
+use Rattle.sayings.proofs.is_named.Tie as tie
 
 part-requires : tie.Need-part-requires
 part-requires c κs = search needs

@@ -1,0 +1,120 @@
+// What a command says of an attribute that is asked, and where the attribute is taken.
+ghost use mathlib.Core.Path.{_≡_};
+ghost use Rattle.command.specs.Choose.{pick};
+ghost use Rattle.sayings.specs.Deeds.{deedOf};
+ghost use Rattle.sayings.specs.Sayings.{valueIn, named, asksTA, sayingOf, takenAt};
+use command::Command;
+use command::Span;
+use commands::Placed;
+
+// The kind that is asked: TA or TO.
+pub enum Kind {
+    Aperture,
+    Object,
+}
+
+// What a command does to the attributes that are held, with the place of the name in its text.
+pub enum Deed {
+    Nothing,
+    Aperture(Span),
+    Object(Span),
+    Delete(Span),
+    DeleteAll,
+}
+
+// What a command says of the name that is asked.
+pub enum Saying {
+    Silent,
+    Deletes,
+    Sets { place: usize, length: usize },
+}
+
+// What a command does to the attributes that are held.
+fn deed_of(c: Command) -> Deed
+    ensures { λ r. ⌜ r ≡ deedOf c ⌝ }
+{
+    match c {
+        Command::ApertureAttribute { name, .. } => Deed::Aperture(name),
+        Command::ObjectAttribute { name, .. } => Deed::Object(name),
+        Command::Delete { name } => Deed::Delete(name),
+        Command::DeleteAll => Deed::DeleteAll,
+        _ => Deed::Nothing,
+    }
+}
+
+// The first where the test holds, else the second.
+fn pick(test: bool, yes: Saying, no: Saying) -> Saying
+    ensures { λ r. ⌜ r ≡ pick test yes no ⌝ }
+{
+    if test { yes } else { no }
+}
+
+// The value behind the first comma from `from` on, up to the first `*`.
+fn value_in(s: &[u8], from: usize) -> Saying
+    ensures { λ r. ⌜ r ≡ valueIn (now (s .entry)) from ⌝ }
+{
+    let comma = text::find(s, from, b',');
+    let star = text::find(s, from, b'*');
+    if comma < star {
+        return Saying::Sets {
+            place: comma + 1,
+            length: star - (comma + 1),
+        };
+    }
+    Saying::Sets {
+        place: 0,
+        length: 0,
+    }
+}
+
+// A part of the text is the name asked.
+fn is_named(t: &[u8], n: Span, name: &[u8]) -> bool
+    ensures { λ r. ⌜ r ≡ named (now (t .entry)) n (now (name .entry)) ⌝ }
+{
+    text::is(base::part(t, n.from, n.to), name)
+}
+
+// TA is asked, not TO.
+fn asks_ta(kind: Kind) -> bool
+    ensures { λ r. ⌜ r ≡ asksTA kind ⌝ }
+{
+    match kind {
+        Kind::Aperture => true,
+        Kind::Object => false,
+    }
+}
+
+// What a command says of the attribute.
+pub fn saying_of(file: &[u8], kind: Kind, name: &[u8], c: Placed) -> Saying
+    ensures { λ r. ⌜ r ≡ sayingOf (now (file .entry)) kind (now (name .entry)) c ⌝ }
+{
+    let from = c.from;
+    let end = c.end;
+    let t = base::part(file, from, end);
+    let ta = asks_ta(kind);
+    let command = c.command;
+    let deed = deed_of(command);
+    match deed {
+        Deed::Nothing => Saying::Silent,
+        Deed::Aperture(n) => {
+            let value = value_in(base::up_to(file, end), from);
+            pick(base::both(ta, is_named(t, n, name)), value, Saying::Silent)
+        }
+        Deed::Object(n) => {
+            let value = value_in(base::up_to(file, end), from);
+            pick(base::both(!ta, is_named(t, n, name)), value, Saying::Silent)
+        }
+        Deed::Delete(n) => pick(is_named(t, n, name), Saying::Deletes, Saying::Silent),
+        Deed::DeleteAll => Saying::Deletes,
+    }
+}
+
+// An attribute of this kind is taken at a command with this text.
+pub fn taken_at(kind: Kind, t: &[u8]) -> bool
+    ensures { λ r. ⌜ r ≡ takenAt kind (now (t .entry)) ⌝ }
+{
+    match kind {
+        Kind::Aperture => base::either(text::begins(t, b"AD"), text::begins(t, b"ABD")),
+        Kind::Object => true,
+    }
+}
