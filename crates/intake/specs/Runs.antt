@@ -48,6 +48,11 @@ unfoldable pub taken : Intake → List ℕ → Intake
 taken s [] = s
 taken s (b ∷ t) = taken (pushed s b) t
 
+-- runs, one after the other
+unfoldable pub inRuns : Intake → List (List ℕ) → Intake
+inRuns s [] = s
+inRuns s (t ∷ ts) = inRuns (taken s t) ts
+
 -- the answer, once there are no more runs
 unfoldable pub told : Intake → Answer
 told s =

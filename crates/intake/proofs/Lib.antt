@@ -1,0 +1,5 @@
+pub mod Commands
+pub mod Law
+pub mod Opening
+pub mod Stands
+pub mod Steps
