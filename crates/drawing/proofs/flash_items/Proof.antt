@@ -1,0 +1,15 @@
+-- `drawing::flash_items` meets its contract: the items of a block, or one.
+use Rattle.drawing.specs.Faults.{flashItems}
+use Rattle.drawing.proofs.flash_items.Statement.{statement}
+use Rattle.drawing.proofs.flash_items.Tie as tie
+
+returns : tie.Need-returns
+unfolding flashItems
+returns c = cc
+
+returns-2 : tie.Need-returns-2
+unfolding flashItems
+returns-2 c = cc
+
+pub flash-items-spec : {M : Type 1} → statement M
+flash-items-spec = tie.close (tie.spec returns returns-2)

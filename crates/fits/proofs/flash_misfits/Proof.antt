@@ -1,0 +1,18 @@
+-- `fits::flash_misfits` meets its contract: its tests are those of `flashMisfits`.
+use Rattle.fits.specs.Fits.{flashMisfits}
+use borrow.Author.Needs.{needs}
+use Rattle.fits.proofs.flash_misfits.Statement.{statement}
+use Rattle.fits.proofs.flash_misfits.Tie as tie
+
+is-placeless-requires : tie.Need-is-placeless-requires
+is-placeless-requires c κs = search needs
+
+either-requires : tie.Need-either-requires
+either-requires c κs = search needs
+
+returns : tie.Need-returns
+unfolding flashMisfits
+returns c = cc
+
+pub flash-misfits-spec : {M : Type 1} → statement M
+flash-misfits-spec = tie.close (tie.spec is-placeless-requires either-requires returns)

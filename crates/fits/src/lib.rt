@@ -1,0 +1,148 @@
+// Whether an operation fits the state: each test is one of document 01's sentences about 6 and 11 to 15.
+ghost use mathlib.Core.Path.{_≡_};
+ghost use Prim.Native.Nat.{_^_};
+ghost use Rattle.points.specs.Points.{Within};
+ghost use Rattle.fits.specs.Fits.{isMissing, unready, placeless, brushless, circular, hasOffset, arcless, drawMisfits, flashMisfits, offsetOf, badCentre, unclosed, askew, tooTall};
+use command::Axis;
+use command::Offset;
+use graphics::Graphics;
+use points::Point;
+
+// What stands open: innermost the top level (0), a block (1) or a repeat (2), its items and its height so far, how many blocks
+// are open, and of the open repeat its copies and the sheet's items before it.
+pub struct Level {
+    pub inside: u64,
+    pub items: u64,
+    pub height: u64,
+    pub depth: u64,
+    pub copies: u64,
+    pub sheet: u64,
+}
+
+// The coordinate is not given.
+fn is_missing(a: Axis) -> bool
+    ensures { λ r. ⌜ r ≡ isMissing a ⌝ }
+{
+    match a {
+        Axis::Missing => true,
+        Axis::At(v) => false,
+    }
+}
+
+// I and J are given.
+fn has_offset(o: Offset) -> bool
+    ensures { λ r. ⌜ r ≡ hasOffset o ⌝ }
+{
+    match o {
+        Offset::Missing => false,
+        Offset::By(p) => true,
+    }
+}
+
+// I and J, 0 where they are not given.
+fn offset_of(o: Offset) -> Point
+    ensures { λ r. ⌜ r ≡ offsetOf o ⌝ }
+{
+    match o {
+        Offset::Missing => Point { x: 0, y: 0 },
+        Offset::By(p) => p,
+    }
+}
+
+// 6: FS or MO is missing.
+pub fn is_unready(g: Graphics) -> bool
+    ensures { λ r. ⌜ r ≡ unready g ⌝ }
+{
+    base::either(g.format.digits == 0, g.format.unit == 0)
+}
+
+// 11: a coordinate is missing, and there is no current point.
+pub fn is_placeless(g: Graphics, x: Axis, y: Axis) -> bool
+    ensures { λ r. ⌜ r ≡ placeless g x y ⌝ }
+{
+    base::both(!g.point.set, base::either(is_missing(x), is_missing(y)))
+}
+
+// 11: outside a region a D01 needs a C without hole.
+fn is_brushless(g: Graphics) -> bool
+    ensures { λ r. ⌜ r ≡ brushless g ⌝ }
+{
+    base::both(!g.region.on, !base::both(g.aperture.set, g.aperture.circle))
+}
+
+// A D01 draws an arc.
+fn is_circular(g: Graphics) -> bool
+    ensures { λ r. ⌜ r ≡ circular g ⌝ }
+{
+    g.mode >= 2
+}
+
+// 11: I and J without an arc, an arc without them, or before any G75.
+fn is_arcless(g: Graphics, o: Offset) -> bool
+    ensures { λ r. ⌜ r ≡ arcless g o ⌝ }
+{
+    let arc = is_circular(g);
+    base::either(
+        place::differ(arc, has_offset(o)),
+        base::both(arc, !g.quadrants),
+    )
+}
+
+// 11 at D01.
+pub fn draw_misfits(g: Graphics, o: Offset) -> bool
+    ensures { λ r. ⌜ r ≡ drawMisfits g o ⌝ }
+{
+    let unset = base::either(!g.point.set, g.mode == 0);
+    base::either(base::either(unset, is_brushless(g)), is_arcless(g, o))
+}
+
+// 11 at D03.
+pub fn flash_misfits(g: Graphics, x: Axis, y: Axis) -> bool
+    ensures { λ r. ⌜ r ≡ flashMisfits g x y ⌝ }
+{
+    base::either(is_placeless(g, x, y), !g.aperture.set)
+}
+
+// 12: the centre of the arc to end is nonsensical.
+pub fn bad_centre(g: Graphics, end: Point, o: Offset) -> bool
+    requires { ⌜ Within (10 ^ 12) (g .point .at) ⌝ }
+    requires { ⌜ Within (10 ^ 12) end ⌝ }
+    requires { ⌜ Within (10 ^ 12) (offsetOf o) ⌝ }
+    ensures { λ r. ⌜ r ≡ badCentre g end o ⌝ }
+{
+    let start = g.point.at;
+    let centre = points::shifted(start, offset_of(o));
+    base::both(is_circular(g), reckon::bad_centre(start, end, centre))
+}
+
+// 13: a contour is open, and its last point is not its first.
+pub fn is_unclosed(g: Graphics) -> bool
+    ensures { λ r. ⌜ r ≡ unclosed g ⌝ }
+{
+    let last = g.point.at;
+    let first = g.region.first;
+    base::both(g.region.contour, !points::same_point(last, first))
+}
+
+// 14: a block at a scale or an angle that it cannot be flashed at.
+pub fn is_askew(g: Graphics) -> bool
+    ensures { λ r. ⌜ r ≡ askew g ⌝ }
+{
+    let t = g.transform;
+    let o = graphics::oriented(t);
+    let turned = o.angle % 90000000 != 0;
+    base::both(
+        g.aperture.block,
+        base::either(g.transform.scale != 1000000, turned),
+    )
+}
+
+// 15: the flash of a block makes the block it stands in too tall.
+pub fn is_too_tall(g: Graphics, l: Level) -> bool
+    ensures { λ r. ⌜ r ≡ tooTall g l ⌝ }
+{
+    base::both(
+        g.aperture.block,
+        base::both(l.inside == 1, g.aperture.height >= 8),
+    )
+}

@@ -1,0 +1,18 @@
+-- `rules::closing_fault` meets its contract: each row is one of `closingFault`.
+use Rattle.rules.specs.Rules.{closingFault}
+use borrow.Author.Needs.{needs}
+use Rattle.rules.proofs.closing_fault.Statement.{statement}
+use Rattle.rules.proofs.closing_fault.Tie as tie
+
+either-requires : tie.Need-either-requires
+either-requires c κs = search needs
+
+fault-requires : tie.Need-fault-requires
+fault-requires c κs = search needs
+
+returns : tie.Need-returns
+unfolding closingFault
+returns c = cc
+
+pub closing-fault-spec : {M : Type 1} → statement M
+closing-fault-spec = tie.close (tie.spec either-requires fault-requires returns)

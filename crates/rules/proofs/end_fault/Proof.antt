@@ -1,0 +1,26 @@
+-- `rules::end_fault` meets its contract: each row is one of `endFault`.
+use Rattle.rules.specs.Rules.{endFault}
+use borrow.Author.Needs.{needs}
+use Rattle.rules.proofs.end_fault.Statement.{statement}
+use Rattle.rules.proofs.end_fault.Tie as tie
+
+either-requires : tie.Need-either-requires
+either-requires c κs = search needs
+
+fault-requires : tie.Need-fault-requires
+fault-requires c κs = search needs
+
+is-unready-requires : tie.Need-is-unready-requires
+is-unready-requires c κs = search needs
+
+fault-requires-2 : tie.Need-fault-requires-2
+fault-requires-2 c κs = search needs
+
+returns : tie.Need-returns
+unfolding endFault
+returns c = cc
+
+pub end-fault-spec : {M : Type 1} → statement M
+end-fault-spec =
+    tie.close
+    (tie.spec either-requires fault-requires is-unready-requires fault-requires-2 returns)

@@ -1,0 +1,18 @@
+-- `rules::file_attribute_fault` meets its contract: each row is one of `fileAttributeFault`.
+use Rattle.rules.specs.Rules.{fileAttributeFault}
+use borrow.Author.Needs.{needs}
+use Rattle.rules.proofs.file_attribute_fault.Statement.{statement}
+use Rattle.rules.proofs.file_attribute_fault.Tie as tie
+
+fault-requires : tie.Need-fault-requires
+fault-requires c κs = search needs
+
+fault-requires-2 : tie.Need-fault-requires-2
+fault-requires-2 c κs = search needs
+
+returns : tie.Need-returns
+unfolding fileAttributeFault
+returns c = cc
+
+pub file-attribute-fault-spec : {M : Type 1} → statement M
+file-attribute-fault-spec = tie.close (tie.spec fault-requires fault-requires-2 returns)

@@ -1,0 +1,21 @@
+-- `rules::scale_fault` meets its contract: each row is one of `scaleFault`.
+use Rattle.rules.specs.Rules.{scaleFault}
+use borrow.Author.Needs.{needs}
+use Rattle.rules.proofs.scale_fault.Statement.{statement}
+use Rattle.rules.proofs.scale_fault.Tie as tie
+
+is-above-requires : tie.Need-is-above-requires
+is-above-requires c κs = search needs
+
+fault-requires : tie.Need-fault-requires
+fault-requires c κs = search needs
+
+fault-requires-2 : tie.Need-fault-requires-2
+fault-requires-2 c κs = search needs
+
+returns : tie.Need-returns
+unfolding scaleFault
+returns c = cc
+
+pub scale-fault-spec : {M : Type 1} → statement M
+scale-fault-spec = tie.close (tie.spec is-above-requires fault-requires fault-requires-2 returns)
