@@ -6,7 +6,7 @@ use mathlib.Core.Bool.{Bool, true, false}
 use mathlib.Core.List.{List, _∷_}
 use lib.Dec.{eqb}
 use Rattle.command.specs.Choose.{pick}
-use Rattle.commands.specs.Commands.{Listing, stopped, followed}
+use Rattle.commands.specs.Commands.{Sequence, stopped, followed}
 use Rattle.commands.specs.declared.Placed.{Placed}
 use Rattle.commands.specs.declared.Refusal.{Refusal}
 use Rattle.attribute.specs.Attribute.{refused, before, fromOn, later, lastSaying, answerFor, answerIn}
@@ -37,10 +37,10 @@ module _ (file : List ℕ) (kind : Kind) (place : ℕ) (name : List ℕ) where
   settled (Is a) s cs = a
   settled NotYet s cs = answerFor file kind (fromOn place cs) (later s (lastSaying file kind name (before place cs)))
 
-  unfoldable pub outcome : Found → Saying → Listing → Answer
+  unfoldable pub outcome : Found → Saying → Sequence → Answer
   outcome found s l = pick (eqb (l .fault .number) 0) (settled found s (l .commands)) (refused (l .fault .number))
 
-  pub pass-starts : (l : Listing) → outcome NotYet Silent l ≡ answerIn file kind place name l
+  pub pass-starts : (l : Sequence) → outcome NotYet Silent l ≡ answerIn file kind place name l
   unfolding outcome settled answerIn
   pass-starts l = rw (later-silent (lastSaying file kind name (before place (l .commands))))
 
@@ -55,7 +55,7 @@ module _ (file : List ℕ) (kind : Kind) (place : ℕ) (name : List ℕ) where
       go true e = rw (e, fromOn, before, pick)
       go false e = rw (e, fromOn, before, pick) (ap (answerFor file kind (fromOn place cs)) (later-later s (sayingOf file kind name c) (lastSaying file kind name (before place cs))))
 
-  pub pass-more : (found : Found) (s : Saying) (c : Placed) (l : Listing) →
+  pub pass-more : (found : Found) (s : Saying) (c : Placed) (l : Sequence) →
       outcome found s (followed c l) ≡ outcome (met file kind place s c found) (later s (sayingOf file kind name c)) l
   unfolding outcome
   pass-more found s c l = rw (settled-more found s c (l .commands))

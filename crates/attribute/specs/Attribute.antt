@@ -5,7 +5,7 @@ use mathlib.Core.Bool.{true, false}
 use mathlib.Core.List.{List, [], _∷_}
 use lib.Dec.{eqb}
 use Rattle.command.specs.Choose.{pick}
-use Rattle.commands.specs.Commands.{Listing, commandsOf}
+use Rattle.commands.specs.Commands.{Sequence, commandsOf}
 use Rattle.commands.specs.declared.Placed.{Placed}
 use Rattle.sayings.specs.Sayings.{textOf, sayingOf, takenAt}
 use Rattle.attribute.specs.declared.Answer.{Answer}
@@ -54,7 +54,7 @@ answerFor file kind [] s = refused 22
 answerFor file kind (c ∷ cs) s = answerAt file kind c s
 
 -- 1 to 4 and 18, then 22, then 23
-unfoldable pub answerIn : List ℕ → Kind → ℕ → List ℕ → Listing → Answer
+unfoldable pub answerIn : List ℕ → Kind → ℕ → List ℕ → Sequence → Answer
 answerIn file kind place name l =
     let cs : List Placed = l .commands in
     pick (eqb (l .fault .number) 0)

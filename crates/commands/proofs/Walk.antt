@@ -14,7 +14,7 @@ use Rattle.scan.proofs.Within.{Within, next-within}
 use Rattle.recognise.specs.Commands.{commandOf}
 use Rattle.commands.specs.Leads.{leadOf}
 use Rattle.commands.specs.Turns.{led, turned, turnOf, tailFault}
-use Rattle.commands.specs.Commands.{Listing, stopped, followed, commandsFrom}
+use Rattle.commands.specs.Commands.{Sequence, stopped, followed, commandsFrom}
 use Rattle.commands.specs.declared.Lead.{Lead}
 use Rattle.commands.specs.declared.Lead.the-variants as lead
 use Rattle.commands.specs.declared.Placed.{Placed}
@@ -60,7 +60,7 @@ enough file (suc k) (suc j) n at h p q = go (λ m next. enough file k j m next) 
     go ih (More c m next) e (l, u) = rw (e, commandsFrom, ih m next u (omega arith) (omega arith))
 
 -- what is listed from `at` on
-abbrev pub walk : ℕ → List ℕ → ℕ → Listing
+abbrev pub walk : ℕ → List ℕ → ℕ → Sequence
 walk n file at = commandsFrom (suc (length file)) n file at
 
 module _ (n : ℕ) (file : List ℕ) (at : ℕ) where

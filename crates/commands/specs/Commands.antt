@@ -11,20 +11,20 @@ use Rattle.commands.specs.declared.Refusal.{Refusal}
 use Rattle.commands.specs.declared.Turn.the-variants.{Fault, Last, More}
 
 -- the commands before the first fault, M02 the last of them where there is none before it, and that fault; 0 at 0 without one
-pub record Listing : Type 0 where
+pub record Sequence : Type 0 where
   pub commands : List Placed
   pub fault : Refusal
 
 -- no command more
-abbrev pub stopped : Refusal → Listing
+abbrev pub stopped : Refusal → Sequence
 stopped f = record { commands = []; fault = f }
 
 -- a command, then the others
-abbrev pub followed : Placed → Listing → Listing
+abbrev pub followed : Placed → Sequence → Sequence
 followed c l = record { commands = c ∷ l .commands; fault = l .fault }
 
 -- from `at` on, in at most k turns, after FS with this n, 0 before it; a file that ends before M02 is 3 at its length
-unfoldable pub commandsFrom : ℕ → ℕ → List ℕ → ℕ → Listing
+unfoldable pub commandsFrom : ℕ → ℕ → List ℕ → ℕ → Sequence
 commandsFrom zero n file at = stopped (refusal 3 (length file))
 commandsFrom (suc k) n file at =
     elim (turnOf n file at) [
@@ -34,5 +34,5 @@ commandsFrom (suc k) n file at =
     ]
 
 -- each command takes a byte at least, and so a turn more than there are bytes is enough
-unfoldable pub commandsOf : List ℕ → Listing
+unfoldable pub commandsOf : List ℕ → Sequence
 commandsOf file = cond (fits file) (commandsFrom (suc (length file)) 0 file 0) (stopped (refusal 1 0))
