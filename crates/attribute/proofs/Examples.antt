@@ -1,0 +1,48 @@
+-- Worked examples, by computation: a file asked at its commands, and between them.
+-- Assumes nothing.
+use Prim.Native.Nat.{ℕ}
+use Prim.Native.String.{String}
+use mathlib.Core.Path.{_≡_, refl}
+use mathlib.Core.List.{List, [], _∷_, map}
+use Rattle.base.specs.And.{_and_}
+use Rattle.base.specs.Or.{_or_}
+use Rattle.base.specs.Bytes.{sameBytes}
+use Rattle.text.specs.First.{firstIn}
+use Rattle.text.specs.Name.{letter, nameStart, nameByte, nameBytes, isName}
+use Rattle.text.specs.Text.{text, among}
+use Rattle.scan.specs.Permitted.{fits, printable, breaksAfter, mayBreak, permitted, badIn}
+use Rattle.scan.specs.Scan.{kindOf, textFrom, endOf, commandFrom, commandAt, nextCommand}
+use Rattle.scan.specs.Tail.{tailOf}
+use Rattle.command.specs.Choose.{pick}
+use Rattle.words.specs.Words.{codeOf, wordOf}
+use Rattle.apertures.specs.Blocks.{blockOf}
+use Rattle.attributes.specs.Attributes.{valueOf, attributeOf as recognised, deletionOf}
+use Rattle.recognise.specs.Commands.{oneBlock, dataOf, extendedOf, commandOf}
+use Rattle.commands.specs.Commands.{commandsFrom, commandsOf}
+use Rattle.commands.specs.Leads.{leadOf}
+use Rattle.commands.specs.Turns.{led, turned, turnOf, tailFault}
+use Rattle.sayings.specs.Deeds.{deedOf}
+use Rattle.sayings.specs.Sayings.{valueIn, asksTA, saying, sayingOf, takenAt}
+use Rattle.sayings.specs.declared.Kind.{Kind}
+use Rattle.sayings.specs.declared.Kind.the-variants.{Aperture, Object}
+use Rattle.attribute.specs.Attribute.{before, fromOn, later, lastSaying, held, answerAt, answerFor, answerIn, attributeOf}
+
+-- places 0, 9, 13, 20, 26, 31 and 36
+abbrev file : List ℕ
+file = text "%TOa,1,*%G01*%TAa*%%TDb*%\n%AB*%%TD*%M02*"
+
+-- what is asked, and the number, place and length that are answered (decisions 107 to 112)
+abbrev asked : List (Kind × ℕ × String × ℕ × ℕ × ℕ)
+asked =
+    (Object, 0, "a", 23, 0, 0)
+    ∷ (Object, 9, "a", 0, 5, 2)
+    ∷ (Object, 10, "a", 22, 0, 0)
+    ∷ (Object, 26, "a", 0, 5, 2)
+    ∷ (Object, 26, "b", 23, 0, 0)
+    ∷ (Aperture, 26, "a", 23, 0, 0)
+    ∷ (Object, 36, "a", 23, 0, 0)
+    ∷ []
+
+asked-answered : map (λ row. attributeOf file (row .0) (row .1) (text (row .2))) asked ≡ map (λ row. record { number = row .3; place = row .4; length = row .5 }) asked
+unfolding attributeOf answerIn answerFor answerAt held lastSaying later before fromOn takenAt sayingOf saying asksTA valueIn deedOf commandsOf commandsFrom turnOf turned led leadOf tailFault tailOf fits nextCommand commandAt commandFrom kindOf textFrom endOf badIn permitted printable mayBreak breaksAfter commandOf wordOf codeOf extendedOf dataOf oneBlock blockOf recognised valueOf deletionOf isName nameStart nameByte nameBytes letter pick firstIn among sameBytes _and_ _or_
+asked-answered = refl
