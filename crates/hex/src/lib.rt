@@ -1,6 +1,9 @@
-// Bytes in hexadecimal digits.
+// Bytes in hexadecimal digits, and digits compared.
 ghost use mathlib.Core.Path.{_≡_};
 ghost use Prim.Native.Nat.{_/_, _%_, _<_};
+ghost use lib.Dec.{leb};
+ghost use Rattle.base.specs.And.{_and_};
+ghost use Rattle.hex.specs.Digits.{hexDigit, hexDigits, small, sameDigits};
 ghost use Rattle.hex.specs.Hex.{digit, hexOf};
 
 // A number below 16 as a digit.
@@ -37,4 +40,63 @@ pub fn hex(d: [u8; 16]) -> [u8; 32]
         i += 1;
     }
     h
+}
+
+// b is from low up to high.
+fn between(low: u8, b: u8, high: u8) -> bool
+    ensures { λ r. ⌜ r ≡ (leb low b and leb b high) ⌝ }
+{
+    base::both(low <= b, b <= high)
+}
+
+// A hexadecimal digit, either case.
+fn is_digit(b: u8) -> bool
+    ensures { λ r. ⌜ r ≡ hexDigit b ⌝ }
+{
+    base::either(
+        base::either(between(b'0', b, b'9'), between(b'A', b, b'F')),
+        between(b'a', b, b'f'),
+    )
+}
+
+// All bytes are hexadecimal digits, either case.
+pub fn are_digits(s: &[u8]) -> bool
+    ensures { λ r. ⌜ r ≡ hexDigits (now (s .entry)) ⌝ }
+{
+    let mut at: usize = 0;
+    while at < s.len() {
+        if is_digit(s[at]) {
+            at += 1;
+        } else {
+            return false;
+        }
+    }
+    true
+}
+
+// A capital digit as the small letter.
+fn small_of(b: u8) -> u8
+    ensures { λ r. ⌜ r ≡ small b ⌝ }
+{
+    if between(b'A', b, b'F') { b + 32 } else { b }
+}
+
+// The digits are those of w, which has small letters: a capital counts as its small letter.
+pub fn same_digits(s: &[u8], w: &[u8]) -> bool
+    ensures { λ r. ⌜ r ≡ sameDigits (now (s .entry)) (now (w .entry)) ⌝ }
+{
+    let mut at: usize = 0;
+    while at < s.len() {
+        if at >= w.len() {
+            return false;
+        }
+        if small_of(s[at]) != w[at] {
+            return false;
+        }
+        at += 1;
+    }
+    if at < w.len() {
+        return false;
+    }
+    true
 }

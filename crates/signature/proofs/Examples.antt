@@ -14,7 +14,7 @@ use Rattle.scan.specs.Permitted.{printable, breaksAfter, mayBreak, permitted, b
 use Rattle.scan.specs.Scan.{kindOf, textFrom, endOf, commandFrom, commandAt, nextCommand}
 use Rattle.scan.specs.Tail.{tailOf}
 use Rattle.digest.specs.Text.{isBreak, unbroken}
-use Rattle.signature.specs.Digits.{hexDigit, hexDigits}
+use Rattle.hex.specs.Digits.{hexDigit, hexDigits}
 use Rattle.signature.specs.Form.{isEnd, isSignature, digitsOf}
 use Rattle.signature.specs.Signature.{refused, judged, bare, atEnd, walked, signatureOf}
 

@@ -9,7 +9,7 @@ use Rattle.digest.specs.Md5.{md5}
 use Rattle.scan.specs.Tail.{tailOf}
 use Rattle.scan.specs.declared.Tail.the-variants.{Clean, Unprintable, More}
 use Rattle.signature.specs.declared.Answer.{Answer}
-use Rattle.signature.specs.Digits.{sameDigits}
+use Rattle.hex.specs.Digits.{sameDigits}
 use Rattle.signature.specs.Form.{isSignature, digitsOf}
 use Rattle.signature.specs.Signature.{signed, refused, judged, bare, atEnd}
 

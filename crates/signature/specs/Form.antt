@@ -7,7 +7,7 @@ use lib.ListN.{drop}
 use lib.Seq.{slice}
 use Rattle.base.specs.And.{_and_}
 use Rattle.text.specs.Text.{_is_, _begins_}
-use Rattle.signature.specs.Digits.{hexDigits}
+use Rattle.hex.specs.Digits.{hexDigits}
 
 unfoldable pub isEnd : List ℕ → Bool
 isEnd s = s is "M02*"

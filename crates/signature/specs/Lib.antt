@@ -1,4 +1,3 @@
-pub mod Digits
 pub mod Form
 pub mod Held
 pub mod Signature

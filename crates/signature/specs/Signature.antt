@@ -11,7 +11,7 @@ use Rattle.scan.specs.declared.Tail.the-variants.{Clean, Unprintable, More}
 use Rattle.digest.specs.Md5.{md5}
 use Rattle.digest.specs.Text.{unbroken}
 use Rattle.hex.specs.Hex.{hexOf}
-use Rattle.signature.specs.Digits.{sameDigits}
+use Rattle.hex.specs.Digits.{sameDigits}
 use Rattle.signature.specs.Form.{isEnd, isSignature, digitsOf}
 use Rattle.signature.specs.declared.Answer.{Answer}
 

@@ -3,13 +3,10 @@ use digest::State;
 use scan::Scan;
 use scan::Tail;
 ghost use mathlib.Core.Path.{_≡_};
-ghost use lib.Dec.{leb};
-ghost use Rattle.base.specs.And.{_and_};
 ghost use Rattle.digest.specs.Md5.{md5};
 ghost use Rattle.digest.specs.Runs.{finished};
 ghost use Rattle.digest.specs.Text.{isBreak, unbroken};
-ghost use Rattle.signature.specs.Digits.{hexDigit, hexDigits, small, sameDigits};
-ghost use Rattle.signature.specs.Form.{isEnd, isSignature, digitsOf};
+ghost use Rattle.signature.specs.Form.{isEnd, isSignature};
 ghost use Rattle.signature.specs.Held.{nothing, noted, notedAll, textOf};
 ghost use Rattle.signature.specs.Signature.{refused, judged, bare, atEnd, signatureOf};
 
@@ -26,85 +23,15 @@ pub struct Held {
     count: usize,
 }
 
-// b is from low up to high.
-fn between(low: u8, b: u8, high: u8) -> bool
-    ensures { λ r. ⌜ r ≡ (leb low b and leb b high) ⌝ }
-{
-    base::both(low <= b, b <= high)
-}
-
-// A hexadecimal digit, either case.
-fn is_hex_digit(b: u8) -> bool
-    ensures { λ r. ⌜ r ≡ hexDigit b ⌝ }
-{
-    base::either(
-        base::either(between(b'0', b, b'9'), between(b'A', b, b'F')),
-        between(b'a', b, b'f'),
-    )
-}
-
-// All bytes are hexadecimal digits.
-fn are_hex_digits(s: &[u8]) -> bool
-    ensures { λ r. ⌜ r ≡ hexDigits (now (s .entry)) ⌝ }
-{
-    let mut at: usize = 0;
-    while at < s.len() {
-        if is_hex_digit(s[at]) {
-            at += 1;
-        } else {
-            return false;
-        }
-    }
-    true
-}
-
-// A capital digit as the small letter.
-fn small_of(b: u8) -> u8
-    ensures { λ r. ⌜ r ≡ small b ⌝ }
-{
-    if between(b'A', b, b'F') { b + 32 } else { b }
-}
-
-// The digits are those of w, which has small letters.
-fn same_digits(s: &[u8], w: &[u8]) -> bool
-    ensures { λ r. ⌜ r ≡ sameDigits (now (s .entry)) (now (w .entry)) ⌝ }
-{
-    let mut at: usize = 0;
-    while at < s.len() {
-        if at >= w.len() {
-            return false;
-        }
-        if small_of(s[at]) != w[at] {
-            return false;
-        }
-        at += 1;
-    }
-    if at < w.len() {
-        return false;
-    }
-    true
-}
-
-// The bytes are M02's.
-fn is_end(s: &[u8]) -> bool
-    ensures { λ r. ⌜ r ≡ isEnd (now (s .entry)) ⌝ }
-{
-    text::is(s, b"M02*")
-}
-
-// The digits of a signature.
-fn digits_of(s: &[u8]) -> &[u8]
-    ensures { λ r. ⌜ now r ≡ digitsOf (now (s .entry)) ⌝ }
-{
-    base::part(s, 8, 40)
-}
-
 // The bytes are a signature.
 fn is_signature(s: &[u8]) -> bool
     ensures { λ r. ⌜ r ≡ isSignature (now (s .entry)) ⌝ }
 {
     base::both(
-        base::both(text::begins(s, b"%TF.MD5,"), are_hex_digits(digits_of(s))),
+        base::both(
+            text::begins(s, b"%TF.MD5,"),
+            hex::are_digits(base::part(s, 8, 40)),
+        ),
         text::is(base::from_on(s, 40), b"*%"),
     )
 }
@@ -166,7 +93,7 @@ pub fn holds_end(h: Held) -> bool
     ensures { λ r. ⌜ r ≡ isEnd (textOf h) ⌝ }
 {
     let bytes = h.bytes;
-    is_end(base::up_to(&bytes, h.count))
+    text::is(base::up_to(&bytes, h.count), b"M02*")
 }
 
 // A refusal.
@@ -188,7 +115,7 @@ pub fn judge(place: usize, h: Held, s: State) -> Answer
     let t = base::up_to(&bytes, h.count);
     if is_signature(t) {
         let d = digest::finish(s);
-        if same_digits(digits_of(t), &hex::hex(d)) {
+        if hex::same_digits(base::part(t, 8, 40), &hex::hex(d)) {
             return Answer {
                 number: 0,
                 place: 0,

@@ -1,5 +1,6 @@
--- `signature::holds_end` meets its contract: `is_end` is asked of the text that is held.
+-- `signature::holds_end` meets its contract: the text that is held is compared with `M02*`.
 use borrow.Author.Needs.{needs}
+use Rattle.signature.specs.Form.{isEnd}
 use Rattle.signature.specs.Held.{textOf}
 use Rattle.signature.proofs.holds_end.Statement.{statement}
 use Rattle.signature.proofs.holds_end.Tie as tie
@@ -10,12 +11,17 @@ slice-aggregate-up-to c = search needs
 up-to-requires : tie.Need-up-to-requires
 up-to-requires c κs = search needs
 
-is-end-requires : tie.Need-is-end-requires
-is-end-requires c κs = search needs
+slice-aggregate-is : tie.Need-slice-aggregate-is
+slice-aggregate-is c = search needs
+
+is-requires : tie.Need-is-requires
+is-requires c κs = search needs
 
 returns : tie.Need-returns
-unfolding textOf
+unfolding isEnd textOf
 returns c = cc
 
 pub holds-end-spec : {M : Type 1} → statement M
-holds-end-spec = tie.close (tie.spec slice-aggregate-up-to up-to-requires is-end-requires returns)
+holds-end-spec =
+    tie.close
+    (tie.spec slice-aggregate-up-to up-to-requires slice-aggregate-is is-requires returns)

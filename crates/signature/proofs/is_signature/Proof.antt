@@ -1,6 +1,6 @@
 -- `signature::is_signature` meets its contract: `both` joins the three tests of `isSignature`.
 use borrow.Author.Needs.{needs}
-use Rattle.signature.specs.Form.{isSignature}
+use Rattle.signature.specs.Form.{isSignature, digitsOf}
 use Rattle.signature.proofs.is_signature.Statement.{statement}
 use Rattle.signature.proofs.is_signature.Tie as tie
 
@@ -10,11 +10,11 @@ slice-aggregate-begins c = search needs
 begins-requires : tie.Need-begins-requires
 begins-requires c κs = search needs
 
-digits-of-requires : tie.Need-digits-of-requires
-digits-of-requires c κs = search needs
+part-requires : tie.Need-part-requires
+part-requires c κs = search needs
 
-are-hex-digits-requires : tie.Need-are-hex-digits-requires
-are-hex-digits-requires c κs = search needs
+are-digits-requires : tie.Need-are-digits-requires
+are-digits-requires c κs = search needs
 
 both-requires : tie.Need-both-requires
 both-requires c κs = search needs
@@ -32,7 +32,7 @@ both-requires-2 : tie.Need-both-requires-2
 both-requires-2 c κs = search needs
 
 returns : tie.Need-returns
-unfolding isSignature
+unfolding isSignature digitsOf
 returns c = cc
 
 pub is-signature-spec : {M : Type 1} → statement M
@@ -41,8 +41,8 @@ is-signature-spec =
     (tie.spec
     slice-aggregate-begins
     begins-requires
-    digits-of-requires
-    are-hex-digits-requires
+    part-requires
+    are-digits-requires
     both-requires
     from-on-requires
     slice-aggregate-is

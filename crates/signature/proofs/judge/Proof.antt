@@ -2,12 +2,12 @@
 use mathlib.Core.Bool.{true, false}
 use mathlib.Core.Path.{_≡_, sym, _∙_}
 use borrow.Author.Needs.{needs}
+use Rattle.hex.specs.Digits.{sameDigits}
 use Rattle.hex.specs.Hex.{hexOf}
 use Rattle.digest.specs.Runs.{finished}
-use Rattle.signature.specs.Digits.{sameDigits}
 use Rattle.signature.specs.Form.{isSignature, digitsOf}
 use Rattle.signature.specs.Held.{textOf}
-use Rattle.signature.specs.Signature.{signed, judged}
+use Rattle.signature.specs.Signature.{signed}
 use Rattle.signature.proofs.Judged.{judged-signed, judged-other, judged-none}
 use Rattle.signature.proofs.judge.Statement.{statement}
 use Rattle.signature.proofs.judge.Tie as tie
@@ -24,8 +24,8 @@ is-signature-requires c κs = search needs
 finish-requires : tie.Need-finish-requires
 finish-requires c κs = search needs
 
-digits-of-requires : tie.Need-digits-of-requires
-digits-of-requires c κs = search needs
+part-requires : tie.Need-part-requires
+part-requires c κs = search needs
 
 hex-requires : tie.Need-hex-requires
 hex-requires c κs = search needs
@@ -37,22 +37,26 @@ same-digits-requires : tie.Need-same-digits-requires
 same-digits-requires c κs = search needs
 
 returns : tie.Need-returns
-unfolding textOf signed
+unfolding textOf digitsOf signed
 returns c =
     let a = c .before .before .before .before .before .before .before .before .before .before .before .args in
-    let e : isSignature (textOf (a .h)) ≡ true = cc in
-    let f : sameDigits (digitsOf (textOf (a .h))) (hexOf (finished (a .s))) ≡ true = cc in
+    let t = c .before .before .before .before .before .before .before .before .up-to .ensures in
+    let e : isSignature (textOf (a .h)) ≡ true = rw t at (sym (c .before .before .before .before .before .before .before .is-signature .ensures) ∙ c .before .before .before .before .before .before .if1 .taken) in
+    let f : sameDigits (digitsOf (textOf (a .h))) (hexOf (finished (a .s))) ≡ true =
+    rw (c .before .before .before .hex .ensures, c .before .before .before .before .before .finish .ensures, c .before .before .before .before .part .ensures, t) at (sym (c .before .same-digits .ensures) ∙ c .if2 .taken) in
     rw (c .before .before .before .before .before .finish .ensures) (sym (judged-signed (a .place) (textOf (a .h)) (finished (a .s)) e f))
 
 refuse-requires : tie.Need-refuse-requires
 refuse-requires c κs = search needs
 
 returns-2 : tie.Need-returns-2
-unfolding textOf
+unfolding textOf digitsOf
 returns-2 c =
     let a = c .before .before .before .before .before .before .before .before .before .before .before .before .args in
-    let e : isSignature (textOf (a .h)) ≡ true = cc in
-    let f : sameDigits (digitsOf (textOf (a .h))) (hexOf (finished (a .s))) ≡ false = cc in
+    let t = c .before .before .before .before .before .before .before .before .before .up-to .ensures in
+    let e : isSignature (textOf (a .h)) ≡ true = rw t at (sym (c .before .before .before .before .before .before .before .before .is-signature .ensures) ∙ c .before .before .before .before .before .before .before .if1 .taken) in
+    let f : sameDigits (digitsOf (textOf (a .h))) (hexOf (finished (a .s))) ≡ false =
+    rw (c .before .before .before .before .hex .ensures, c .before .before .before .before .before .before .finish .ensures, c .before .before .before .before .before .part .ensures, t) at (sym (c .before .before .same-digits .ensures) ∙ c .before .if2 .left) in
     c .refuse .ensures ∙ sym (judged-other (a .place) (textOf (a .h)) (finished (a .s)) e f)
 
 refuse-requires-2 : tie.Need-refuse-requires-2
@@ -60,7 +64,10 @@ refuse-requires-2 c κs = search needs
 
 returns-3 : tie.Need-returns-3
 unfolding textOf
-returns-3 c = c .refuse2 .ensures ∙ sym (judged-none _ (textOf (c .before .before .before .before .before .before .args .h)) _ cc)
+returns-3 c =
+    let a = c .before .before .before .before .before .before .args in
+    let e : isSignature (textOf (a .h)) ≡ false = rw (c .before .before .before .up-to .ensures) at (sym (c .before .before .is-signature .ensures) ∙ c .before .if1 .left) in
+    c .refuse2 .ensures ∙ sym (judged-none (a .place) (textOf (a .h)) (finished (a .s)) e)
 
 pub judge-spec : {M : Type 1} → statement M
 judge-spec =
@@ -70,7 +77,7 @@ judge-spec =
     up-to-requires
     is-signature-requires
     finish-requires
-    digits-of-requires
+    part-requires
     hex-requires
     slice-aggregate-same-digits
     same-digits-requires

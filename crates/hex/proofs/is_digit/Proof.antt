@@ -1,8 +1,8 @@
--- `signature::is_hex_digit` meets its contract: `either` joins the three ranges of `hexDigit`.
+-- `hex::is_digit` meets its contract: `either` joins the three ranges of `hexDigit`.
 use borrow.Author.Needs.{needs}
-use Rattle.signature.specs.Digits.{hexDigit}
-use Rattle.signature.proofs.is_hex_digit.Statement.{statement}
-use Rattle.signature.proofs.is_hex_digit.Tie as tie
+use Rattle.hex.proofs.is_digit.Statement.{statement}
+use Rattle.hex.proofs.is_digit.Tie as tie
+use Rattle.hex.specs.Digits.{hexDigit}
 
 between-requires : tie.Need-between-requires
 between-requires c κs = search needs
@@ -23,8 +23,8 @@ returns : tie.Need-returns
 unfolding hexDigit
 returns c = cc
 
-pub is-hex-digit-spec : {M : Type 1} → statement M
-is-hex-digit-spec =
+pub is-digit-spec : {M : Type 1} → statement M
+is-digit-spec =
     tie.close
     (tie.spec
     between-requires

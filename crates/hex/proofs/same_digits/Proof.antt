@@ -1,13 +1,13 @@
--- `signature::same_digits` meets its contract: the digits passed were the same, so comparing what is left gives the same answer as comparing all.
+-- `hex::same_digits` meets its contract: the digits passed were the same, so comparing what is left gives the same answer as comparing all.
 use Prim.Native.Nat.{_-_}
 use mathlib.Core.Path.{_≡_, refl, sym, _∙_}
 use native.Mathlib.Omega.{arith}
 use lib.ListN.{length}
 use borrow.Author.Tests.{eq-eqb, ne-eqb}
-use Rattle.signature.specs.Digits.{sameDigits}
-use Rattle.signature.proofs.Digits.{same, same-at, same-both, same-left, same-right}
-use Rattle.signature.proofs.same_digits.Statement.{statement}
-use Rattle.signature.proofs.same_digits.Tie as tie
+use Rattle.hex.proofs.Compared.{same, same-at, same-both, same-left, same-right}
+use Rattle.hex.proofs.same_digits.Statement.{statement}
+use Rattle.hex.proofs.same_digits.Tie as tie
+use Rattle.hex.specs.Digits.{sameDigits}
 
 abbrev Inv-loop : tie.InvT-loop
 Inv-loop s w at₀ at = same s w at ≡ sameDigits s w

@@ -1,13 +1,13 @@
--- `signature::small_of` meets its contract: the test picks the case of `small`; a capital is at most 70, so 32 more is a byte.
+-- `hex::small_of` meets its contract: the test picks the case of `small`; a capital is at most 70, so 32 more is a byte.
 use Prim.Native.Nat.{_≤_}
 use mathlib.Core.Path.{sym, _∙_}
 use native.Mathlib.Omega.{arith}
 use borrow.Author.Needs.{needs}
 use borrow.Author.Tests.{leb-true}
 use Rattle.base.proofs.And.{and-r}
-use Rattle.signature.specs.Digits.{small}
-use Rattle.signature.proofs.small_of.Statement.{statement}
-use Rattle.signature.proofs.small_of.Tie as tie
+use Rattle.hex.proofs.small_of.Statement.{statement}
+use Rattle.hex.proofs.small_of.Tie as tie
+use Rattle.hex.specs.Digits.{small}
 
 between-requires : tie.Need-between-requires
 between-requires c κs = search needs

@@ -9,7 +9,7 @@ use lib.ListN.{length, drop, getD, drop-of-length-le}
 use Rattle.base.specs.And.{_and_}
 use Rattle.base.specs.Bytes.{sameBytes}
 use Rattle.base.proofs.Lists.{drop-next}
-use Rattle.signature.specs.Digits.{hexDigit, hexDigits, small}
+use Rattle.hex.specs.Digits.{hexDigit, hexDigits, small}
 
 module _ (s : List ℕ) (at : ℕ) where
   pub hex-digits-end : length s ≤ at → hexDigits (drop at s) ≡ true
