@@ -40,7 +40,7 @@ fn has_offset(o: Offset) -> bool
 }
 
 // I and J, 0 where they are not given.
-fn offset_of(o: Offset) -> Point
+pub fn offset_of(o: Offset) -> Point
     ensures { λ r. ⌜ r ≡ offsetOf o ⌝ }
 {
     match o {
@@ -71,7 +71,7 @@ fn is_brushless(g: Graphics) -> bool
 }
 
 // A D01 draws an arc.
-fn is_circular(g: Graphics) -> bool
+pub fn is_circular(g: Graphics) -> bool
     ensures { λ r. ⌜ r ≡ circular g ⌝ }
 {
     g.mode >= 2
