@@ -55,7 +55,7 @@ SmallToken Unknown = Unit
 zero-small : Small (pos 0)
 zero-small = record { size = omega arith }
 
-sized-small : (t : List ℕ) → Small (sizedAs (decimalOf t) .value .millionths)
+pub sized-small : (t : List ℕ) → Small (sizedAs (decimalOf t) .value .millionths)
 unfolding sizedAs
 sized-small t = go (decimalOf t) refl
   where

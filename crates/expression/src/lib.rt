@@ -6,7 +6,7 @@ ghost use lib.ListN.{length, drop, getD};
 ghost use Rattle.tokens.specs.Tokens.{tokens};
 ghost use Rattle.expression.specs.Grammar.{leafOf, isClose, plusMinus, timesOver, sumBy, productBy, closed, factorAt, termAt, expressionAt};
 ghost use Rattle.expression.specs.Reading.{Fits, Reads, Follows, After, Joins, Negates, told, operatorOf, workedOf};
-ghost use Rattle.expression.specs.Value.{valueOf};
+ghost use Rattle.expression.specs.Value.{Comes};
 use decimal::Amount;
 use reckon::Reckoned;
 use tokens::Token;
@@ -376,7 +376,7 @@ fn expression(s: &[u8], at: usize, depth: usize, v: Variables) -> Worked
 // What the whole text of an expression comes to.
 pub fn value_of(t: &[u8], v: Variables) -> Reckoned
     requires { ⌜ Fits (v .values) ⌝ }
-    ensures { λ r. ⌜ r ≡ valueOf (v .values) (now (t .entry)) ⌝ }
+    ensures { λ r. ⌜ Comes (v .values) (now (t .entry)) r ⌝ }
 {
     let w = expression(t, 0, 17, v);
     if base::both(w.fine, t.len() <= w.next) {

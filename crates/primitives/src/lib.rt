@@ -5,7 +5,7 @@ ghost use Prim.Native.Nat.{_+_, _<_, _^_};
 ghost use lib.IntN.{natAbs};
 ghost use Rattle.ints.specs.Ints.{isNeg, eqZ};
 ghost use Rattle.reckon.specs.Thermal.{thermalFits};
-ghost use Rattle.primitives.specs.Asked.{added};
+ghost use Rattle.primitives.specs.Asked.{none, added};
 ghost use Rattle.primitives.specs.Rules.{exposure, wholeBetween, circle, vectorLine, centerLine, outline, polygon, thermal, codeOf, keeps};
 use decimal::Amount;
 
@@ -20,6 +20,24 @@ pub struct Asked {
     pub antepenult: Amount,
     pub penult: Amount,
     pub last: Amount,
+}
+
+// No parameter.
+pub fn nothing() -> Asked
+    ensures { λ r. ⌜ r ≡ none ⌝ }
+{
+    let zero = Amount { millionths: 0 };
+    Asked {
+        count: 0,
+        first: zero,
+        second: zero,
+        third: zero,
+        fourth: zero,
+        fifth: zero,
+        antepenult: zero,
+        penult: zero,
+        last: zero,
+    }
 }
 
 // The first where the test holds, else the second.

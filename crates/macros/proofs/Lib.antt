@@ -1,0 +1,4 @@
+pub mod Gathering
+pub mod Laid
+pub mod Settled
+pub mod Working

@@ -1,0 +1,4 @@
+pub mod Given
+pub mod Pen
+pub mod Says
+pub mod Work
