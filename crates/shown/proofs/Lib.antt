@@ -1,3 +1,4 @@
 pub mod Entries
 pub mod Marks
+pub mod Contours
 pub mod Ends

@@ -7,7 +7,7 @@ use mathlib.Core.List.{List, [], _∷_, _++_}
 use native.Mathlib.Nat.{add-zero}
 use native.Mathlib.Numerals.{add-one}
 use native.Mathlib.Omega.{arith}
-use lib.Dec.{eqb, leb, ltb}
+use lib.Dec.{leb, ltb}
 use lib.ListN.{length, getD, drop, take, length-append, List·getD-append}
 use lib.Seq.{getD-drop, length-take-le, getD-append-add}
 use borrow.Author.Tests.{leb-true, leb-false, le-leb, ltb-true, ltb-false}
@@ -15,13 +15,13 @@ use Rattle.base.proofs.And.{and-i}
 use Rattle.place.specs.declared.Item.{Item}
 use Rattle.place.specs.declared.Pose.{Pose}
 use Rattle.place.specs.declared.Repeat.{Repeat}
-use Rattle.place.specs.Mark.{Mark, flash, begin, finish, block, repeat, edges, Sheet, put, closed, marked, written}
+use Rattle.place.specs.Mark.{Mark, flash, begin, block, repeat, edges, Sheet, put, closed, marked, written}
 use Rattle.place.specs.Placing.{quarterTurn, PoseWithin, ItemWithin}
 use Rattle.place.proofs.Marks.{written-append}
 use Rattle.sheet.specs.Records.{apertureIn, apertureOf, roleOf, apertureRoom, stored}
 use Rattle.sheet.specs.Containers.{blockOf}
 use Rattle.sheet.specs.Meaning.{repeatOf}
-use Rattle.sheet.specs.Valid.{most, far, isBlock, okCounts, valid}
+use Rattle.sheet.specs.Valid.{most, far, isBlock, okCounts}
 use Rattle.sheet.specs.declared.Aperture.{Aperture}
 use Rattle.sheet.proofs.Stored.{stored-below, stored-above}
 use Rattle.stack.specs.Stack.{hasRoom, pushed}
@@ -39,7 +39,7 @@ pub one-more : (ms : List Mark) (m : Mark) → edges (m ∷ []) ≡ 0 → writte
 unfolding written
 one-more ms m q = written-append ms (m ∷ []) blank q
 
-item-before : (before : ℕ) (t : Item) → itemEntry before t .before ≡ before
+pub item-before : (before : ℕ) (t : Item) → itemEntry before t .before ≡ before
 unfolding itemEntry
 item-before before t = refl
 
