@@ -1,0 +1,97 @@
+-- A record more, word by word: its words are read back, and every other record's stay, links too but the one that is set.
+-- Assumes nothing.
+use Prim.Native.Nat.{ℕ, zero, suc, _+_, _*_, _/_, _≤_, _<_}
+use mathlib.Core.Path.{_≡_, refl, sym, ap, _∙_}
+use mathlib.Core.Bool.{Bool, true, false, cond}
+use mathlib.Core.List.{List, _++_, append-assoc}
+use native.Mathlib.Omega.{arith}
+use lib.ListN.{length, getD, set, take, drop, length-append, length-drop, List·getD-append}
+use lib.Seq.{length-take-le, getD-append-add, getD-set-other}
+use borrow.Author.Tests.{lt-ltb, le-ltb}
+use Rattle.index.specs.Tree.{isHigh, linkWord, linkOf, next, lastLink}
+use Rattle.index.specs.Indexed.{Indexed}
+use Rattle.index.proofs.Seek.{link-words, link-other, last-is}
+use Rattle.sheet.specs.Records.{stored}
+use Rattle.sheet.proofs.Stored.{stored-below}
+use Rattle.tables.specs.Added.{hasRoom, added}
+
+-- what the code does, in either case
+pub added-room : (s : List ℕ) (used link : ℕ) (w : List ℕ) → used < length s / 8 → added s used link w ≡ set (stored s (used * 8) w) link used
+unfolding added hasRoom
+added-room s used link w h = rw (lt-ltb used (length s / 8) h)
+
+pub put-room : (s s′ s″ : List ℕ) (used link : ℕ) (w : List ℕ) → used < length s / 8 → s′ ≡ stored s (used * 8) w → s″ ≡ set s′ link used
+    → (true ≡ hasRoom s used) × (s″ ≡ added s used link w)
+unfolding hasRoom
+put-room s s′ s″ used link w h p q = (sym (lt-ltb used (length s / 8) h), q ∙ ap (λ (l : List ℕ). set l link used) p ∙ sym (added-room s used link w h))
+
+pub put-none : (s : List ℕ) (used link : ℕ) (w : List ℕ) → length s / 8 ≤ used → (false ≡ hasRoom s used) × (s ≡ added s used link w)
+unfolding added hasRoom
+put-none s used link w h = let e = le-ltb used (length s / 8) h in (sym e, rw e)
+
+-- words that are stored
+module _ (l : List ℕ) (at : ℕ) (w : List ℕ) (fits : at + length w ≤ length l) where
+  pub stored-at : (m : ℕ) → m < length w → getD (stored l at w) (at + m) 0 ≡ getD w m 0
+  unfolding stored
+  stored-at m h =
+      let t : length (take at l) ≡ at = length-take-le at l (omega arith) in
+      let b = getD-append-add (take at l) (w ++ drop (at + length w) l) m 0 in
+      rw append-assoc (rw t at b ∙ List·getD-append w (drop (at + length w) l) 0 m h)
+
+  pub stored-long : length (stored l at w) ≡ length l
+  unfolding stored
+  stored-long =
+      let t : length (take at l) ≡ at = length-take-le at l (omega arith) in
+      let d = length-drop (at + length w) l in
+      let u = length-append (take at l ++ w) (drop (at + length w) l) in
+      let v = length-append (take at l) w in
+      omega arith
+
+-- the words of a record that is put behind those in use
+module _ (s : List ℕ) (used : ℕ) (w : List ℕ) (eight : length w ≡ 8) (room : used < length s / 8) where
+  fits : used * 8 + length w ≤ length s
+  fits = omega arith
+
+  abbrev new : List ℕ
+  new = stored s (used * 8) w
+
+  pub more-long : suc used * 8 ≤ length new
+  more-long = omega (arith, stored-long s (used * 8) w fits)
+
+  pub more-below : (k : ℕ) → k < used * 8 → getD new k 0 ≡ getD s k 0
+  more-below k h = stored-below s (used * 8) w fits k h
+
+  pub more-at : (m : ℕ) → m < 8 → getD new (used * 8 + m) 0 ≡ getD w m 0
+  more-at m h = stored-at s (used * 8) w fits m (omega arith)
+
+  pub more-links : (i key : ℕ) → i < used → next new i key ≡ next s i key
+  more-links i key l = let p = link-words i key in more-below (linkOf i key) (omega arith)
+
+  -- its own links lead nowhere
+  pub more-free : getD w 6 0 ≡ 0 → getD w 7 0 ≡ 0 → (key : ℕ) → next new used key ≡ 0
+  unfolding linkWord
+  more-free low high key = go (isHigh key)
+    where
+      go : (b : Bool) → getD new (used * 8 + cond b 7 6) 0 ≡ 0
+      go true = more-at 7 (omega arith) ∙ high
+      go false = more-at 6 (omega arith) ∙ low
+
+  -- what the search ended at is a link, so no other word of a record changes with it
+  module _ {keyOf : ℕ → ℕ} (o : Indexed s keyOf used) (key link : ℕ) (ends : lastLink s used 0 key ≡ link) where
+    link-only : (n : ℕ) → n ≡ used → (j r : ℕ) → r < 6 → j * 8 + r ≡ link → ⊥
+    unfolding lastLink
+    link-only zero q j r h e =
+        let p = link-words 0 key in
+        let f : lastLink s 0 0 key ≡ link = rw (← q) at ends in
+        let g : linkOf 0 key ≡ link = f in
+        omega arith
+    link-only (suc n) q j r h e = link-other (last-is o used (omega arith) used 0 key (omega arith) (omega arith)) j r h (e ∙ sym ends)
+
+    put-word : (j r : ℕ) → r < 6 → getD (added s used link w) (j * 8 + r) 0 ≡ getD new (j * 8 + r) 0
+    put-word j r h = rw (added-room s used link w room) (getD-set-other new link (j * 8 + r) used 0 (link-only used refl j r h))
+
+    pub word-new : (r : ℕ) → r < 6 → getD (added s used link w) (used * 8 + r) 0 ≡ getD w r 0
+    word-new r h = put-word used r h ∙ more-at r (omega arith)
+
+    pub word-kept : (j r : ℕ) → j < used → r < 6 → getD (added s used link w) (j * 8 + r) 0 ≡ getD s (j * 8 + r) 0
+    word-kept j r l h = put-word j r h ∙ more-below (j * 8 + r) (omega arith)

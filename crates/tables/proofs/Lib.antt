@@ -1,0 +1,5 @@
+pub mod Agree
+pub mod Free
+pub mod Adding
+pub mod Numbers
+pub mod Apertures
