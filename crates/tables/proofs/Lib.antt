@@ -3,3 +3,4 @@ pub mod Free
 pub mod Adding
 pub mod Numbers
 pub mod Apertures
+pub mod Blocks
