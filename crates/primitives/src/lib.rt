@@ -76,7 +76,7 @@ pub fn one_more(q: Asked, a: Amount) -> Asked
 }
 
 // Below zero.
-fn negative(a: Amount) -> bool
+pub fn negative(a: Amount) -> bool
     ensures { λ r. ⌜ r ≡ isNeg (a .millionths) ⌝ }
 {
     ints::negative(a.millionths)
@@ -105,7 +105,7 @@ fn is_exposure(a: Amount) -> bool
 }
 
 // Whole, and from low to high, in millionths.
-fn whole_between(a: Amount, low: u64, high: u64) -> bool
+pub fn whole_between(a: Amount, low: u64, high: u64) -> bool
     ensures { λ r. ⌜ r ≡ wholeBetween low high a ⌝ }
 {
     let n = size(a);
