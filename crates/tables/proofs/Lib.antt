@@ -4,3 +4,5 @@ pub mod Adding
 pub mod Numbers
 pub mod Apertures
 pub mod Blocks
+pub mod Names
+pub mod Macros

@@ -1,3 +1,4 @@
 pub mod Added
 pub mod Apertures
 pub mod Blocks
+pub mod Macros

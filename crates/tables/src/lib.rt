@@ -1,10 +1,20 @@
-// The table of apertures while a file is read: records of eight words that are found by number (docs/SHEET.md, decision 209).
+// The tables of apertures and macros while a file is read: records of eight words that are found by number or by name (docs/SHEET.md, decision 209).
 use sheet::Aperture;
 ghost use mathlib.Core.Path.{_≡_};
+ghost use Prim.Native.Nat.{_≤_};
 ghost use lib.ListN.{length};
 ghost use Rattle.tables.specs.Added.{hasRoom, added};
 ghost use Rattle.tables.specs.Apertures.{apertureWords};
 ghost use Rattle.tables.specs.Blocks.{blockSet};
+ghost use Rattle.tables.specs.Macros.{macroRoom, macroOf, macroWords};
+
+// Where a macro's name and its blocks begin and end in the file.
+pub struct Macro {
+    pub from: usize,
+    pub to: usize,
+    pub first: usize,
+    pub end: usize,
+}
 
 // Stores the eight words w behind the records in use, and lets a link lead there; without room for them nothing changes.
 fn put_record(s: &mut [u64], used: usize, link: usize, w: &[u64]) -> bool
@@ -35,4 +45,35 @@ pub fn set_block(a: &mut [u64], i: usize, first: u64, len: u64, items: u64, heig
         let w = [first, len, items, height];
         sheet::put_words(a, i * 8 + 2, &w);
     }
+}
+
+// Macro record i.
+pub fn macro_at(m: &[u64], i: usize) -> Macro
+    requires { ⌜ i ≤ macroRoom (now m) ⌝ }
+    ensures { λ r. ⌜ r ≡ macroOf (now (m .entry)) i ⌝ }
+{
+    let p = i * 8;
+    Macro {
+        from: base::word_at(m, p) as usize,
+        to: base::word_at(m, p + 1) as usize,
+        first: base::word_at(m, p + 2) as usize,
+        end: base::word_at(m, p + 3) as usize,
+    }
+}
+
+// A macro more, at the link that `index::search_name` found free for its name.
+pub fn put_macro(m: &mut [u64], used: usize, link: usize, r: Macro) -> bool
+    ensures { λ t. ⌜ (t ≡ hasRoom (now (m .entry)) used) × (now (m .exit) ≡ added (now (m .entry)) used link (macroWords r)) ⌝ }
+{
+    let w = [
+        r.from as u64,
+        r.to as u64,
+        r.first as u64,
+        r.end as u64,
+        0,
+        0,
+        0,
+        0,
+    ];
+    put_record(m, used, link, &w)
 }

@@ -1,0 +1,22 @@
+-- `tables::put_macro` meets its contract: the eight words are `macroWords`.
+use Rattle.tables.specs.Macros.{macroWords}
+use borrow.Author.Needs.{needs}
+use Rattle.tables.proofs.put_macro.Statement.{statement}
+use Rattle.tables.proofs.put_macro.Tie as tie
+
+slice-aggregate-put-record : tie.Need-slice-aggregate-put-record
+slice-aggregate-put-record c = search needs
+
+put-record-requires : tie.Need-put-record-requires
+put-record-requires c κs = search needs
+
+same-length : tie.Need-same-length
+same-length c = search needs
+
+returns : tie.Need-returns
+unfolding macroWords
+returns c = c .before .before .put-record .ensures
+
+pub put-macro-spec : {M : Type 1} → statement M
+put-macro-spec =
+    tie.close (tie.spec slice-aggregate-put-record put-record-requires same-length returns)

@@ -1,0 +1,15 @@
+-- The record of a macro: where its name and its blocks lie in the file, and the links of the search for the name (docs/SHEET.md, decision 209).
+use Prim.Native.Nat.{ℕ, _+_, _*_, _/_}
+use mathlib.Core.List.{List, [], _∷_}
+use lib.ListN.{length, getD}
+use Rattle.tables.specs.declared.Macro.{Macro}
+
+abbrev pub macroRoom : List ℕ → ℕ
+macroRoom m = length m / 8
+
+unfoldable pub macroOf : List ℕ → ℕ → Macro
+macroOf m i = record { from = getD m (i * 8) 0; to = getD m (i * 8 + 1) 0; first = getD m (i * 8 + 2) 0; end = getD m (i * 8 + 3) 0 }
+
+-- its words as it is put into the table: the links lead nowhere yet
+unfoldable pub macroWords : Macro → List ℕ
+macroWords r = r .from ∷ r .to ∷ r .first ∷ r .end ∷ 0 ∷ 0 ∷ 0 ∷ 0 ∷ []
