@@ -1,4 +1,5 @@
 pub mod Gathering
 pub mod Laid
+pub mod Room
 pub mod Settled
 pub mod Working
