@@ -1,8 +1,8 @@
 -- A chain of operators of one rank, walked through from the left: what it comes to from here on is what it comes to from the start.
 -- Assumes nothing.
-use Prim.Native.Nat.{ℕ, zero, suc, _+_, _-_, _^_, _<_, _≤_}
+use Prim.Native.Nat.{ℕ, zero, suc, _-_, _^_, _<_, _≤_}
 use mathlib.Core.Path.{_≡_, refl, sym, ap, _∙_}
-use mathlib.Core.Bool.{Bool, true, false, cond}
+use mathlib.Core.Bool.{Bool, true, false}
 use mathlib.Core.List.{List}
 use native.Mathlib.Omega.{arith}
 use lib.IntN.{ℤ, natAbs}
@@ -10,7 +10,7 @@ use lib.ListN.{length, drop}
 use Rattle.reckon.specs.declared.Reckoned.{Reckoned}
 use Rattle.tokens.specs.Tokens.{tokens}
 use Rattle.tokens.specs.declared.Token.{Token}
-use Rattle.expression.specs.Grammar.{Reading, Next, stop, go, after, joined, chain}
+use Rattle.expression.specs.Grammar.{Reading, stop, go, after, joined, chain}
 use Rattle.expression.specs.Reading.{Reads, After, Joins, told, nextOf}
 use Rattle.expression.specs.declared.Operator.{Operator}
 use Rattle.expression.specs.declared.Sign.{Sign}

@@ -1,20 +1,19 @@
 -- The first token from a place on, and those behind it; the operator at a place.
 -- Assumes nothing.
-use Prim.Native.Nat.{ℕ, _+_, _<_, _≤_}
+use Prim.Native.Nat.{ℕ, _<_, _≤_}
 use mathlib.Core.Path.{_≡_, refl, sym, ap, _∙_}
-use mathlib.Core.Bool.{Bool, true, false, cond, false≢true}
-use mathlib.Core.List.{List, []}
+use mathlib.Core.Bool.{Bool, true, false, false≢true}
+use mathlib.Core.List.{List}
 use native.Mathlib.Omega.{arith}
 use lib.Dec.{ltb}
 use lib.ListN.{length, drop}
-use borrow.Author.Tests.{ltb-true, ltb-false, lt-ltb, le-ltb}
+use borrow.Author.Tests.{ltb-true, ltb-false, le-ltb}
 use Rattle.tokens.specs.Tokens.{tokens, lexed}
 use Rattle.tokens.specs.declared.Token.{Token}
 use Rattle.tokens.specs.declared.Token.the-variants.{End}
 use Rattle.tokens.proofs.Tokens.{tokens-next, tokens-end, lexed-further}
-use Rattle.expression.specs.Grammar.{head, tail, Next, stop, go, following}
+use Rattle.expression.specs.Grammar.{head, tail, go, following}
 use Rattle.expression.specs.Reading.{Follows, operatorOf, nextOf}
-use Rattle.expression.specs.declared.Operator.{Operator}
 use Rattle.expression.specs.declared.Sign.{Sign}
 use Rattle.expression.specs.declared.Sign.the-variants as sign
 

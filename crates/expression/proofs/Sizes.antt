@@ -1,13 +1,13 @@
 -- How large what an expression holds can be: below 10 ^ 12 millionths.
 -- Assumes nothing.
 use Prim.Native.Nat.{ℕ, _^_, _<_, _-_}
-use mathlib.Core.Path.{_≡_, refl, subst, sym}
+use mathlib.Core.Path.{_≡_, refl}
 use mathlib.Core.Bool.{Bool, true, false, cond}
 use mathlib.Core.List.{List}
 use native.Mathlib.Omega.{arith}
 use lib.Dec.{ltb}
 use lib.IntN.{ℤ, pos, natAbs}
-use lib.ListN.{length, getD}
+use lib.ListN.{length}
 use lib.Seq.{slice}
 use mir.Facts.{toZ-ofZ}
 use mir.Syntax.{w64}

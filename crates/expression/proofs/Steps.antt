@@ -1,25 +1,25 @@
 -- The steps of the three evaluators, over plain values: how a factor begins, what a sign leads, and no parenthesis left to open.
 -- Assumes nothing.
-use Prim.Native.Nat.{ℕ, zero, suc, _-_, _^_, _<_, _≤_}
+use Prim.Native.Nat.{ℕ, zero, suc, _-_, _<_}
 use mathlib.Core.Path.{_≡_, refl, sym, ap, _∙_}
-use mathlib.Core.Bool.{Bool, true, false, cond}
+use mathlib.Core.Bool.{Bool, true, false}
 use mathlib.Core.List.{List}
 use native.Mathlib.Omega.{arith}
 use lib.Dec.{ltb}
-use lib.IntN.{ℤ, pos, natAbs}
+use lib.IntN.{ℤ, pos}
 use lib.ListN.{length, drop}
 use borrow.Author.Tests.{ltb-true, ltb-false}
 use Rattle.decimal.specs.declared.answers.Amount.{Amount}
 use Rattle.tokens.specs.Tokens.{tokens, lexed}
 use Rattle.tokens.specs.declared.Token.{Token}
-use Rattle.expression.specs.Grammar.{Reading, refused, reads, Next, stop, go, head, tail, plusMinus, following, negated, leading, leafOf, begun, closed, factor, expression, expressionAt}
+use Rattle.expression.specs.Grammar.{Reading, head, tail, plusMinus, following, negated, leading, leafOf, begun, closed, factor, expression, expressionAt}
 use Rattle.expression.specs.Reading.{Fits, Reads, Follows, Negates, told, nextOf}
 use Rattle.expression.specs.declared.Leaf.{Leaf}
 use Rattle.expression.specs.declared.Leaf.the-variants as leaf
 use Rattle.expression.specs.declared.Operator.{Operator}
 use Rattle.expression.specs.declared.Worked.{Worked}
 use Rattle.expression.proofs.Seen.{head-seen, tail-seen, lexed-onward, lexed-none}
-use Rattle.expression.proofs.Sizes.{SmallLeaf, lexed-small, leaf-small}
+use Rattle.expression.proofs.Sizes.{lexed-small, leaf-small}
 use Rattle.expression.proofs.Told.{stayed}
 
 module _ (n : ℕ) (variables : List ℤ) (inner : List Token → Reading) (s : List ℕ) (at : ℕ) where

@@ -1,8 +1,8 @@
 -- What answers say: of an operation, of a sign, of an operator behind what was read, of a closed parenthesis.
 -- Assumes nothing.
 use Prim.Native.Nat.{ℕ, _^_, _<_}
-use mathlib.Core.Path.{_≡_, refl, sym, ap, _∙_}
-use mathlib.Core.Bool.{Bool, true, false, cond, false≢true}
+use mathlib.Core.Path.{_≡_, refl, sym, _∙_}
+use mathlib.Core.Bool.{Bool, true, false, false≢true}
 use mathlib.Core.List.{List}
 use native.Mathlib.Omega.{arith}
 use lib.Dec.{leb}
@@ -15,14 +15,14 @@ use Rattle.reckon.specs.declared.Reckoned.{Reckoned}
 use Rattle.reckon.specs.declared.Reckoned.the-variants.{Refused, Value}
 use Rattle.tokens.specs.Tokens.{tokens, lexed}
 use Rattle.tokens.specs.declared.Token.{Token}
-use Rattle.expression.specs.Grammar.{Reading, refused, reads, stop, after, kept, joined, negated, isClose, closed, head, tail}
+use Rattle.expression.specs.Grammar.{Reading, refused, reads, after, kept, joined, negated, isClose, closed, head, tail}
 use Rattle.tokens.proofs.Tokens.{tokens-next, tokens-end}
 use Rattle.expression.specs.Value.{whole}
-use Rattle.expression.specs.Reading.{Reads, Follows, After, Joins, Negates, told, nextOf, workedOf}
+use Rattle.expression.specs.Reading.{Follows, After, Joins, Negates, told, nextOf, workedOf}
 use Rattle.expression.specs.declared.Operator.{Operator}
 use Rattle.expression.specs.declared.Sign.{Sign}
 use Rattle.expression.specs.declared.Worked.{Worked}
-use Rattle.expression.proofs.Seen.{head-seen, tail-seen, lexed-onward}
+use Rattle.expression.proofs.Seen.{head-seen, tail-seen}
 use Rattle.expression.proofs.Sizes.{SmallResult, worked-small}
 
 pub told-fine : (s : List ℕ) (w : Worked) → w .fine ≡ true → told s w ≡ reads (w .value .millionths) (tokens (drop (w .next) s))

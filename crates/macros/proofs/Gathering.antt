@@ -3,26 +3,24 @@
 use Prim.Native.Nat.{ℕ, _+_, _<_, _≤_}
 use Prim.Native.Char.{code}
 use mathlib.Core.Path.{_≡_, refl, sym, ap, _∙_}
-use mathlib.Core.Bool.{Bool, true, false, cond}
-use mathlib.Core.List.{List, [], _∷_}
+use mathlib.Core.Bool.{Bool, true, false}
+use mathlib.Core.List.{List, []}
 use native.Mathlib.Omega.{arith}
 use lib.IntN.{ℤ}
 use lib.ListN.{length, drop, set, length-set}
 use lib.Seq.{slice}
 use Rattle.reckon.specs.declared.Reckoned.{Reckoned}
-use Rattle.reckon.specs.declared.Reckoned.the-variants.{Refused, Value}
+use Rattle.reckon.specs.declared.Reckoned.the-variants.{Value}
 use lib.Dec.{eqb}
 use Rattle.text.specs.First.{place}
 use Rattle.text.proofs.First.{first-from}
 use Rattle.tokens.specs.LineEnds.{withoutLeading}
 use Rattle.tokens.proofs.Pieces.{pieces-next, pieces-end}
-use Rattle.expression.specs.Value.{valueOf}
 use Rattle.primitives.specs.Asked.{none, added, asked, amount}
 use Rattle.primitives.specs.declared.Asked.{Asked}
 use Rattle.macros.specs.Pen.{penned, pens, laid}
 use Rattle.macros.specs.Says.{Comes, Gathers, reckonedAs}
 use Rattle.macros.specs.Work.{Values, onward, valuesOf, parametersIn}
-use Rattle.macros.specs.declared.Gathered.{Gathered}
 use Rattle.macros.specs.declared.Pen.{Pen}
 use Rattle.macros.specs.declared.Worth.{Worth}
 

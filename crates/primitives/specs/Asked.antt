@@ -1,5 +1,5 @@
 -- What the rules ask of a primitive's parameters, in millionths: how many there are, the first five and the last three of them.
-use Prim.Native.Nat.{ℕ, _+_}
+use Prim.Native.Nat.{_+_}
 use mathlib.Core.Bool.{cond}
 use mathlib.Core.List.{List, [], _∷_}
 use lib.Dec.{eqb}

@@ -1,25 +1,23 @@
 -- The tokens from a place on: the first of them, and those behind it.
 -- Assumes nothing.
 use Prim.Native.Nat.{ℕ, suc, _+_, _-_, _<_, _≤_}
-use mathlib.Core.Path.{_≡_, refl, sym, ap, _∙_}
+use mathlib.Core.Path.{_≡_, refl}
 use mathlib.Core.Bool.{Bool, true, false, cond, not}
-use mathlib.Core.List.{List, [], _∷_, map}
+use mathlib.Core.List.{List, [], _∷_}
 use native.Mathlib.Omega.{arith}
 use lib.Dec.{ltb}
 use lib.ListN.{length, take, drop, getD, drop-of-length-le}
 use lib.Seq.{slice, drop-drop}
-use borrow.Author.Tests.{lt-ltb, le-ltb}
+use borrow.Author.Tests.{lt-ltb}
 use Rattle.base.specs.And.{_and_}
 use Rattle.base.specs.Or.{_or_}
-use Rattle.base.proofs.And.{and-false}
 use Rattle.base.proofs.Lists.{drop-next}
 use Rattle.text.specs.First.{firstIn, first}
-use Rattle.text.proofs.First.{first-from, first-to, in-from}
+use Rattle.text.proofs.First.{first-from, in-from}
 use Rattle.tokens.proofs.Pieces.{slice-take}
 use Rattle.tokens.specs.Words.{numeral, joins, onto, words}
-use Rattle.tokens.specs.Tokens.{tokenOf, tokens, wordEnd, lexed}
+use Rattle.tokens.specs.Tokens.{tokens, wordEnd, lexed}
 use Rattle.tokens.specs.declared.Token.{Token}
-use Rattle.tokens.specs.declared.Token.the-variants.{End}
 
 -- the end of the run of digits and points with which these bytes begin, which stand from `at` on
 abbrev run : List ℕ → ℕ → ℕ

@@ -1,12 +1,11 @@
 -- The words of an expression: a run of digits and points is one, with the `$` before it; any other byte is one by itself.
-use Prim.Native.Nat.{ℕ, _+_}
-use mathlib.Core.Bool.{Bool, cond, not}
+use Prim.Native.Nat.{ℕ}
+use mathlib.Core.Bool.{Bool, cond}
 use mathlib.Core.List.{List, [], _∷_}
 use lib.ListN.{getD}
 use Rattle.base.specs.And.{_and_}
 use Rattle.base.specs.Or.{_or_}
 use Rattle.digits.specs.Digits.{isDigit}
-use Rattle.text.specs.First.{first}
 use Rattle.text.specs.Text.{byte}
 
 unfoldable pub numeral : ℕ → Bool

@@ -1,7 +1,5 @@
 -- `expression::close` meets its contract: the token there picks the case of `closed`.
 -- Assumes nothing.
-use Rattle.expression.specs.Grammar.{isClose}
-use Rattle.expression.specs.Reading.{told}
 use Rattle.expression.proofs.Seen.{lexed-onward}
 use Rattle.expression.proofs.Told.{close-says}
 use mathlib.Core.Path.{refl}

@@ -1,10 +1,9 @@
 -- `expression::negate` meets its contract: with a minus its value has the other sign, without one it stays.
 -- Assumes nothing.
-use Rattle.expression.specs.Reading.{Negates}
 use Rattle.expression.proofs.Sizes.{stored-small}
 use Rattle.expression.proofs.Told.{turn, stay}
 use native.Mathlib.Omega.{arith}
-use mathlib.Core.Path.{_≡_, sym, ap, _∙_}
+use mathlib.Core.Path.{_≡_, ap, _∙_}
 use lib.IntN.{natAbs, negℤ}
 use Prim.Native.Nat.{_^_, _<_}
 use Rattle.expression.proofs.negate.Statement.{statement}

@@ -1,7 +1,6 @@
 -- `expression::sign_at` meets its contract: `follows` says so of the token there.
 -- Assumes nothing.
 use Rattle.expression.specs.Grammar.{plusMinus}
-use Rattle.expression.specs.Reading.{Follows}
 use Rattle.expression.proofs.Seen.{follows}
 use mathlib.Core.Path.{refl}
 use borrow.Author.Needs.{needs}

@@ -1,7 +1,6 @@
 -- `expression::summed` meets its contract: of two that are fine it is the result of the operation, else it is refused.
 -- Assumes nothing.
 use Rattle.expression.specs.Grammar.{sumBy}
-use Rattle.expression.specs.Reading.{Joins, workedOf}
 use Rattle.expression.proofs.Sizes.{SmallResult, sum-small}
 use Rattle.expression.proofs.Told.{join-fine, join-refused}
 use mathlib.Core.Path.{sym, subst, _∙_}

@@ -6,7 +6,7 @@ use lib.ListN.{length, getD, List·getD-eq-default}
 use lib.IntN.{pos}
 use mathlib.Core.Path.{_≡_, sym, ap, _∙_}
 use Prim.Native.Nat.{ℕ, _≤_, _-_}
-use borrow.Author.Needs.{needs, sfits-of, length-unmapped}
+use borrow.Author.Needs.{needs, sfits-of}
 use borrow.Author.Needs.{needs}
 use Rattle.expression.proofs.variable.Statement.{statement}
 use Rattle.expression.proofs.variable.Tie as tie

@@ -1,6 +1,6 @@
 -- `form::blocks` meets its contract: the loop's invariant: what is wrong so far, with the blocks from here on, is what is wrong with all of them.
 -- Assumes nothing.
-use Rattle.form.specs.Blocks.{good, joined, gathered, blockForm, blocksForm}
+use Rattle.form.specs.Blocks.{good, gathered, blockForm, blocksForm}
 use Rattle.form.proofs.Gathered.{gather-next, gather-end}
 use Rattle.tokens.specs.Pieces.{pieces}
 use Rattle.text.proofs.First.{first-from}

@@ -1,7 +1,6 @@
 -- `form::headed` meets its contract: it is judged as `headed` says.
 -- Assumes nothing.
 use Rattle.form.specs.Macro.{headed}
-use native.Mathlib.Omega.{arith}
 use borrow.Author.Needs.{needs}
 use Rattle.form.proofs.headed.Statement.{statement}
 use Rattle.form.proofs.headed.Tie as tie

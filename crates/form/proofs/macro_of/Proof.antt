@@ -3,7 +3,6 @@
 use Rattle.form.specs.Macro.{headed, macroOf}
 use Rattle.command.proofs.Choose.{row-holds, row-fails}
 use borrow.Author.Tests.{lt-ltb, le-ltb}
-use native.Mathlib.Omega.{arith}
 use mathlib.Core.Path.{refl, sym}
 use borrow.Author.Needs.{needs}
 use Rattle.form.proofs.macro_of.Statement.{statement}

@@ -1,13 +1,13 @@
 -- `form::primitive` meets its contract: the loop's invariant: what is wrong so far, with the expressions from here on, is what is wrong with all of it.
 -- Assumes nothing.
-use Rattle.form.specs.Blocks.{joined, gathered, parameterForm, primitiveForm}
+use Rattle.form.specs.Blocks.{gathered, parameterForm, primitiveForm}
 use Rattle.form.proofs.Gathered.{gather-next, gather-end}
 use Rattle.tokens.specs.Pieces.{pieces}
 use Rattle.text.proofs.First.{first-from}
 use native.Mathlib.Omega.{arith}
 use lib.Dec.{eqb}
 use lib.ListN.{length, drop}
-use mathlib.Core.Path.{_≡_, refl, sym, ap, _∙_}
+use mathlib.Core.Path.{_≡_, sym, _∙_}
 use Prim.Native.Char.{code}
 use Prim.Native.Nat.{_+_, _-_}
 use borrow.Author.Needs.{needs}

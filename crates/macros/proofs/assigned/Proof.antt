@@ -5,7 +5,7 @@ use borrow.Author.Needs.{needs, sfits-of}
 use native.Mathlib.Omega.{arith}
 use lib.Seq.{set-out}
 use lib.ListN.{length, set}
-use mathlib.Core.Path.{_≡_, refl, sym, ap, _∙_}
+use mathlib.Core.Path.{_≡_, refl, sym, ap}
 use Prim.Native.Nat.{ℕ, _≤_, _-_}
 use borrow.Author.Needs.{needs}
 use Rattle.macros.proofs.assigned.Statement.{statement}

@@ -5,7 +5,7 @@ use Rattle.primitives.specs.Rules.{codeOf}
 use Rattle.macros.specs.Work.{verdict}
 use Rattle.macros.proofs.Working.{primitive-does, code-small, signed-plain}
 use Rattle.macros.proofs.Laid.{length-laid}
-use mathlib.Core.Path.{_≡_, refl, sym, ap, _∙_}
+use mathlib.Core.Path.{refl, ap, _∙_}
 use lib.ListN.{length, set, length-set}
 use lib.IntN.{natAbs}
 use Prim.Native.Nat.{_^_, _<_}

@@ -6,7 +6,7 @@ use Rattle.macros.specs.Pen.{penned}
 use lib.Seq.{set-out}
 use lib.ListN.{set}
 use borrow.Author.Tests.{lt-ltb, le-ltb}
-use mathlib.Core.Path.{refl, sym, ap}
+use mathlib.Core.Path.{refl, sym}
 use borrow.Author.Needs.{needs}
 use Rattle.macros.proofs.write.Statement.{statement}
 use Rattle.macros.proofs.write.Tie as tie

@@ -1,7 +1,6 @@
 -- `primitives::one_more` meets its contract: field by field it is `added`.
 -- Assumes nothing.
 use Rattle.primitives.specs.Asked.{added}
-use native.Mathlib.Omega.{arith}
 use borrow.Author.Needs.{needs}
 use Rattle.primitives.proofs.one_more.Statement.{statement}
 use Rattle.primitives.proofs.one_more.Tie as tie

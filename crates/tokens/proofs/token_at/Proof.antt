@@ -1,7 +1,6 @@
 -- `tokens::token_at` meets its contract: whether there is a byte, and whether it joins, picks the case of `lexed`.
 -- Assumes nothing.
 use Rattle.tokens.specs.Tokens.{wordEnd, lexed}
-use Rattle.base.proofs.Tests.{tests}
 use mathlib.Core.Path.{sym, _∙_}
 use borrow.Author.Tests.{lt-ltb, le-ltb}
 use borrow.Author.Needs.{needs}
