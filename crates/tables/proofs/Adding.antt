@@ -5,14 +5,14 @@ use mathlib.Core.Path.{_≡_, refl, sym, ap, _∙_}
 use mathlib.Core.Bool.{Bool, true, false, cond}
 use mathlib.Core.List.{List, _++_, append-assoc}
 use native.Mathlib.Omega.{arith}
-use lib.ListN.{length, getD, set, take, drop, length-append, length-drop, List·getD-append}
+use lib.ListN.{length, getD, set, take, drop, length-append, length-drop, length-set, List·getD-append}
 use lib.Seq.{length-take-le, getD-append-add, getD-set-other}
 use borrow.Author.Tests.{lt-ltb, le-ltb}
 use Rattle.index.specs.Tree.{isHigh, linkWord, linkOf, next, lastLink}
 use Rattle.index.specs.Indexed.{Indexed}
-use Rattle.index.proofs.Seek.{link-words, link-other, last-is}
+use Rattle.index.proofs.Seek.{link-words, link-place, link-other, last-is}
 use Rattle.sheet.specs.Records.{stored}
-use Rattle.sheet.proofs.Stored.{stored-below}
+use Rattle.sheet.proofs.Stored.{stored-below, stored-above}
 use Rattle.tables.specs.Added.{hasRoom, added}
 
 -- what the code does, in either case
@@ -58,6 +58,9 @@ module _ (s : List ℕ) (used : ℕ) (w : List ℕ) (eight : length w ≡ 8) (ro
   pub more-long : suc used * 8 ≤ length new
   more-long = omega (arith, stored-long s (used * 8) w fits)
 
+  pub added-long : (link : ℕ) → length (added s used link w) ≡ length s
+  added-long link = rw (added-room s used link w room) (length-set new link used ∙ stored-long s (used * 8) w fits)
+
   pub more-below : (k : ℕ) → k < used * 8 → getD new k 0 ≡ getD s k 0
   more-below k h = stored-below s (used * 8) w fits k h
 
@@ -95,3 +98,18 @@ module _ (s : List ℕ) (used : ℕ) (w : List ℕ) (eight : length w ≡ 8) (ro
 
     pub word-kept : (j r : ℕ) → j < used → r < 6 → getD (added s used link w) (j * 8 + r) 0 ≡ getD s (j * 8 + r) 0
     word-kept j r l h = put-word j r h ∙ more-below (j * 8 + r) (omega arith)
+
+    -- behind it nothing changes
+    link-inside : (n : ℕ) → n ≡ used → link < suc used * 8
+    unfolding lastLink
+    link-inside zero q =
+        let p = link-words 0 key in
+        let f : lastLink s 0 0 key ≡ link = rw (← q) at ends in
+        let g : linkOf 0 key ≡ link = f in
+        omega arith
+    link-inside (suc n) q = let p = link-place (last-is o used (omega arith) used 0 key (omega arith) (omega arith)) in omega arith
+
+    pub added-behind : (k : ℕ) → suc used * 8 ≤ k → getD (added s used link w) k 0 ≡ getD s k 0
+    added-behind k h =
+        let p = link-inside used refl in
+        rw (added-room s used link w room) (getD-set-other new link k used 0 (λ q. omega arith) ∙ stored-above s (used * 8) w fits k (omega arith))

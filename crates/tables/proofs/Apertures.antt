@@ -1,6 +1,6 @@
 -- An aperture more whose number was not found: the next search finds it, it is read back as it was put, and the others stay.
 -- Assumes nothing.
-use Prim.Native.Nat.{ℕ, suc, _+_, _*_, _<_}
+use Prim.Native.Nat.{ℕ, suc, _+_, _*_, _≤_, _<_}
 use mathlib.Core.Path.{_≡_, refl, sym, _∙_}
 use mathlib.Core.List.{List}
 use native.Mathlib.Omega.{arith}
@@ -12,7 +12,7 @@ use Rattle.sheet.specs.Records.{apertureRoom, apertureIn, apertureOf}
 use Rattle.sheet.specs.declared.Aperture.{Aperture}
 use Rattle.tables.specs.Added.{added}
 use Rattle.tables.specs.Apertures.{apertureWords}
-use Rattle.tables.proofs.Adding.{word-new, word-kept}
+use Rattle.tables.proofs.Adding.{added-long, added-behind, word-new, word-kept}
 use Rattle.tables.proofs.Numbers.{number-ends, numbered-added, number-found}
 
 -- an aperture is its first six words
@@ -71,3 +71,10 @@ module _ (a : List ℕ) (used link : ℕ) (r : Aperture) (room : used < aperture
 
   pub aperture-kept : (i : ℕ) → i < used → apertureOf a′ i ≡ apertureOf a i
   aperture-kept i l = aperture-same a′ a i (λ m h. word-kept a used (apertureWords r) eight room (n .tree) (r .number) link (number-ends a used (r .number) link free) i m l h)
+
+  -- the table is as long, and behind the new record as it was
+  pub aperture-long : length a′ ≡ length a
+  aperture-long = added-long a used (apertureWords r) eight room link
+
+  pub aperture-behind : (k : ℕ) → suc used * 8 ≤ k → getD a′ k 0 ≡ getD a k 0
+  aperture-behind = added-behind a used (apertureWords r) eight room (n .tree) (r .number) link (number-ends a used (r .number) link free)

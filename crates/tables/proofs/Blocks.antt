@@ -63,9 +63,15 @@ module _ (a : List ℕ) (i first len items height : ℕ) where
     pub block-kept : (j : ℕ) → (j ≡ i → ⊥) → apertureOf b j ≡ apertureOf a j
     block-kept j other = aperture-same b a j (λ m l. word-other (j * 8 + m) (λ p. omega arith))
 
+    pub block-long : length b ≡ length a
+    block-long = rw (block-room room) (stored-long a (i * 8 + 2) four fits)
+
+    pub block-behind : (k : ℕ) → i * 8 + 8 ≤ k → getD b k 0 ≡ getD a k 0
+    block-behind k h = word-other k (λ p. omega arith)
+
     pub block-numbered : (used : ℕ) → Numbered a used → Numbered b used
     block-numbered used n =
-        let long : length b ≡ length a = rw (block-room room) (stored-long a (i * 8 + 2) four fits) in
+        let long = block-long in
         let inside = n .tree .inside in
         numbered-agree a b used n (omega arith)
         (λ j key l. let p = link-words j key in word-other (linkOf j key) (λ q. omega arith))

@@ -6,3 +6,4 @@ pub mod Apertures
 pub mod Blocks
 pub mod Names
 pub mod Macros
+pub mod Worked

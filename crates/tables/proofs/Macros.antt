@@ -1,6 +1,6 @@
 -- A macro more whose name was not found: the next search finds it, it is read back as it was put, and the others stay.
 -- Assumes nothing.
-use Prim.Native.Nat.{ℕ, suc, _+_, _*_, _<_}
+use Prim.Native.Nat.{ℕ, suc, _+_, _*_, _≤_, _<_}
 use mathlib.Core.Path.{_≡_, refl}
 use mathlib.Core.List.{List}
 use native.Mathlib.Nat.{add-zero}
@@ -12,7 +12,7 @@ use Rattle.index.specs.Names.{keyOf, named, Named}
 use Rattle.tables.specs.declared.Macro.{Macro}
 use Rattle.tables.specs.Added.{added}
 use Rattle.tables.specs.Macros.{macroRoom, macroOf, macroWords}
-use Rattle.tables.proofs.Adding.{word-new, word-kept}
+use Rattle.tables.proofs.Adding.{added-long, added-behind, word-new, word-kept}
 use Rattle.tables.proofs.Names.{name-ends, named-added, name-found}
 
 -- a macro is its first four words
@@ -66,3 +66,10 @@ module _ (file m : List ℕ) (used link : ℕ) (r : Macro) (room : used < macroR
       let kept : (k : ℕ) → k < 6 → getD m′ (i * 8 + k) 0 ≡ getD m (i * 8 + k) 0 = λ k h. word-kept m used w eight room (n .tree) (keyOf name) link (name-ends file m used name link free) i k l h in
       let p : getD m′ (i * 8) 0 ≡ getD m (i * 8) 0 = rw (add-zero (i * 8)) at (kept 0 (omega arith)) in
       λ x. record { from = p x; to = kept 1 (omega arith) x; first = kept 2 (omega arith) x; end = kept 3 (omega arith) x }
+
+  -- the table is as long, and behind the new record as it was
+  pub macro-long : length m′ ≡ length m
+  macro-long = added-long m used w eight room link
+
+  pub macro-behind : (k : ℕ) → suc used * 8 ≤ k → getD m′ k 0 ≡ getD m k 0
+  macro-behind = added-behind m used w eight room (n .tree) (keyOf name) link (name-ends file m used name link free)

@@ -11,6 +11,6 @@ unfoldable pub hasRoom : List ℕ → ℕ → Bool
 hasRoom s used = ltb used (length s / 8)
 
 -- its words behind those in use, and the link at which the search for it ended leads to it; without room nothing changes.
--- The first record's own link is that link, and it stays 0.
+-- For the first record that link is one of its own, and stays 0.
 unfoldable pub added : List ℕ → ℕ → ℕ → List ℕ → List ℕ
 added s used link w = cond (hasRoom s used) (set (stored s (used * 8) w) link used) s
