@@ -1,4 +1,5 @@
 pub mod Entries
 pub mod Marks
+pub mod Apertures
 pub mod Contours
 pub mod Ends
