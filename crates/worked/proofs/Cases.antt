@@ -1,7 +1,7 @@
 -- The worked cases of document 01 hold of the definitions: both sides compute to the same answers.
 -- Assumes nothing.
 use mathlib.Core.Path.{_≡_, refl}
-use mathlib.Core.List.{map}
+use mathlib.Core.List.{[], _∷_, _++_, map}
 use Rattle.base.specs.And.{_and_}
 use Rattle.base.specs.Or.{_or_}
 use Rattle.base.specs.Text.{bytes}
@@ -16,14 +16,20 @@ use Rattle.reckon.specs.Rounding.{nearest, keptOf, productOf, quotientOf, recko
 use Rattle.reckon.specs.Thermal.{gapFits, thermalFits}
 use Rattle.reckon.specs.ArcCentre.{seenFrom, parallel, between, strictlyBetween, nonsenseCentre}
 use Rattle.worked.specs.Questions.{worth, reading, readingAt, reckonedAs, answer}
-use Rattle.worked.specs.Table.{said, questionOf, saidOf, table, further}
+use Rattle.worked.specs.Table.{said, questionOf, saidOf, numbers, table, further}
+use Rattle.worked.proofs.Listing.{listing-whole}
 
-pub either-side-of-a-line : map (λ r. answer (questionOf r)) table ≡ map (λ r. said (saidOf r)) table
-unfolding answer questionOf said saidOf table worth reading readingAt reckonedAs
+numbers-hold : map (λ r. answer (questionOf r)) numbers ≡ map (λ r. said (saidOf r)) numbers
+unfolding answer questionOf said saidOf numbers worth reading readingAt reckonedAs
     bytes isDigit allDigits valueOf hasMinus afterSign dropLeadingZeros before dropTrailingZeros beforePoint afterPoint isDecimal inMillionths amountOf numeralOf decimalOf
     signed eqZ isNeg _and_ _or_ nearest keptOf productOf quotientOf reckonedRefusal gapFits thermalFits
     samePoint seenFrom parallel between strictlyBetween nonsenseCentre
-either-side-of-a-line = refl
+numbers-hold = refl
+
+-- P1 to P10
+pub either-side-of-a-line : map (λ r. answer (questionOf r)) table ≡ map (λ r. said (saidOf r)) table
+unfolding table numbers questionOf saidOf
+either-side-of-a-line = λ i. numbers-hold i ++ (listing-whole i ∷ [])
 
 pub decided : map (λ r. answer (questionOf r)) further ≡ map (λ r. said (saidOf r)) further
 unfolding answer questionOf said saidOf further worth reading readingAt reckonedAs

@@ -3,10 +3,16 @@
 use Prim.Native.Nat.{ℕ}
 use Prim.Native.String.{String}
 use mathlib.Core.Bool.{cond}
+use mathlib.Core.List.{List}
 use lib.IntN.{ℤ}
 use Rattle.base.specs.Text.{bytes}
 use Rattle.points.specs.Points.{pt}
 use Rattle.points.specs.declared.Point.{Point}
+use Rattle.text.specs.Text.{text}
+use Rattle.place.specs.Mark.{plain}
+use Rattle.place.specs.declared.Item.{Item}
+use Rattle.reading.specs.State.{Room}
+use Rattle.reading.specs.Reading as file
 use Rattle.decimal.specs.Decimal.{decimalOf}
 use Rattle.decimal.specs.declared.answers.Decimal.{Decimal}
 use Rattle.decimal.specs.declared.answers.Decimal.the-variants as decimal
@@ -27,11 +33,15 @@ pub data Question : Type 0 where
   arc : At → At → At → Question
   -- outer, inner, gap
   thermal : String → String → String → Question
+  -- a file
+  listing : String → Question
 
 pub data Answer : Type 0 where
   -- a value in millionths
   value : ℤ → Answer
   accepted : Answer
+  -- the items of a sheet
+  lists : List Item → Answer
   -- one of document 01's numbers
   refused : ℕ → Answer
   -- a number in the question is no decimal
@@ -53,9 +63,19 @@ unfoldable pub reckonedAs : Reckoned → Answer
 reckonedAs reckoned.Refused = refused (reckonedRefusal reckoned.Refused)
 reckonedAs (reckoned.Value z) = value z
 
+-- a file's items with every repeat and nested block written out
+unfoldable pub listed : file.Answer → Answer
+listed (file.accepted s) = lists (plain (s .marks))
+listed (file.refused n place) = refused n
+
+-- more room than the file needs
+unfoldable pub ample : Room
+ample = record { entries = 100; apertures = 100; macros = 100; numbers = 100 }
+
 -- by the definitions that the contracts cite
 unfoldable pub answer : Question → Answer
 answer (product s t) = reading s (λ a. reading t (λ b. reckonedAs (productOf a b)))
 answer (quotient s t) = reading s (λ a. reading t (λ b. reckonedAs (quotientOf a b)))
 answer (arc from to centre) = readingAt from (λ s. readingAt to (λ e. readingAt centre (λ c. cond (nonsenseCentre s e c) (refused 12) accepted)))
 answer (thermal outer inner gap) = reading outer (λ o. reading inner (λ i. reading gap (λ g. cond (thermalFits o i g) accepted (refused 10))))
+answer (listing s) = listed (file.reading ample (text s))

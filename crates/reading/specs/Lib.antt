@@ -1,0 +1,5 @@
+pub mod State
+pub mod Apertures
+pub mod Levels
+pub mod Steps
+pub mod Reading

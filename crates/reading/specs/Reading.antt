@@ -1,0 +1,28 @@
+-- The reading of a file: "Commands are taken in file order and the first at fault decides" (01, Numbers the reader answers).
+use Prim.Native.Nat.{ℕ}
+use mathlib.Core.Bool.{true, false}
+use mathlib.Core.List.{List, [], _∷_}
+use lib.Dec.{eqb}
+use lib.Seq.{slice}
+use Rattle.commands.specs.Commands.{Sequence, commandsOf}
+use Rattle.commands.specs.declared.Placed.{Placed}
+use Rattle.commands.specs.declared.Refusal.{Refusal}
+use Rattle.reading.specs.State.{Room, State, begun}
+use Rattle.reading.specs.Steps.{stepOf}
+
+-- a sheet, by what reading knows at M02; or a refusal by number, with the byte where it stands
+pub data Answer : Type 0 where
+  accepted : State → Answer
+  refused : ℕ → ℕ → Answer
+
+-- the commands from here on, and the fault of the bytes behind the last of them, 0 for none
+unfoldable pub readOn : Room → List ℕ → List Placed → Refusal → State → Answer
+readOn room file [] f s = elim (eqb (f .number) 0) [ true ↦ accepted s | false ↦ refused (f .number) (f .place) ]
+readOn room file (c ∷ cs) f s =
+    elim (eqb (stepOf room (slice (c .from) (c .end) file) (c .place) (c .command) s .fault) 0) [
+      | true ↦ readOn room file cs f (stepOf room (slice (c .from) (c .end) file) (c .place) (c .command) s .next)
+      | false ↦ refused (stepOf room (slice (c .from) (c .end) file) (c .place) (c .command) s .fault) (c .place)
+    ]
+
+unfoldable pub reading : Room → List ℕ → Answer
+reading room file = readOn room file (commandsOf file .commands) (commandsOf file .fault) begun

@@ -1,0 +1,153 @@
+-- P10: the file of "The listing, whole" is read by the definition of reading, and its items are those of the output.
+-- Assumes nothing.
+use mathlib.Core.Path.{_≡_, refl}
+use mathlib.Core.Bool.{xor}
+use Rattle.base.specs.Run.{run}
+use Rattle.base.specs.And.{_and_}
+use Rattle.base.specs.Bytes.{sameBytes}
+use Rattle.base.specs.Or.{_or_}
+use Rattle.ints.specs.Ints.{signed, isNeg}
+use Rattle.points.specs.Points.{samePoint, shift, flipped}
+use Rattle.points.specs.Points as points-Points
+use Rattle.digits.specs.Coordinate.{wholeOf, coordinateOf}
+use Rattle.digits.specs.Digits.{isDigit, allDigits, isNumber, valueOf}
+use Rattle.digits.specs.Natural.{naturalOf}
+use Rattle.digits.specs.Sign.{hasMinus, afterSign}
+use Rattle.digits.specs.Zeros.{dropLeadingZeros, before, dropTrailingZeros}
+use Rattle.decimal.specs.Decimal.{isDecimal, inMillionths, amountOf, numeralOf, decimalOf}
+use Rattle.decimal.specs.Point.{beforePoint, afterPoint}
+use Rattle.text.specs.First.{firstIn, beforeByte, afterByte}
+use Rattle.text.specs.Name.{letter, nameStart, nameByte, nameBytes, isName}
+use Rattle.text.specs.Text.{among}
+use Rattle.scan.specs.Permitted.{fits, printable, breaksAfter, mayBreak, permitted, badIn}
+use Rattle.scan.specs.Scan.{textFrom, endOf, commandFrom, commandAt, nextCommand}
+use Rattle.scan.specs.Scan as scan-Scan
+use Rattle.scan.specs.Tail.{tailOf}
+use Rattle.command.specs.Choose.{pick}
+use Rattle.command.specs.Numbers.{judged, inRange, anySize, sizedAs}
+use Rattle.operations.specs.Coordinates.{digitLimit, inCoordinate, fieldEnd, given, missing, fieldOf, past, fieldsIn, fieldsOf}
+use Rattle.operations.specs.Operations.{broken, tooLong, alone, axisOf, draw, drawOf, moveOf, flashOf}
+use Rattle.operations.specs.Operations as operations-Operations
+use Rattle.words.specs.Words.{commentOf, selectOf, wordOf}
+use Rattle.words.specs.Words as words-Words
+use Rattle.settings.specs.Header.{formatOf, unitOf}
+use Rattle.settings.specs.Repeats.{repeats, repeatStart}
+use Rattle.settings.specs.Repeats as settings-Repeats
+use Rattle.settings.specs.Transformations.{rotationOf, scaleOf, mirrorOf, transformationOf}
+use Rattle.apertures.specs.Blocks.{blockStart}
+use Rattle.apertures.specs.Blocks as apertures-Blocks
+use Rattle.apertures.specs.Definitions.{definition, apertureOf}
+use Rattle.apertures.specs.Parameters.{texts, more, gathered, parametersOf}
+use Rattle.apertures.specs.Parameters as apertures-Parameters
+use Rattle.tokens.specs.Pieces.{pieces}
+use Rattle.tokens.specs.Pieces as tokens-Pieces
+use Rattle.recognise.specs.Commands.{oneBlock, dataOf, extendedOf, commandOf}
+use Rattle.commands.specs.Commands.{commandsFrom, commandsOf}
+use Rattle.commands.specs.Leads.{leadOf}
+use Rattle.commands.specs.Turns.{led, turnOf, tailFault}
+use Rattle.commands.specs.Turns as commands-Turns
+use Rattle.primitives.specs.Asked.{none, added, asked}
+use Rattle.graphics.specs.Graphics.{origin, unset, noAperture, noRegion, withFormat, withPoint, withAperture, withMode, withQuadrants, withTransform, withRegion}
+use Rattle.graphics.specs.Graphics as graphics-Graphics
+use Rattle.graphics.specs.Orientation.{angleOf, angleAfter, orientation}
+use Rattle.changes.specs.After.{along, target, goingTo, emptyRegion, startsContour, drawing, ended, withDigits, withUnit, withClear, withMirror, withRotation, withScale, after}
+use Rattle.fits.specs.Fits.{isMissing, unready, placeless, brushless, circular, hasOffset, arcless, drawMisfits, flashMisfits, centreOf, badCentre, unclosed, askew, tooTall}
+use Rattle.fits.specs.Fits as fits-Fits
+use Rattle.drawing.specs.Counts.{counted, tooMany}
+use Rattle.drawing.specs.Faults.{drawItems, drawFault, moveFault, flashItems, flashFault, regionEndFault}
+use Rattle.rules.specs.Bounds.{isAbove, isCount, isStep, isRepeat}
+use Rattle.rules.specs.Rules.{regionFault, formatFault, unitFault, scaleFault, selectFault, apertureFault, macroFault, blockStartFault, closingFault, repeatStartFault, fileAttributeFault, endFault}
+use Rattle.marks.specs.Items.{arcCentre, drawn, edge, contour, flashed, pose}
+use Rattle.marks.specs.Marks.{drawMarks, flashMarks, marksOf}
+use Rattle.marks.specs.Marks as marks-Marks
+use Rattle.templates.specs.Templates.{withHole, rectangle, plainCircle}
+use Rattle.templates.specs.Templates as templates-Templates
+use Rattle.reading.specs.Apertures.{apertureWith, isOpen, isAmong, namesOf, blocksOf, isStandard, valuesOf, outcomeOf, defined, closing}
+use Rattle.reading.specs.Apertures as reading-Apertures
+use Rattle.reading.specs.Levels.{raised, withItems, inBlock, inRepeat}
+use Rattle.reading.specs.Reading.{readOn}
+use Rattle.reading.specs.Reading as reading-Reading
+use Rattle.reading.specs.State.{outermost, begun}
+use Rattle.reading.specs.Steps.{passed, withGraphics, withLevel, withOpened, withApertures, withMacros, withNames, withNumbers, drawStep, flashHeight, flashStep, selectStep, apertureStep, macroStep, blockStartStep, repeatStartStep, blockEnds, repeatEnds, blockEndStep, repeatEndStep, fileAttributeStep, stepOf}
+use Rattle.place.specs.Mark.{edges, withCount, itemsOf, put, closed, marked, written}
+use Rattle.place.specs.Mark as place-Mark
+use Rattle.place.specs.Copies.{step, copies}
+use Rattle.place.specs.Placing.{placed, moved, movedIf, turnedAngle, swapped}
+use Rattle.place.specs.Item.{hasStart, hasEnd, isArc, isOriented}
+use Rattle.worked.specs.Questions.{listing, answer, listed, ample}
+use Rattle.worked.specs.Table.{prints, said, strip, item, output}
+
+pub listing-whole : answer (listing strip) ≡ said (prints output)
+unfolding answer said listed ample strip item output xor run
+    _and_
+    sameBytes
+    _or_
+    signed isNeg
+    samePoint shift flipped
+    points-Points.turned
+    wholeOf coordinateOf
+    isDigit allDigits isNumber valueOf
+    naturalOf
+    hasMinus afterSign
+    dropLeadingZeros before dropTrailingZeros
+    isDecimal inMillionths amountOf numeralOf decimalOf
+    beforePoint afterPoint
+    firstIn beforeByte afterByte
+    letter nameStart nameByte nameBytes isName
+    among
+    fits printable breaksAfter mayBreak permitted badIn
+    textFrom endOf commandFrom commandAt nextCommand
+    scan-Scan.kindOf
+    tailOf
+    pick
+    judged inRange anySize sizedAs
+    digitLimit inCoordinate fieldEnd given missing fieldOf past fieldsIn fieldsOf
+    broken tooLong alone axisOf draw drawOf moveOf flashOf
+    operations-Operations.offsetOf operations-Operations.plain
+    commentOf selectOf wordOf
+    words-Words.codeOf
+    formatOf unitOf
+    repeats repeatStart
+    settings-Repeats.repeatOf
+    rotationOf scaleOf mirrorOf transformationOf
+    blockStart
+    apertures-Blocks.blockOf
+    definition apertureOf
+    texts more gathered parametersOf
+    apertures-Parameters.onto apertures-Parameters.parted
+    pieces
+    tokens-Pieces.onto tokens-Pieces.parted
+    oneBlock dataOf extendedOf commandOf
+    commandsFrom commandsOf
+    leadOf
+    led turnOf tailFault
+    commands-Turns.turned
+    none added asked
+    origin unset noAperture noRegion withFormat withPoint withAperture withMode withQuadrants withTransform withRegion
+    graphics-Graphics.start
+    angleOf angleAfter orientation
+    along target goingTo emptyRegion startsContour drawing ended withDigits withUnit withClear withMirror withRotation withScale after
+    isMissing unready placeless brushless circular hasOffset arcless drawMisfits flashMisfits centreOf badCentre unclosed askew tooTall
+    fits-Fits.offsetOf
+    counted tooMany
+    drawItems drawFault moveFault flashItems flashFault regionEndFault
+    isAbove isCount isStep isRepeat
+    regionFault formatFault unitFault scaleFault selectFault apertureFault macroFault blockStartFault closingFault repeatStartFault fileAttributeFault endFault
+    arcCentre drawn edge contour flashed pose
+    drawMarks flashMarks marksOf
+    marks-Marks.repeatOf
+    withHole rectangle plainCircle
+    templates-Templates.circle templates-Templates.polygon templates-Templates.kindOf templates-Templates.keeps
+    apertureWith isOpen isAmong namesOf blocksOf isStandard valuesOf outcomeOf defined closing
+    reading-Apertures.blockOf
+    raised withItems inBlock inRepeat
+    readOn
+    reading-Reading.reading
+    outermost begun
+    passed withGraphics withLevel withOpened withApertures withMacros withNames withNumbers drawStep flashHeight flashStep selectStep apertureStep macroStep blockStartStep repeatStartStep blockEnds repeatEnds blockEndStep repeatEndStep fileAttributeStep stepOf
+    edges withCount itemsOf put closed marked written
+    place-Mark.plain
+    step copies
+    placed moved movedIf turnedAngle swapped
+    hasStart hasEnd isArc isOriented
+listing-whole = refl
