@@ -1,6 +1,6 @@
 -- `changes::after` meets its contract: each case is a line of `after`.
 use Rattle.changes.specs.After.{after}
-use mathlib.Core.Path.{refl}
+use mathlib.Core.Path.{sym, ap, _∙_}
 use borrow.Author.Needs.{needs}
 use Rattle.changes.proofs.after.Statement.{statement}
 use Rattle.changes.proofs.after.Tie as tie
@@ -169,135 +169,135 @@ enum-told-17 c = search needs
 
 returns : tie.Need-returns
 unfolding after
-returns c = rw (c .before .before .c .given .1) (c .set-digits .ensures)
+returns c = c .set-digits .ensures ∙ sym (ap (λ x. after x (c .before .before .before .before .args .g)) (c .before .before .c .given .1))
 
 returns-2 : tie.Need-returns-2
 unfolding after
-returns-2 c = rw (c .before .enum-told .given .1) (c .set-unit .ensures)
+returns-2 c = c .set-unit .ensures ∙ sym (ap (λ x. after x (c .before .before .before .args .g)) (c .before .enum-told .given .1))
 
 returns-3 : tie.Need-returns-3
 unfolding after
-returns-3 c = rw (c .before .enum-told2 .given .1) (c .set-unit2 .ensures)
+returns-3 c = c .set-unit2 .ensures ∙ sym (ap (λ x. after x (c .before .before .before .args .g)) (c .before .enum-told2 .given .1))
 
 returns-4 : tie.Need-returns-4
 unfolding after
-returns-4 c = rw (c .before .enum-told3 .given .1) (c .with-mode .ensures)
+returns-4 c = c .with-mode .ensures ∙ sym (ap (λ x. after x (c .before .before .before .args .g)) (c .before .enum-told3 .given .1))
 
 returns-5 : tie.Need-returns-5
 unfolding after
-returns-5 c = rw (c .before .enum-told4 .given .1) (c .with-mode2 .ensures)
+returns-5 c = c .with-mode2 .ensures ∙ sym (ap (λ x. after x (c .before .before .before .args .g)) (c .before .enum-told4 .given .1))
 
 returns-6 : tie.Need-returns-6
 unfolding after
-returns-6 c = rw (c .before .enum-told5 .given .1) (c .with-mode3 .ensures)
+returns-6 c = c .with-mode3 .ensures ∙ sym (ap (λ x. after x (c .before .before .before .args .g)) (c .before .enum-told5 .given .1))
 
 returns-7 : tie.Need-returns-7
 unfolding after
-returns-7 c = rw (c .before .enum-told6 .given .1) (c .with-quadrants .ensures)
+returns-7 c = c .with-quadrants .ensures ∙ sym (ap (λ x. after x (c .before .before .before .args .g)) (c .before .enum-told6 .given .1))
 
 returns-8 : tie.Need-returns-8
 unfolding after
-returns-8 c = rw (c .before .enum-told7 .given .1) (c .set-clear .ensures)
+returns-8 c = c .set-clear .ensures ∙ sym (ap (λ x. after x (c .before .before .before .args .g)) (c .before .enum-told7 .given .1))
 
 returns-9 : tie.Need-returns-9
 unfolding after
-returns-9 c = rw (c .before .enum-told8 .given .1) (c .set-clear2 .ensures)
+returns-9 c = c .set-clear2 .ensures ∙ sym (ap (λ x. after x (c .before .before .before .args .g)) (c .before .enum-told8 .given .1))
 
 returns-10 : tie.Need-returns-10
 unfolding after
-returns-10 c = rw (c .before .before .c2 .given .1) (c .set-mirror .ensures)
+returns-10 c = c .set-mirror .ensures ∙ sym (ap (λ x. after x (c .before .before .before .before .args .g)) (c .before .before .c2 .given .1))
 
 returns-11 : tie.Need-returns-11
 unfolding after
-returns-11 c = rw (c .before .before .c3 .given .1) (c .set-rotation .ensures)
+returns-11 c = c .set-rotation .ensures ∙ sym (ap (λ x. after x (c .before .before .before .before .args .g)) (c .before .before .c3 .given .1))
 
 returns-12 : tie.Need-returns-12
 unfolding after
-returns-12 c = rw (c .before .before .c4 .given .1) (c .set-scale .ensures)
+returns-12 c = c .set-scale .ensures ∙ sym (ap (λ x. after x (c .before .before .before .before .args .g)) (c .before .before .c4 .given .1))
 
 returns-13 : tie.Need-returns-13
 unfolding after
-returns-13 c = rw (c .before .enum-told9 .given .1) (c .begin-region .ensures)
+returns-13 c = c .begin-region .ensures ∙ sym (ap (λ x. after x (c .before .before .before .args .g)) (c .before .enum-told9 .given .1))
 
 returns-14 : tie.Need-returns-14
 unfolding after
-returns-14 c = rw (c .before .enum-told10 .given .1) (c .end-region .ensures)
+returns-14 c = c .end-region .ensures ∙ sym (ap (λ x. after x (c .before .before .before .args .g)) (c .before .enum-told10 .given .1))
 
 returns-15 : tie.Need-returns-15
 unfolding after
-returns-15 c = rw (c .before .before .c5 .given .1) (c .drawn .ensures)
+returns-15 c = c .drawn .ensures ∙ sym (ap (λ x. after x (c .before .before .before .before .args .g)) (c .before .before .c5 .given .1))
 
 returns-16 : tie.Need-returns-16
 unfolding after
-returns-16 c = rw (c .before .before .c6 .given .1) (c .moved .ensures)
+returns-16 c = c .moved .ensures ∙ sym (ap (λ x. after x (c .before .before .before .before .args .g)) (c .before .before .c6 .given .1))
 
 returns-17 : tie.Need-returns-17
 unfolding after
-returns-17 c = rw (c .before .before .c7 .given .1) (c .flashed .ensures)
+returns-17 c = c .flashed .ensures ∙ sym (ap (λ x. after x (c .before .before .before .before .args .g)) (c .before .before .c7 .given .1))
 
 returns-18 : tie.Need-returns-18
 unfolding after
-returns-18 c = rw (c .before .before .c8 .given .1) (c .unplaced .ensures)
+returns-18 c = c .unplaced .ensures ∙ sym (ap (λ x. after x (c .before .before .before .before .args .g)) (c .before .before .c8 .given .1))
 
 returns-19 : tie.Need-returns-19
 unfolding after
-returns-19 c = rw (c .before .enum-told11 .given .1) (c .unplaced2 .ensures)
+returns-19 c = c .unplaced2 .ensures ∙ sym (ap (λ x. after x (c .before .before .before .args .g)) (c .before .enum-told11 .given .1))
 
 returns-20 : tie.Need-returns-20
 unfolding after
-returns-20 c = rw (c .before .before .c9 .given .1) (c .unplaced3 .ensures)
+returns-20 c = c .unplaced3 .ensures ∙ sym (ap (λ x. after x (c .before .before .before .before .args .g)) (c .before .before .c9 .given .1))
 
 returns-21 : tie.Need-returns-21
 unfolding after
-returns-21 c = rw (c .before .enum-told12 .given .1) (c .unplaced4 .ensures)
+returns-21 c = c .unplaced4 .ensures ∙ sym (ap (λ x. after x (c .before .before .before .args .g)) (c .before .enum-told12 .given .1))
 
 returns-22 : tie.Need-returns-22
 unfolding after
-returns-22 c = rw (c .enum-told13 .given .1) refl
+returns-22 c = sym (ap (λ x. after x (c .before .before .args .g)) (c .enum-told13 .given .1))
 
 returns-23 : tie.Need-returns-23
 unfolding after
-returns-23 c = rw (c .enum-told14 .given .1) refl
+returns-23 c = sym (ap (λ x. after x (c .before .before .args .g)) (c .enum-told14 .given .1))
 
 returns-24 : tie.Need-returns-24
 unfolding after
-returns-24 c = rw (c .enum-told15 .given .1) refl
+returns-24 c = sym (ap (λ x. after x (c .before .before .args .g)) (c .enum-told15 .given .1))
 
 returns-25 : tie.Need-returns-25
 unfolding after
-returns-25 c = rw (c .enum-told16 .given .1) refl
+returns-25 c = sym (ap (λ x. after x (c .before .before .args .g)) (c .enum-told16 .given .1))
 
 returns-26 : tie.Need-returns-26
 unfolding after
-returns-26 c = rw (c .before .c10 .given .1) refl
+returns-26 c = sym (ap (λ x. after x (c .before .before .before .args .g)) (c .before .c10 .given .1))
 
 returns-27 : tie.Need-returns-27
 unfolding after
-returns-27 c = rw (c .before .c11 .given .1) refl
+returns-27 c = sym (ap (λ x. after x (c .before .before .before .args .g)) (c .before .c11 .given .1))
 
 returns-28 : tie.Need-returns-28
 unfolding after
-returns-28 c = rw (c .before .c12 .given .1) refl
+returns-28 c = sym (ap (λ x. after x (c .before .before .before .args .g)) (c .before .c12 .given .1))
 
 returns-29 : tie.Need-returns-29
 unfolding after
-returns-29 c = rw (c .before .c13 .given .1) refl
+returns-29 c = sym (ap (λ x. after x (c .before .before .before .args .g)) (c .before .c13 .given .1))
 
 returns-30 : tie.Need-returns-30
 unfolding after
-returns-30 c = rw (c .before .c14 .given .1) refl
+returns-30 c = sym (ap (λ x. after x (c .before .before .before .args .g)) (c .before .c14 .given .1))
 
 returns-31 : tie.Need-returns-31
 unfolding after
-returns-31 c = rw (c .before .c15 .given .1) refl
+returns-31 c = sym (ap (λ x. after x (c .before .before .before .args .g)) (c .before .c15 .given .1))
 
 returns-32 : tie.Need-returns-32
 unfolding after
-returns-32 c = rw (c .before .c16 .given .1) refl
+returns-32 c = sym (ap (λ x. after x (c .before .before .before .args .g)) (c .before .c16 .given .1))
 
 returns-33 : tie.Need-returns-33
 unfolding after
-returns-33 c = rw (c .enum-told17 .given .1) refl
+returns-33 c = sym (ap (λ x. after x (c .before .before .args .g)) (c .enum-told17 .given .1))
 
 pub after-spec : {M : Type 1} → statement M
 after-spec =
