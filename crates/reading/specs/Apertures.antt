@@ -1,12 +1,11 @@
 -- Apertures and macros found, and what an AD comes to (01, Form and Macros; decisions 77 to 80).
 use Prim.Native.Nat.{ℕ}
 use Prim.Native.Char.{code}
-use mathlib.Core.Bool.{Bool, true, false, cond, not}
+use mathlib.Core.Bool.{Bool, true, false, cond}
 use mathlib.Core.List.{List, [], _∷_, map}
 use lib.Dec.{eqb, leb}
 use lib.IntN.{ℤ}
 use lib.ListN.{length}
-use Rattle.base.specs.And.{_and_}
 use Rattle.base.specs.Or.{_or_}
 use Rattle.base.specs.Bytes.{sameBytes}
 use Rattle.command.specs.Numbers.{sizeOf}

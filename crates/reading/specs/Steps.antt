@@ -1,10 +1,10 @@
 -- What each command does: its fault by the tables of the rules, 0 for none, and the state behind it (01, State).
-use Prim.Native.Nat.{ℕ, zero, suc, _+_, _-_, _*_}
-use mathlib.Core.Bool.{Bool, true, false, cond, not}
+use Prim.Native.Nat.{ℕ, _+_, _-_, _*_}
+use mathlib.Core.Bool.{Bool, cond, not}
 use mathlib.Core.List.{List, [], _∷_, _++_}
 use lib.Dec.{eqb, leb, ltb}
 use lib.IntN.{ℤ}
-use lib.ListN.{length, drop}
+use lib.ListN.{length}
 use lib.Seq.{slice}
 use Rattle.base.specs.And.{_and_}
 use Rattle.base.specs.Or.{_or_}
@@ -14,7 +14,6 @@ use Rattle.command.specs.declared.Axis.{Axis}
 use Rattle.command.specs.declared.Offset.{Offset}
 use Rattle.command.specs.declared.Command.{Command}
 use Rattle.command.specs.declared.Command.the-variants as command
-use Rattle.place.specs.Mark.{Mark}
 use Rattle.graphics.specs.Graphics.{withAperture}
 use Rattle.graphics.specs.declared.Graphics.{Graphics}
 use Rattle.graphics.specs.declared.Selected.{Selected}

@@ -1,0 +1,59 @@
+-- Small files that are refused, by computation: each rule has its number and its place (01, Numbers the reader answers, and "Run only").
+-- Assumes nothing.
+use mathlib.Core.Path.{_≡_, refl}
+use mathlib.Core.List.{[], _∷_, map}
+use Rattle.base.specs.And.{_and_}
+use Rattle.base.specs.Or.{_or_}
+use Rattle.text.specs.Text.{text}
+use Rattle.reading.specs.State.{Room}
+use Rattle.reading.specs.Reading.{refused}
+use Rattle.base.specs.Bytes.{sameBytes}
+use Rattle.ints.specs.Ints.{signed, isNeg}
+use Rattle.digits.specs.Digits.{isDigit, allDigits, isNumber, valueOf}
+use Rattle.digits.specs.Natural.{naturalOf}
+use Rattle.digits.specs.Sign.{hasMinus, afterSign}
+use Rattle.digits.specs.Zeros.{dropLeadingZeros, before, dropTrailingZeros}
+use Rattle.text.specs.First.{firstIn, beforeByte, afterByte}
+use Rattle.text.specs.Name.{letter, nameStart, nameByte, nameBytes, isName}
+use Rattle.text.specs.Text.{among}
+use Rattle.scan.specs.Permitted.{fits, printable, breaksAfter, mayBreak, permitted, badIn}
+use Rattle.scan.specs.Scan.{textFrom, endOf, commandFrom, commandAt, nextCommand}
+use Rattle.scan.specs.Scan as scan-Scan
+use Rattle.scan.specs.Tail.{tailOf}
+use Rattle.command.specs.Choose.{pick}
+use Rattle.command.specs.Numbers.{judged, inRange, anySize, sizedAs}
+use Rattle.words.specs.Words.{commentOf, selectOf, wordOf}
+use Rattle.words.specs.Words as words-Words
+use Rattle.settings.specs.Header.{formatOf, unitOf}
+use Rattle.recognise.specs.Commands.{oneBlock, dataOf, extendedOf, commandOf}
+use Rattle.commands.specs.Commands.{commandsFrom, commandsOf}
+use Rattle.commands.specs.Leads.{leadOf}
+use Rattle.commands.specs.Turns.{led, turnOf, tailFault}
+use Rattle.commands.specs.Turns as commands-Turns
+use Rattle.graphics.specs.Graphics.{origin, unset, noAperture, noRegion, withFormat, withPoint, withAperture, withMode, withQuadrants, withTransform, withRegion}
+use Rattle.graphics.specs.Graphics as graphics-Graphics
+use Rattle.graphics.specs.Orientation.{angleOf, angleAfter, orientation}
+use Rattle.changes.specs.After.{along, target, goingTo, emptyRegion, startsContour, drawing, ended, withDigits, withUnit, withClear, withMirror, withRotation, withScale, after}
+use Rattle.fits.specs.Fits.{isMissing, unready, placeless, brushless, circular, hasOffset, arcless, drawMisfits, flashMisfits, centreOf, badCentre, unclosed, askew, tooTall}
+use Rattle.fits.specs.Fits as fits-Fits
+use Rattle.drawing.specs.Faults.{drawItems, drawFault, moveFault, flashItems, flashFault, regionEndFault}
+use Rattle.rules.specs.Bounds.{isAbove, isCount, isStep, isRepeat}
+use Rattle.rules.specs.Rules.{regionFault, formatFault, unitFault, scaleFault, selectFault, apertureFault, macroFault, blockStartFault, closingFault, repeatStartFault, fileAttributeFault, endFault}
+use Rattle.marks.specs.Marks.{drawMarks, flashMarks, marksOf}
+use Rattle.marks.specs.Marks as marks-Marks
+use Rattle.reading.specs.Apertures.{apertureWith, isOpen, isAmong, namesOf, blocksOf, isStandard, valuesOf, outcomeOf, defined, closing}
+use Rattle.reading.specs.Apertures as reading-Apertures
+use Rattle.reading.specs.Reading.{readOn}
+use Rattle.reading.specs.Reading as reading-Reading
+use Rattle.reading.specs.State.{outermost, begun}
+use Rattle.reading.specs.Steps.{passed, withGraphics, withLevel, withOpened, withApertures, withMacros, withNames, withNumbers, drawStep, flashHeight, flashStep, selectStep, apertureStep, macroStep, blockStartStep, repeatStartStep, blockEnds, repeatEnds, blockEndStep, repeatEndStep, fileAttributeStep, stepOf}
+
+unfoldable pub room : Room
+room = record { entries = 1; apertures = 1; macros = 1; numbers = 1 }
+
+pub refusals :
+    map (λ s. reading-Reading.reading room (text s))
+    ("" ∷ "D9*M02*" ∷ "M02*" ∷ "D10*M02*" ∷ "%FSLAX26Y26*%%MOMM*%G36*M02*" ∷ "%FSLAX26Y26*%%MOMM*%M02*A" ∷ [])
+    ≡ refused 3 0 ∷ refused 4 0 ∷ refused 6 0 ∷ refused 8 0 ∷ refused 7 24 ∷ refused 18 24 ∷ []
+unfolding room _and_ sameBytes _or_ signed isNeg isDigit allDigits isNumber valueOf naturalOf hasMinus afterSign dropLeadingZeros before dropTrailingZeros firstIn beforeByte afterByte letter nameStart nameByte nameBytes isName among fits printable breaksAfter mayBreak permitted badIn textFrom endOf commandFrom commandAt nextCommand tailOf pick judged inRange anySize sizedAs commentOf selectOf wordOf formatOf unitOf oneBlock dataOf extendedOf commandOf commandsFrom commandsOf leadOf led turnOf tailFault origin unset noAperture noRegion withFormat withPoint withAperture withMode withQuadrants withTransform withRegion angleOf angleAfter orientation along target goingTo emptyRegion startsContour drawing ended withDigits withUnit withClear withMirror withRotation withScale after isMissing unready placeless brushless circular hasOffset arcless drawMisfits flashMisfits centreOf badCentre unclosed askew tooTall drawItems drawFault moveFault flashItems flashFault regionEndFault isAbove isCount isStep isRepeat regionFault formatFault unitFault scaleFault selectFault apertureFault macroFault blockStartFault closingFault repeatStartFault fileAttributeFault endFault drawMarks flashMarks marksOf apertureWith isOpen isAmong namesOf blocksOf isStandard valuesOf outcomeOf defined closing readOn outermost begun passed withGraphics withLevel withOpened withApertures withMacros withNames withNumbers drawStep flashHeight flashStep selectStep apertureStep macroStep blockStartStep repeatStartStep blockEnds repeatEnds blockEndStep repeatEndStep fileAttributeStep stepOf scan-Scan.kindOf words-Words.codeOf commands-Turns.turned graphics-Graphics.start fits-Fits.offsetOf marks-Marks.repeatOf reading-Apertures.blockOf reading-Reading.reading
+refusals = refl
