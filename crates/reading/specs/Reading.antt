@@ -8,20 +8,24 @@ use Rattle.commands.specs.Commands.{commandsOf}
 use Rattle.commands.specs.declared.Placed.{Placed}
 use Rattle.commands.specs.declared.Refusal.{Refusal}
 use Rattle.reading.specs.State.{Room, State, begun}
-use Rattle.reading.specs.Steps.{stepOf}
+use Rattle.reading.specs.Steps.{Step, stepOf}
 
 -- a sheet, by what reading knows at M02; or a refusal by number, with the byte where it stands
 pub data Answer : Type 0 where
   accepted : State → Answer
   refused : ℕ → ℕ → Answer
 
+-- what a command of the file does
+abbrev pub stepAt : Room → List ℕ → Placed → State → Step
+stepAt room file c s = stepOf room (slice (c .from) (c .end) file) (c .place) (c .command) s
+
 -- the commands from here on, and the fault of the bytes behind the last of them, 0 for none
 unfoldable pub readOn : Room → List ℕ → List Placed → Refusal → State → Answer
 readOn room file [] f s = elim (eqb (f .number) 0) [ true ↦ accepted s | false ↦ refused (f .number) (f .place) ]
 readOn room file (c ∷ cs) f s =
-    elim (eqb (stepOf room (slice (c .from) (c .end) file) (c .place) (c .command) s .fault) 0) [
-      | true ↦ readOn room file cs f (stepOf room (slice (c .from) (c .end) file) (c .place) (c .command) s .next)
-      | false ↦ refused (stepOf room (slice (c .from) (c .end) file) (c .place) (c .command) s .fault) (c .place)
+    elim (eqb (stepAt room file c s .fault) 0) [
+      | true ↦ readOn room file cs f (stepAt room file c s .next)
+      | false ↦ refused (stepAt room file c s .fault) (c .place)
     ]
 
 unfoldable pub reading : Room → List ℕ → Answer
