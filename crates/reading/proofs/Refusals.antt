@@ -41,7 +41,7 @@ use Rattle.rules.specs.Bounds.{isAbove, isCount, isStep, isRepeat}
 use Rattle.rules.specs.Rules.{regionFault, formatFault, unitFault, scaleFault, selectFault, apertureFault, macroFault, blockStartFault, closingFault, repeatStartFault, fileAttributeFault, endFault}
 use Rattle.marks.specs.Marks.{drawMarks, flashMarks, marksOf}
 use Rattle.marks.specs.Marks as marks-Marks
-use Rattle.reading.specs.Apertures.{apertureWith, isOpen, isAmong, namesOf, blocksOf, isStandard, valuesOf, outcomeOf, defined, closing}
+use Rattle.reading.specs.Apertures.{isTaken, selected, apertureFrom, apertureWith, isAmong, namesOf, blocksOf, isStandard, valuesOf, outcomeOf, defined, opening, closing}
 use Rattle.reading.specs.Apertures as reading-Apertures
 use Rattle.reading.specs.Reading.{readOn}
 use Rattle.reading.specs.Reading as reading-Reading
@@ -55,5 +55,5 @@ pub refusals :
     map (λ s. reading-Reading.reading room (text s))
     ("" ∷ "D9*M02*" ∷ "M02*" ∷ "D10*M02*" ∷ "%FSLAX26Y26*%%MOMM*%G36*M02*" ∷ "%FSLAX26Y26*%%MOMM*%M02*A" ∷ [])
     ≡ refused 3 0 ∷ refused 4 0 ∷ refused 6 0 ∷ refused 8 0 ∷ refused 7 24 ∷ refused 18 24 ∷ []
-unfolding room _and_ sameBytes _or_ signed isNeg isDigit allDigits isNumber valueOf naturalOf hasMinus afterSign dropLeadingZeros before dropTrailingZeros firstIn beforeByte afterByte letter nameStart nameByte nameBytes isName among fits printable breaksAfter mayBreak permitted badIn textFrom endOf commandFrom commandAt nextCommand tailOf pick judged inRange anySize sizedAs commentOf selectOf wordOf formatOf unitOf oneBlock dataOf extendedOf commandOf commandsFrom commandsOf leadOf led turnOf tailFault origin unset noAperture noRegion withFormat withPoint withAperture withMode withQuadrants withTransform withRegion angleOf angleAfter orientation along target goingTo emptyRegion startsContour drawing ended withDigits withUnit withClear withMirror withRotation withScale after isMissing unready placeless brushless circular hasOffset arcless drawMisfits flashMisfits centreOf badCentre unclosed askew tooTall drawItems drawFault moveFault flashItems flashFault regionEndFault isAbove isCount isStep isRepeat regionFault formatFault unitFault scaleFault selectFault apertureFault macroFault blockStartFault closingFault repeatStartFault fileAttributeFault endFault drawMarks flashMarks marksOf apertureWith isOpen isAmong namesOf blocksOf isStandard valuesOf outcomeOf defined closing readOn outermost begun passed withGraphics withLevel withOpened withApertures withMacros withNames withNumbers drawStep flashHeight flashStep selectStep apertureStep macroStep blockStartStep repeatStartStep blockEnds repeatEnds blockEndStep repeatEndStep fileAttributeStep stepOf scan-Scan.kindOf words-Words.codeOf commands-Turns.turned graphics-Graphics.start fits-Fits.offsetOf marks-Marks.repeatOf reading-Apertures.blockOf reading-Reading.reading
+unfolding room _and_ sameBytes _or_ signed isNeg isDigit allDigits isNumber valueOf naturalOf hasMinus afterSign dropLeadingZeros before dropTrailingZeros firstIn beforeByte afterByte letter nameStart nameByte nameBytes isName among fits printable breaksAfter mayBreak permitted badIn textFrom endOf commandFrom commandAt nextCommand tailOf pick judged inRange anySize sizedAs commentOf selectOf wordOf formatOf unitOf oneBlock dataOf extendedOf commandOf commandsFrom commandsOf leadOf led turnOf tailFault origin unset noAperture noRegion withFormat withPoint withAperture withMode withQuadrants withTransform withRegion angleOf angleAfter orientation along target goingTo emptyRegion startsContour drawing ended withDigits withUnit withClear withMirror withRotation withScale after isMissing unready placeless brushless circular hasOffset arcless drawMisfits flashMisfits centreOf badCentre unclosed askew tooTall drawItems drawFault moveFault flashItems flashFault regionEndFault isAbove isCount isStep isRepeat regionFault formatFault unitFault scaleFault selectFault apertureFault macroFault blockStartFault closingFault repeatStartFault fileAttributeFault endFault drawMarks flashMarks marksOf isTaken selected apertureFrom apertureWith isAmong namesOf blocksOf isStandard valuesOf outcomeOf defined opening closing readOn outermost begun passed withGraphics withLevel withOpened withApertures withMacros withNames withNumbers drawStep flashHeight flashStep selectStep apertureStep macroStep blockStartStep repeatStartStep blockEnds repeatEnds blockEndStep repeatEndStep fileAttributeStep stepOf scan-Scan.kindOf words-Words.codeOf commands-Turns.turned graphics-Graphics.start fits-Fits.offsetOf marks-Marks.repeatOf reading-Apertures.blockOf reading-Reading.reading
 refusals = refl

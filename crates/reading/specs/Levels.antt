@@ -1,19 +1,23 @@
 -- What stands open, and what it counts (01, State: "Block height is 1, or one more than the tallest block flashed in it"; decision 99).
 use Prim.Native.Nat.{ℕ, _+_, _*_}
 use mathlib.Core.Bool.{cond}
-use lib.Dec.{ltb}
+use lib.Dec.{eqb, ltb}
 use Rattle.fits.specs.Level.{block, repeat}
 use Rattle.fits.specs.declared.Level.{Level}
 
--- with so many items more, and a height of h at least
-unfoldable pub raised : ℕ → ℕ → ℕ
-raised h k = cond (ltb h k) k h
+-- the higher of two; what is open but no block has no height
+unfoldable pub higher : ℕ → ℕ → ℕ
+higher h k = cond (ltb h k) k h
 
+unfoldable pub raisedTo : ℕ → Level → ℕ
+raisedTo h l = cond (eqb (l .inside) block) (higher (l .height) h) (l .height)
+
+-- with so many items more, and as a block with a height of h at least
 unfoldable pub withItems : ℕ → ℕ → Level → Level
 withItems n h l = record {
   inside = l .inside;
   items = l .items + n;
-  height = raised (l .height) h;
+  height = raisedTo h l;
   depth = l .depth;
   copies = l .copies;
   sheet = l .sheet;

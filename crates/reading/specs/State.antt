@@ -5,7 +5,7 @@ use lib.IntN.{ℤ}
 use Rattle.place.specs.Mark.{Mark}
 use Rattle.graphics.specs.Graphics.{start}
 use Rattle.graphics.specs.declared.Graphics.{Graphics}
-use Rattle.graphics.specs.declared.Selected.{Selected}
+use Rattle.sheet.specs.declared.Aperture.{Aperture}
 use Rattle.fits.specs.Level.{topLevel}
 use Rattle.fits.specs.declared.Level.{Level}
 
@@ -21,17 +21,17 @@ pub record Template : Type 0 where
   pub name : List ℕ
   pub blocks : List ℕ
 
--- what AB or SR opened, by its number, 0 for a repeat, and the level around it
-pub record Opened : Type 0 where
-  pub number : ℕ
-  pub around : Level
+-- what AB, with its number, or SR opened, and the level around it
+pub data Opened : Type 0 where
+  block : ℕ → Level → Opened
+  repeat : Level → Opened
 
--- the apertures as Dn selects them, in the order of their records; the names that TF has set; the entries used, and the marks left
+-- the records of the apertures; the names that TF has set; the entries used, and the marks left
 pub record State : Type 0 where
   pub graphics : Graphics
   pub level : Level
   pub opened : List Opened
-  pub apertures : List Selected
+  pub apertures : List Aperture
   pub macros : List Template
   pub names : List (List ℕ)
   pub numbers : List ℤ

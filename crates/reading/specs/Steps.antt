@@ -6,7 +6,6 @@ use lib.Dec.{eqb, leb, ltb}
 use lib.IntN.{ℤ}
 use lib.ListN.{length}
 use lib.Seq.{slice}
-use Rattle.base.specs.And.{_and_}
 use Rattle.base.specs.Or.{_or_}
 use Rattle.decimal.specs.declared.answers.Amount.{Amount}
 use Rattle.command.specs.declared.Span.{Span}
@@ -17,6 +16,7 @@ use Rattle.command.specs.declared.Command.the-variants as command
 use Rattle.graphics.specs.Graphics.{withAperture}
 use Rattle.graphics.specs.declared.Graphics.{Graphics}
 use Rattle.graphics.specs.declared.Selected.{Selected}
+use Rattle.sheet.specs.declared.Aperture.{Aperture}
 use Rattle.changes.specs.After.{after}
 use Rattle.fits.specs.Level.{block, repeat}
 use Rattle.fits.specs.declared.Level.{Level}
@@ -37,17 +37,18 @@ use Rattle.rules.specs.Rules.{
   endFault,
 }
 use Rattle.marks.specs.Marks.{marksOf}
+use Rattle.reading.specs.State as opened
 use Rattle.reading.specs.State.{Room, Template, Opened, State}
 use Rattle.reading.specs.Apertures.{
+  isTaken,
   apertureWith,
-  isOpen,
   isAmong,
   namesOf,
   isStandard,
   outcomeOf,
   Outcome,
   defined,
-  blockOf,
+  opening,
   closing,
 }
 use Rattle.reading.specs.Levels.{withItems, inBlock, inRepeat}
@@ -113,7 +114,7 @@ withOpened v s = record {
   marks = s .marks;
 }
 
-unfoldable pub withApertures : List Selected → State → State
+unfoldable pub withApertures : List Aperture → State → State
 withApertures v s = record {
   graphics = s .graphics;
   level = s .level;
@@ -191,7 +192,7 @@ flashStep room place x y s =
 unfoldable pub selectStep : ℕ → State → Step
 selectStep n s =
     let a : Selected = apertureWith n (s .apertures) in
-    does (selectFault (s .graphics) (a .set and not (isOpen n (s .opened)))) (withGraphics (withAperture a (s .graphics)) s)
+    does (selectFault (s .graphics) (a .set)) (withGraphics (withAperture a (s .graphics)) s)
 
 -- AD, its number, the name of its template and its parameters
 unfoldable pub apertureStep : Room → ℕ → List ℕ → List ℕ → State → Step
@@ -199,8 +200,8 @@ apertureStep room n name parameters s =
     let o : Outcome = outcomeOf name parameters (s .macros) in
     let unknown : Bool = not (isStandard name or isAmong name (namesOf (s .macros))) in
     let full : Bool = leb (room .apertures) (length (s .apertures)) or ltb (room .numbers - length (s .numbers)) (length (o .kept)) in
-    does (apertureFault (s .graphics) (apertureWith n (s .apertures) .set or unknown) (o .fault) full)
-    (withApertures (s .apertures ++ (defined n name parameters (s .apertures) ∷ [])) (withNumbers (s .numbers ++ o .kept) s))
+    does (apertureFault (s .graphics) (isTaken n (s .apertures) or unknown) (o .fault) full)
+    (withApertures (s .apertures ++ (defined n name (length (s .numbers)) (o .kept) ∷ [])) (withNumbers (s .numbers ++ o .kept) s))
 
 -- AM
 unfoldable pub macroStep : Room → List ℕ → List ℕ → Bool → State → Step
@@ -212,28 +213,30 @@ macroStep room name blocks deep s =
 unfoldable pub blockStartStep : Room → ℕ → ℕ → State → Step
 blockStartStep room place n s =
     let full : Bool = eqb (left room s) 0 or leb (room .apertures) (length (s .apertures)) in
-    does (blockStartFault (s .graphics) (s .level) (apertureWith n (s .apertures) .set) full)
+    does (blockStartFault (s .graphics) (s .level) (isTaken n (s .apertures)) full)
     (withLevel (inBlock (s .level))
-    (withOpened (record { number = n; around = s .level } ∷ s .opened)
-    (withApertures (s .apertures ++ (blockOf n (length (s .apertures)) 0 0 ∷ [])) (passed (command.BlockStart n) place 1 s))))
+    (withOpened (opened.block n (s .level) ∷ s .opened)
+    (withApertures (s .apertures ++ (opening n ∷ [])) (passed (command.BlockStart n) place 1 s))))
 
 -- SR, opening
 unfoldable pub repeatStartStep : Room → ℕ → ℕ → ℕ → Amount → Amount → State → Step
 repeatStartStep room place nx ny dx dy s =
     does (repeatStartFault (s .graphics) (s .level) (isRepeat nx ny dx dy) (eqb (left room s) 0))
     (withLevel (inRepeat nx ny (s .level))
-    (withOpened (record { number = 0; around = s .level } ∷ s .opened) (passed (command.RepeatStart nx ny dx dy) place 1 s)))
+    (withOpened (opened.repeat (s .level) ∷ s .opened) (passed (command.RepeatStart nx ny dx dy) place 1 s)))
 
 -- a block that closes is an aperture of so many items; the level around it has no more than before
 unfoldable pub blockEnds : List Opened → State → State
 blockEnds [] s = s
-blockEnds (o ∷ os) s =
-    withLevel (o .around) (withOpened os (withApertures (closing (o .number) (s .level .items) (s .level .height) (s .apertures)) s))
+blockEnds (opened.block n around ∷ os) s =
+    withLevel around (withOpened os (withApertures (closing n (s .level .items) (s .level .height) (s .apertures)) s))
+blockEnds (opened.repeat around ∷ os) s = s
 
 -- a repeat that closes leaves its copies
 unfoldable pub repeatEnds : List Opened → State → State
 repeatEnds [] s = s
-repeatEnds (o ∷ os) s = withLevel (withItems (s .level .copies * s .level .items) 0 (o .around)) (withOpened os s)
+repeatEnds (opened.block n around ∷ os) s = s
+repeatEnds (opened.repeat around ∷ os) s = withLevel (withItems (s .level .copies * s .level .items) 0 around) (withOpened os s)
 
 unfoldable pub blockEndStep : ℕ → State → Step
 blockEndStep place s = does (closingFault (s .graphics) (s .level) block) (blockEnds (s .opened) (passed command.BlockEnd place 0 s))

@@ -62,9 +62,9 @@ use Rattle.marks.specs.Marks.{drawMarks, flashMarks, marksOf}
 use Rattle.marks.specs.Marks as marks-Marks
 use Rattle.templates.specs.Templates.{withHole, rectangle, plainCircle}
 use Rattle.templates.specs.Templates as templates-Templates
-use Rattle.reading.specs.Apertures.{apertureWith, isOpen, isAmong, namesOf, blocksOf, isStandard, valuesOf, outcomeOf, defined, closing}
+use Rattle.reading.specs.Apertures.{isTaken, selected, apertureFrom, apertureWith, isAmong, namesOf, blocksOf, isStandard, valuesOf, outcomeOf, defined, opening, closing}
 use Rattle.reading.specs.Apertures as reading-Apertures
-use Rattle.reading.specs.Levels.{raised, withItems, inBlock, inRepeat}
+use Rattle.reading.specs.Levels.{higher, raisedTo, withItems, inBlock, inRepeat}
 use Rattle.reading.specs.Reading.{readOn}
 use Rattle.reading.specs.Reading as reading-Reading
 use Rattle.reading.specs.State.{outermost, begun}
@@ -138,9 +138,9 @@ unfolding answer said listed ample strip item output xor run
     marks-Marks.repeatOf
     withHole rectangle plainCircle
     templates-Templates.circle templates-Templates.polygon templates-Templates.kindOf templates-Templates.keeps
-    apertureWith isOpen isAmong namesOf blocksOf isStandard valuesOf outcomeOf defined closing
+    isTaken selected apertureFrom apertureWith isAmong namesOf blocksOf isStandard valuesOf outcomeOf defined opening closing
     reading-Apertures.blockOf
-    raised withItems inBlock inRepeat
+    higher raisedTo withItems inBlock inRepeat
     readOn
     reading-Reading.reading
     outermost begun
