@@ -1,0 +1,10 @@
+pub mod Target
+pub mod Tables
+pub mod Numbers
+pub mod Operations
+pub mod Words
+pub mod Settings
+pub mod Apertures
+pub mod Attributes
+pub mod Macros
+pub mod Bounds
