@@ -1,0 +1,6 @@
+pub mod Lent
+pub mod Levels
+pub mod Tables
+pub mod Around
+pub mod Contour
+pub mod Knows
