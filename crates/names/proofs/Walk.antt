@@ -1,0 +1,143 @@
+-- The look over a file's commands: each turn leads past where it began, a name lies in the file, and what is listed from there on follows.
+-- Assumes nothing.
+use Prim.Native.Nat.{ℕ, zero, suc, _+_, _-_, _<_, _≤_}
+use mathlib.Core.Path.{_≡_, refl, sym, ap, _∙_}
+use mathlib.Core.Bool.{Bool, true, false}
+use mathlib.Core.List.{List, [], _∷_}
+use native.Mathlib.Omega.{arith}
+use lib.ListN.{length}
+use lib.Seq.{slice, length-slice}
+use Rattle.base.specs.Bytes.{sameBytes}
+use Rattle.scan.specs.Scan.{nextCommand}
+use Rattle.scan.specs.declared.Kind.{Kind}
+use Rattle.scan.specs.declared.Scan.{Scan}
+use Rattle.scan.specs.declared.Scan.the-variants as scan
+use Rattle.scan.proofs.Within.{Within, next-within}
+use Rattle.command.specs.declared.Span.{Span}
+use Rattle.recognise.specs.Commands.{commandOf}
+use Rattle.reading.specs.Apertures.{isAmong}
+use Rattle.names.specs.Settings.{settingOf}
+use Rattle.names.specs.Twice.{seen, looked, lookAt, Named, namedFrom, namedIn, twiceFrom, twiceIn, firstFrom, firstIn}
+use Rattle.names.specs.declared.Look.{Look}
+use Rattle.names.specs.declared.Look.the-variants.{End, Other, Naming}
+use Rattle.names.specs.declared.Setting.{Setting}
+use Rattle.names.specs.declared.Setting.the-variants.{Nothing, Name}
+use Rattle.names.proofs.Inside.{Inside, NameInside, setting-inside}
+
+-- a turn from `at` on leads past it, in l bytes, and a name lies among them
+abbrev pub Onward : ℕ → ℕ → Look → Type 0
+Onward l at End = Unit
+Onward l at (Other next) = (at < next) × (next ≤ l)
+Onward l at (Naming place from to next) = (at ≤ place) × (place < next) × (next ≤ l) × (from ≤ to) × (to ≤ l)
+
+seen-onward : (l at place from end next : ℕ) (x : Setting) → at ≤ place → place ≤ from → from ≤ end → next ≡ end + 1 → next ≤ l → Inside (end - from) x
+    → Onward l at (seen place from next x)
+unfolding seen
+seen-onward l at place from end next Nothing h i j e k w = (omega arith, k)
+seen-onward l at place from end next (Name n) h i j e k (p, q) = (h, omega arith, k, omega arith, omega arith)
+
+looked-onward : (file : List ℕ) (at : ℕ) (s : Scan) → Within (length file) at s → Onward (length file) at (looked file s)
+unfolding looked
+looked-onward file at (scan.Command k place from end next) (h, i, j, e, m) =
+    let p : length (slice from end file) ≡ end - from = length-slice from end file (omega arith) in
+    seen-onward (length file) at place from end next _ h i j e m (rw p at (setting-inside 0 k (slice from end file) .inside))
+looked-onward file at (scan.BadByte place) w = tt
+looked-onward file at (scan.Ended place) w = tt
+
+pub look-onward : (file : List ℕ) (at : ℕ) → at ≤ length file → Onward (length file) at (lookAt file at)
+unfolding lookAt
+look-onward file at h = looked-onward file at (nextCommand file at) (next-within file at h)
+
+-- what the scanner found tells what is seen
+module _ (file : List ℕ) (at : ℕ) {k : Kind} {place from end next : ℕ} (e : nextCommand file at ≡ scan.Command k place from end next) where
+  pub look-other : settingOf (commandOf 0 k (slice from end file)) ≡ Nothing → Other next ≡ lookAt file at
+  unfolding lookAt looked seen
+  look-other q = sym (ap (looked file) e ∙ ap (seen place from next) q)
+
+  module _ {n : Span} (q : settingOf (commandOf 0 k (slice from end file)) ≡ Name n) where
+    pub look-naming : Naming place (from + n .from) (from + n .to) next ≡ lookAt file at
+    unfolding lookAt looked seen
+    look-naming = sym (ap (looked file) e ∙ ap (seen place from next) q)
+
+    pub naming-fits : at ≤ length file → (from + n .from ≤ from + n .to) × (from + n .to ≤ length file)
+    naming-fits h = let o = rw (← look-naming) at (look-onward file at h) in (o .3, o .4)
+
+-- the number of turns does not matter where it is enough for the bytes left
+enough : (file : List ℕ) (k j at : ℕ) → at ≤ length file → length file < k + at → length file < j + at → namedFrom k file at ≡ namedFrom j file at
+unfolding namedFrom
+enough file zero j at h p q = absurd (omega arith)
+enough file (suc k) zero at h p q = absurd (omega arith)
+enough file (suc k) (suc j) at h p q = go (λ next. enough file k j next) (lookAt file at) refl (look-onward file at h)
+  where
+    go : ((next : ℕ) → next ≤ length file → length file < k + next → length file < j + next → namedFrom k file next ≡ namedFrom j file next) →
+        (l : Look) → lookAt file at ≡ l → Onward (length file) at l → namedFrom (suc k) file at ≡ namedFrom (suc j) file at
+    go ih End e o = rw (e, namedFrom)
+    go ih (Other next) e (a, b) = rw (e, namedFrom, ih next b (omega arith) (omega arith))
+    go ih (Naming place from to next) e (a, b, c, d, f) = rw (e, namedFrom, ih next c (omega arith) (omega arith))
+
+module _ (file : List ℕ) (at : ℕ) where
+  named-end : lookAt file at ≡ End → namedIn file at ≡ []
+  unfolding namedFrom
+  named-end e = rw (e, namedFrom)
+
+  module _ (h : at ≤ length file) where
+    -- past a command that sets no name
+    module _ {next : ℕ} (e : lookAt file at ≡ Other next) where
+      pub other-onward : (at < next) × (next ≤ length file)
+      other-onward = rw e at (look-onward file at h)
+
+      named-other : namedIn file at ≡ namedIn file next
+      unfolding namedFrom
+      named-other = let o = other-onward in rw (e, namedFrom) (enough file (length file) (suc (length file)) next (o .1) (omega (arith, o .0)) (omega arith))
+
+    -- past a TF
+    module _ {place from to next : ℕ} (e : lookAt file at ≡ Naming place from to next) where
+      pub naming-onward : (at ≤ place) × (place < next) × (next ≤ length file) × (from ≤ to) × (to ≤ length file)
+      naming-onward = rw e at (look-onward file at h)
+
+      abbrev here : Named
+      here = record { place = place; name = slice from to file }
+
+      named-naming : namedIn file at ≡ here ∷ namedIn file next
+      unfolding namedFrom
+      named-naming =
+          let o = naming-onward in
+          rw (e, namedFrom) (ap (λ (ns : List Named). here ∷ ns) (enough file (length file) (suc (length file)) next (o .2) (omega (arith, o .0, o .1)) (omega arith)))
+
+-- where a name is set twice
+module _ (file : List ℕ) (at : ℕ) (names : List (List ℕ)) where
+  pub twice-end : lookAt file at ≡ End → twiceIn file at names ≡ length file
+  unfolding twiceFrom
+  twice-end e = ap (λ (ns : List Named). twiceFrom (length file) ns names) (named-end file at e)
+
+  module _ (h : at ≤ length file) where
+    pub twice-other : {next : ℕ} → lookAt file at ≡ Other next → twiceIn file at names ≡ twiceIn file next names
+    twice-other e = ap (λ (ns : List Named). twiceFrom (length file) ns names) (named-other file at h e)
+
+    module _ {place from to next : ℕ} (e : lookAt file at ≡ Naming place from to next) where
+      pub twice-again : isAmong (slice from to file) names ≡ true → twiceIn file at names ≡ place
+      unfolding twiceFrom
+      twice-again a = ap (λ (ns : List Named). twiceFrom (length file) ns names) (named-naming file at h e) ∙ rw (a, twiceFrom) refl
+
+      pub twice-new : isAmong (slice from to file) names ≡ false → twiceIn file at names ≡ twiceIn file next (slice from to file ∷ names)
+      unfolding twiceFrom
+      twice-new a = ap (λ (ns : List Named). twiceFrom (length file) ns names) (named-naming file at h e) ∙ rw (a, twiceFrom) refl
+
+-- where a name is first set
+module _ (file : List ℕ) (at : ℕ) (name : List ℕ) where
+  pub first-end : lookAt file at ≡ End → firstIn file at name ≡ length file
+  unfolding firstFrom
+  first-end e = ap (λ (ns : List Named). firstFrom (length file) ns name) (named-end file at e)
+
+  module _ (h : at ≤ length file) where
+    pub first-other : {next : ℕ} → lookAt file at ≡ Other next → firstIn file at name ≡ firstIn file next name
+    first-other e = ap (λ (ns : List Named). firstFrom (length file) ns name) (named-other file at h e)
+
+    module _ {place from to next : ℕ} (e : lookAt file at ≡ Naming place from to next) where
+      pub first-here : sameBytes (slice from to file) name ≡ true → firstIn file at name ≡ place
+      unfolding firstFrom
+      first-here a = ap (λ (ns : List Named). firstFrom (length file) ns name) (named-naming file at h e) ∙ rw (a, firstFrom) refl
+
+      pub first-on : sameBytes (slice from to file) name ≡ false → firstIn file at name ≡ firstIn file next name
+      unfolding firstFrom
+      first-on a = ap (λ (ns : List Named). firstFrom (length file) ns name) (named-naming file at h e) ∙ rw (a, firstFrom) refl

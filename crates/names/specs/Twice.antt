@@ -1,0 +1,76 @@
+-- Where a name of a file attribute is set twice (01, number 19), told by the file as it is cut into commands: what stands behind a fault
+-- or behind M02 is looked at too, and no reader comes there (decision 254).
+use Prim.Native.Nat.{ℕ, zero, suc, _+_}
+use mathlib.Core.Bool.{true, false}
+use mathlib.Core.List.{List, [], _∷_}
+use lib.ListN.{length}
+use lib.Seq.{slice}
+use Rattle.base.specs.Bytes.{sameBytes}
+use Rattle.scan.specs.Scan.{nextCommand}
+use Rattle.scan.specs.declared.Scan.{Scan}
+use Rattle.scan.specs.declared.Scan.the-variants as scan
+use Rattle.recognise.specs.Commands.{commandOf}
+use Rattle.reading.specs.Apertures.{isAmong}
+use Rattle.names.specs.Settings.{settingOf}
+use Rattle.names.specs.declared.Look.{Look}
+use Rattle.names.specs.declared.Look.the-variants.{End, Other, Naming}
+use Rattle.names.specs.declared.Setting.{Setting}
+use Rattle.names.specs.declared.Setting.the-variants.{Nothing, Name}
+
+-- the command at a place, its text from `from` on, that leads on to `next`: where in the file its name lies, if it sets one
+unfoldable pub seen : ℕ → ℕ → ℕ → Setting → Look
+seen place from next Nothing = Other next
+seen place from next (Name n) = Naming place (from + n .from) (from + n .to) next
+
+-- no TF depends on the n of FS, so that it is 0 here (proofs/Settings)
+unfoldable pub looked : List ℕ → Scan → Look
+looked file (scan.Command kind place from end next) = seen place from next (settingOf (commandOf 0 kind (slice from end file)))
+looked file (scan.BadByte place) = End
+looked file (scan.Ended place) = End
+
+-- what stands next from `at` on
+unfoldable pub lookAt : List ℕ → ℕ → Look
+lookAt file at = looked file (nextCommand file at)
+
+-- a TF: its place, and the name that it sets
+pub record Named : Type 0 where
+  pub place : ℕ
+  pub name : List ℕ
+
+-- every TF from `at` on, in at most k commands
+unfoldable pub namedFrom : ℕ → List ℕ → ℕ → List Named
+namedFrom zero file at = []
+namedFrom (suc k) file at =
+    elim (lookAt file at) [
+      | End ↦ []
+      | Other next ↦ namedFrom k file next
+      | Naming place from to next ↦ record { place = place; name = slice from to file } ∷ namedFrom k file next
+    ]
+
+-- each command takes a byte at least, and so a turn more than there are bytes is enough
+abbrev pub namedIn : List ℕ → ℕ → List Named
+namedIn file at = namedFrom (suc (length file)) file at
+
+-- the place of the first TF that sets a name set before, these names being set; where there is none, another place
+unfoldable pub twiceFrom : ℕ → List Named → List (List ℕ) → ℕ
+twiceFrom none [] names = none
+twiceFrom none (n ∷ ns) names =
+    elim (isAmong (n .name) names) [ true ↦ n .place | false ↦ twiceFrom none ns (n .name ∷ names) ]
+
+-- from `at` on; the length of the file where there is none
+abbrev pub twiceIn : List ℕ → ℕ → List (List ℕ) → ℕ
+twiceIn file at names = twiceFrom (length file) (namedIn file at) names
+
+unfoldable pub twiceAt : List ℕ → ℕ
+twiceAt file = twiceIn file 0 []
+
+-- the place of the first TF that sets a name
+unfoldable pub firstFrom : ℕ → List Named → List ℕ → ℕ
+firstFrom none [] name = none
+firstFrom none (n ∷ ns) name = elim (sameBytes (n .name) name) [ true ↦ n .place | false ↦ firstFrom none ns name ]
+
+abbrev pub firstIn : List ℕ → ℕ → List ℕ → ℕ
+firstIn file at name = firstFrom (length file) (namedIn file at) name
+
+unfoldable pub firstAt : List ℕ → List ℕ → ℕ
+firstAt file name = firstIn file 0 name
