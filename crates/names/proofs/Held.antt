@@ -12,7 +12,6 @@ use lib.Seq.{slice}
 use Rattle.base.specs.Or.{_or_}
 use Rattle.base.specs.Bytes.{sameBytes}
 use Rattle.base.proofs.Lists.{same-is, same-refl}
-use Rattle.index.specs.declared.Search.{Search}
 use Rattle.index.specs.declared.Search.the-variants.{At, Free}
 use Rattle.index.specs.First.{firstOf}
 use Rattle.index.specs.Names.{nameOf, named, Named}

@@ -6,3 +6,4 @@ pub mod Held
 pub mod Going
 pub mod Noting
 pub mod Onward
+pub mod Examples

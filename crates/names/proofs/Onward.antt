@@ -1,7 +1,7 @@
 -- What the reading of a file needs of the place where a name is set twice, command by command: at a TF it tells whether the name was set
 -- before, and behind any command that is no fault it is the place for the names set by then.
 -- Assumes nothing.
-use Prim.Native.Nat.{ℕ, zero, suc, _+_, _-_, _<_, _≤_}
+use Prim.Native.Nat.{ℕ, zero, suc, _+_, _-_, _≤_}
 use mathlib.Core.Path.{_≡_, refl, sym, ap, _∙_}
 use mathlib.Core.Bool.{Bool, true, false}
 use mathlib.Core.List.{List, [], _∷_}
@@ -24,18 +24,21 @@ use Rattle.commands.specs.Turns.{led, turned, turnOf}
 use Rattle.commands.specs.declared.Lead.{Lead}
 use Rattle.commands.specs.declared.Lead.the-variants as lead
 use Rattle.commands.specs.declared.Placed.{Placed}
-use Rattle.commands.specs.declared.Turn.{Turn}
 use Rattle.commands.specs.declared.Turn.the-variants as turn
 use Rattle.reading.specs.Apertures.{isAmong}
 use Rattle.names.specs.Settings.{settingOf}
-use Rattle.names.specs.Twice.{seen, looked, lookAt, namedFrom, twiceFrom, twiceIn}
+use Rattle.names.specs.Twice.{seen, looked, lookAt, namedFrom, twiceFrom, twiceIn, twiceAt}
 use Rattle.names.specs.declared.Look.{Look}
 use Rattle.names.specs.declared.Look.the-variants.{End, Other, Naming}
-use Rattle.names.specs.declared.Setting.{Setting}
 use Rattle.names.specs.declared.Setting.the-variants.{Nothing, Name}
 use Rattle.names.proofs.Settings.{setting-any}
 use Rattle.names.proofs.Inside.{Inside, setting-inside}
 use Rattle.names.proofs.Walk.{Onward, look-onward, naming-onward, twice-other, twice-again, twice-new}
+
+-- before the first command
+pub again-start : (file : List ℕ) → twiceIn file 0 [] ≡ twiceAt file
+unfolding twiceAt
+again-start file = refl
 
 -- a part of a part
 take-drop : (b n : ℕ) (l : List ℕ) → take b (drop n l) ≡ drop n (take (n + b) l)
@@ -99,9 +102,9 @@ module _ (n : ℕ) (file : List ℕ) (at : ℕ) where
     same = same-scan c m next (nextCommand file at) refl (next-within file at h) e
 
     -- a command that is no TF
-    pub other-on : (names : List (List ℕ)) → settingOf (c .command) ≡ Nothing → twiceIn file at names ≡ twiceIn file next names
+    pub again-other : (names : List (List ℕ)) → settingOf (c .command) ≡ Nothing → twiceIn file at names ≡ twiceIn file next names
     unfolding seen
-    other-on names q = twice-other file at names h (rw q at (same .look))
+    again-other names q = twice-other file at names h (rw q at (same .look))
 
     -- a TF with this name
     module _ {name value : Span} (q : c .command ≡ cmd.FileAttribute name value) where
@@ -121,16 +124,16 @@ module _ (n : ℕ) (file : List ℕ) (at : ℕ) where
           let i : Inside (c .end - c .from) (Name name) = rw setting at (same .inside) in
           part-of-part (name .from) (name .to) (c .from) (c .end) file (omega (arith, i .1, same .ordered))
 
-      pub name-on : (names : List (List ℕ)) → isAmong part names ≡ false → twiceIn file at names ≡ twiceIn file next (part ∷ names)
-      name-on names a = twice-new file at names h look (ap (λ (p : List ℕ). isAmong p names) (sym name-is) ∙ a) ∙ ap (λ (p : List ℕ). twiceIn file next (p ∷ names)) (sym name-is)
+      pub again-new : (names : List (List ℕ)) → isAmong part names ≡ false → twiceIn file at names ≡ twiceIn file next (part ∷ names)
+      again-new names a = twice-new file at names h look (ap (λ (p : List ℕ). isAmong p names) (sym name-is) ∙ a) ∙ ap (λ (p : List ℕ). twiceIn file next (p ∷ names)) (sym name-is)
 
-      pub name-again : (names : List (List ℕ)) → eqb (c .place) (twiceIn file at names) ≡ isAmong part names
-      name-again names = go (isAmong part names) refl
+      pub again-here : (names : List (List ℕ)) → eqb (c .place) (twiceIn file at names) ≡ isAmong part names
+      again-here names = go (isAmong part names) refl
         where
           go : (t : Bool) → isAmong part names ≡ t → eqb (c .place) (twiceIn file at names) ≡ t
           go true a = eq-eqb _ _ (sym (twice-again file at names h look (ap (λ (p : List ℕ). isAmong p names) (sym name-is) ∙ a)))
           go false a =
               let o = naming-onward file at h look in
               let p = twice-from file (suc (length file)) next (part ∷ names) (o .2) in
-              let w = name-on names a in
+              let w = again-new names a in
               ne-eqb (c .place) (twiceIn file at names) (λ (z : c .place ≡ twiceIn file at names). omega (arith, o .1, p, w, z))

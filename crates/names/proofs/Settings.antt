@@ -1,6 +1,6 @@
 -- Which commands set a name of the file's: TF only, and only where the text begins with `TF`, whatever the n of FS.
 -- Assumes nothing.
-use Prim.Native.Nat.{ℕ, zero, suc, _≤_}
+use Prim.Native.Nat.{ℕ, zero, suc}
 use Prim.Native.Char.{code}
 use mathlib.Core.Path.{_≡_, refl, sym, _∙_}
 use mathlib.Core.Bool.{Bool, true, false}
@@ -9,7 +9,7 @@ use native.Mathlib.Omega.{arith}
 use denote.Enum.Declared.{tagOf}
 use types.Run.{OneOf, miss}
 use lib.Dec.{eqb}
-use lib.ListN.{length, take}
+use lib.ListN.{take}
 use Rattle.base.specs.Bytes.{sameBytes}
 use Rattle.text.specs.First.{place}
 use Rattle.text.specs.Text.{_begins_}
@@ -32,7 +32,7 @@ use Rattle.attributes.specs.Attributes.{attributeOf, deletionOf}
 use Rattle.recognise.specs.Commands.{dataOf, extendedOf, commandOf}
 use Rattle.commands.proofs.Leads.{others}
 use Rattle.names.specs.Settings.{settingOf}
-use Rattle.names.specs.declared.Setting.the-variants.{Nothing, Name}
+use Rattle.names.specs.declared.Setting.the-variants.{Nothing}
 
 -- of 33 commands all but TF
 abbrev idleTags : List ℕ

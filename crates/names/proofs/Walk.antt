@@ -2,7 +2,7 @@
 -- Assumes nothing.
 use Prim.Native.Nat.{ℕ, zero, suc, _+_, _-_, _<_, _≤_}
 use mathlib.Core.Path.{_≡_, refl, sym, ap, _∙_}
-use mathlib.Core.Bool.{Bool, true, false}
+use mathlib.Core.Bool.{true, false}
 use mathlib.Core.List.{List, [], _∷_}
 use native.Mathlib.Omega.{arith}
 use lib.ListN.{length}
@@ -22,7 +22,7 @@ use Rattle.names.specs.declared.Look.{Look}
 use Rattle.names.specs.declared.Look.the-variants.{End, Other, Naming}
 use Rattle.names.specs.declared.Setting.{Setting}
 use Rattle.names.specs.declared.Setting.the-variants.{Nothing, Name}
-use Rattle.names.proofs.Inside.{Inside, NameInside, setting-inside}
+use Rattle.names.proofs.Inside.{Inside, setting-inside}
 
 -- a turn from `at` on leads past it, in l bytes, and a name lies among them
 abbrev pub Onward : ℕ → ℕ → Look → Type 0

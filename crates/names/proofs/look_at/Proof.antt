@@ -1,7 +1,6 @@
 -- `names::look_at` meets its contract: what the scanner found, and what it sets, pick the case.
 -- Assumes nothing.
-use Prim.Native.Nat.{_+_}
-use mathlib.Core.Path.{_≡_, sym, _∙_, ap}
+use mathlib.Core.Path.{sym, _∙_, ap}
 use native.Mathlib.Omega.{arith}
 use Rattle.recognise.specs.Commands.{commandOf}
 use Rattle.names.specs.Settings.{settingOf}
