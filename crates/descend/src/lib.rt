@@ -78,7 +78,7 @@ fn descend(e: &[u64], a: &[u64], k: Container, n: u64) -> Step
 }
 
 // Item n of a container, which is no higher than `left`.
-fn item_at(e: &[u64], a: &[u64], left: u64, k: Container, n: u64) -> Item
+pub fn item_at(e: &[u64], a: &[u64], left: u64, k: Container, n: u64) -> Item
     requires { ⌜ Asked (now e) (now a) left k n ⌝ }
     ensures { λ t. ⌜ Answered (now (e .entry)) (now (a .entry)) left k n t ⌝ }
 {

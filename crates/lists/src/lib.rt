@@ -1,0 +1,48 @@
+// Items of a sheet in a list that the caller lends. The functions that take the list are thin: what a slot holds is `slot`'s matter.
+use place::Item;
+ghost use mathlib.Core.Path.{_≡_};
+ghost use Prim.Native.Nat.{_+_};
+ghost use lib.ListN.{length};
+ghost use Rattle.lists.specs.Lists.{numberOf, held, slotOf, filled};
+
+// Whether items can be answered from item k on: 0, or the refusal's number. The one look at the whole store.
+fn number(head: &[u64; 8], e: &[u64], a: &[u64], k: u64) -> u64
+    ensures { λ r. ⌜ r ≡ numberOf (now (head .entry)) (now (e .entry)) (now (a .entry)) k ⌝ }
+{
+    if inspect::is_sheet(head, e, a) {
+        if k < head[7] {
+            return 0;
+        }
+        return 20;
+    }
+    21
+}
+
+// What slot i holds, where the store was looked at and n answered; k + i need not fit a word.
+fn slot(head: &[u64; 8], e: &[u64], a: &[u64], n: u64, k: u64, i: usize) -> Item
+    requires { ⌜ n ≡ numberOf (now head) (now e) (now a) k ⌝ }
+    ensures { λ r. ⌜ r ≡ slotOf (held (now (head .entry)) (now (e .entry)) (now (a .entry))) (k + i) ⌝ }
+{
+    if n == 0 {
+        let top = sheet::top_of(head);
+        if (i as u64) < top.items - k {
+            return descend::item_at(e, a, 10, top, k + (i as u64));
+        }
+        return place::zero_item();
+    }
+    place::zero_item()
+}
+
+// The list lent is filled from item k on.
+pub fn fill(list: &mut [Item], head: &[u64; 8], e: &[u64], a: &[u64], k: u64) -> u64
+    ensures { λ r. ⌜ (r ≡ numberOf (now (head .entry)) (now (e .entry)) (now (a .entry)) k)
+        × (now (list .exit) ≡ filled (now (head .entry)) (now (e .entry)) (now (a .entry)) k (length (now (list .entry)))) ⌝ }
+{
+    let n = number(head, e, a, k);
+    let mut i = 0;
+    while i < list.len() {
+        list[i] = slot(head, e, a, n, k, i);
+        i = i + 1;
+    }
+    n
+}
