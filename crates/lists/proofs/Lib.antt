@@ -1,3 +1,4 @@
 pub mod Answers
 pub mod Upto
 pub mod Joined
+pub mod Lent

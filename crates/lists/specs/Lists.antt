@@ -8,6 +8,7 @@ use Rattle.place.specs.declared.Item.{Item}
 use Rattle.place.specs.Item.{zeroItem}
 use Rattle.sheet.specs.Meaning.{sheetItems}
 use Rattle.sheet.specs.Valid.{valid}
+use Rattle.lists.specs.declared.Batch.{Batch}
 use Rattle.descend.specs.Slots.{fetchOf, fetchNumber}
 
 -- the number that a call answers: 21 for a store that is no sheet, 20 from the total on, 0 otherwise
@@ -29,3 +30,7 @@ listed ts k n = run (λ i. slotOf ts i ∷ []) k n
 -- the lent list of n slots afterwards; "20 and 21 zero the .. list" since there is no item to put in
 unfoldable pub filled : List ℕ → List ℕ → List ℕ → ℕ → ℕ → List Item
 filled head e a k n = listed (held head e a) k n
+
+-- eight slots by value
+unfoldable pub batchOf : List ℕ → List ℕ → List ℕ → ℕ → Batch
+batchOf head e a k = record { number = numberOf head e a k; items = filled head e a k 8 }

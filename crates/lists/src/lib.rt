@@ -3,7 +3,7 @@ use place::Item;
 ghost use mathlib.Core.Path.{_≡_};
 ghost use Prim.Native.Nat.{_+_};
 ghost use lib.ListN.{length};
-ghost use Rattle.lists.specs.Lists.{numberOf, held, slotOf, filled};
+ghost use Rattle.lists.specs.Lists.{numberOf, held, slotOf, filled, batchOf};
 
 // Whether items can be answered from item k on: 0, or the refusal's number. The one look at the whole store.
 fn number(head: &[u64; 8], e: &[u64], a: &[u64], k: u64) -> u64
@@ -45,4 +45,28 @@ pub fn fill(list: &mut [Item], head: &[u64; 8], e: &[u64], a: &[u64], k: u64) ->
         i = i + 1;
     }
     n
+}
+
+// Eight slots, and the number of the call that filled them.
+pub struct Batch {
+    pub number: u64,
+    pub items: [Item; 8],
+}
+
+// An array to lend: what it holds does not matter.
+fn blank() -> [Item; 8] {
+    let zero = place::zero_item();
+    [zero; 8]
+}
+
+// An array is lent and handed back by value, so that whoever calls this lends no list.
+pub fn eight(head: &[u64; 8], e: &[u64], a: &[u64], k: u64) -> Batch
+    ensures { λ r. ⌜ r ≡ batchOf (now (head .entry)) (now (e .entry)) (now (a .entry)) k ⌝ }
+{
+    let mut items = blank();
+    let n = fill(&mut items, head, e, a, k);
+    Batch {
+        number: n,
+        items: items,
+    }
 }

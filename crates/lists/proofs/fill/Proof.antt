@@ -1,6 +1,6 @@
 -- `lists::fill` meets its contract: a walk of its MIR, by hand, with a loop. The borrow of the list is opened once, before the loop, and closed once, after it.
 -- In between the first i slots are set (`Upto.antt`'s `upto`). First `number` is called, whose answer is handed to each call of `slot` and returned. All that the proof knows of the two is that each meets its contract; no field of an item is named.
--- What the store's three references own goes as one part (`Lent`), their tokens as another (`Toks`).
+-- What the store's three references own goes as one part, and so do their tokens (`Lent.antt`).
 -- Assumes nothing.
 use mathlib.Core.Path.{_≡_, refl, sym, _∙_, ap, subst}
 use Prim.Native.Nat.{ℕ, _+_, _-_, _*_, _<_, _≤_, _^_, zero-le}
@@ -20,7 +20,7 @@ use borrow.Author.Tests.{lt-ltb, le-ltb}
 use mir.Syntax.{Ty, named, imm, mut, w64, tyInt, tyBool, tyPtr, tyRef}
 use mir.Val.{Val, vbool, vint, vptr}
 use base.Logic.{SProp, ent, sep, emp, via, fst∗, snd∗, exE, id⊢}
-use base.Fml.{GName, Lft, Share, Fml, ftrue, fat, froom, fdies, flft, fobs, fauth, fbor, fobor, fsep}
+use base.Fml.{GName, Lft, Share, Fml, ftrue, fat, froom, fdies, flft, fobs, fauth, fbor, fobor}
 use prog.Memory.{Memory}
 use prog.Routine.{Routine}
 use prog.Wp.{Heap, Out, Env, Calls, Loops, Wp, WpFn, Tables, afterSeq, afterBlock, afterTurn, atReturn}
@@ -37,9 +37,8 @@ use denote.Laws.{Is, shows}
 use denote.Memory.{mem, pointee}
 use denote.Plain.{uint-vals, uint-tells, uint-makes, uint-lawful}
 use denote.Builtin.{u64, usize}
-use denote.Ref.{RefT, ShrRef, ptr-vals, shr-tells, shr-copy}
-use denote.Array.{Array}
-use denote.Slice.{sliceTy, sliceVal, MutSlice, ShrSlice, heres, Room, slice-vals, mut-slice-tells, shr-slice-tells, shr-slice-copy, at-slice, codedHoleys}
+use denote.Ref.{RefT, ShrRef, ptr-vals, shr-tells}
+use denote.Slice.{sliceTy, sliceVal, MutSlice, ShrSlice, heres, Room, slice-vals, mut-slice-tells, shr-slice-tells, at-slice, codedHoleys}
 use denote.Lend.{Held}
 use denote.Index.{row, place-is, elem-out, elem-put, opens-slice, closes-slice}
 use denote.Signature.{plain}
@@ -58,6 +57,7 @@ use Rattle.place.proofs.Item as T
 use Rattle.place.proofs.Item.Laws as T′
 use Rattle.lists.specs.Lists.{numberOf, held, slotOf, filled}
 use Rattle.lists.proofs.Upto.{upto, length-upto, all-set, set-next, filled-is}
+use Rattle.lists.proofs.Lent.{HR, head-val, words-val, lent, toks, twice}
 use Rattle.lists.proofs.number as number
 use Rattle.lists.proofs.number.Symbol as number-def
 use Rattle.lists.proofs.number.Symbol.{name as #lists·number}
@@ -74,10 +74,6 @@ use Rattle.lists.proofs.fill.Code.Mir as Mir
 
 abbrev R : RattleType
 R = T.the-row
-
--- the head is an array of eight words
-abbrev HR : RattleType
-HR = Array u64 8
 
 abbrev Arg : Type 0
 Arg = RefT (List Item) × (RefT (List ℕ) × (RefT (List ℕ) × (RefT (List ℕ) × (ℕ × Unit {0}))))
@@ -125,13 +121,13 @@ module _ {M : Type 1} (𝓤 : URA M) (H : Heap 𝓤) (A : Atoms 𝓤) (W : Given
   s = sliceVal (b, o) n
 
   abbrev s₁ : Val
-  s₁ = vptr (hd .ptr .0) (hd .ptr .1)
+  s₁ = head-val hd
 
   abbrev s₂ : Val
-  s₂ = sliceVal (en .ptr) (length (en .now))
+  s₂ = words-val en
 
   abbrev s₃ : Val
-  s₃ = sliceVal (apt .ptr) (length (apt .now))
+  s₃ = words-val apt
 
   abbrev at : List Val × (List Val × (List Val × (List Val × (List Val × Unit {0}))))
   at = (s ∷ [], (s₁ ∷ [], (s₂ ∷ [], (s₃ ∷ [], (vint w64 k ∷ [], tt)))))
@@ -147,29 +143,11 @@ module _ {M : Type 1} (𝓤 : URA M) (H : Heap 𝓤) (A : Atoms 𝓤) (W : Given
   zs i = upto f i ys
 
   -- what the store's references own, and their tokens
-  abbrev Own₁ : Fml
-  Own₁ = ShrRef (named 1) κ₁ HR .own hd (s₁ ∷ [])
-
-  abbrev Own₂ : Fml
-  Own₂ = ShrSlice (named 2) κ₂ u64 .own en (s₂ ∷ [])
-
-  abbrev Own₃ : Fml
-  Own₃ = ShrSlice (named 3) κ₃ u64 .own apt (s₃ ∷ [])
-
   abbrev Lent : Fml
-  Lent = fsep Own₁ (fsep Own₂ Own₃)
+  Lent = lent κ₁ κ₂ κ₃ hd en apt
 
   abbrev Toks : Entry 𝓤
-  Toks = ‵ (flft κ₁ q₁) ⊛ ‵ (flft κ₂ q₂) ⊛ ‵ (flft κ₃ q₃) ⊛ ‵ ftrue
-
-  -- [Lent; …] becomes [Lent; Lent; …]
-  twice : ent 𝓤 (sem 𝓤 H A Lent) (sep 𝓤 (sem 𝓤 H A Lent) (sem 𝓤 H A Lent))
-  twice =
-      qed W (‵ Lent ∷ []) ∵ fsplit ! $ use1 W (‵ Own₁ ⊛ ‵ Own₁) (shr-copy 𝓤 H A W (named 1) κ₁ HR .twice hd (s₁ ∷ [])) $ split ! $
-      move ! (2 ∷ []) $ fsplit ! $ use1 W (‵ Own₂ ⊛ ‵ Own₂) (shr-slice-copy 𝓤 H A W (named 2) κ₂ u64 .twice en (s₂ ∷ [])) $ split ! $
-      move ! (2 ∷ []) $ use1 W (‵ Own₃ ⊛ ‵ Own₃) (shr-slice-copy 𝓤 H A W (named 3) κ₃ u64 .twice apt (s₃ ∷ [])) $ split ! $
-      -- [Own₃; Own₃; Own₂; Own₂; Own₁; Own₁]
-      move ! (2 ∷ 0 ∷ []) $ fjoin ! $ move ! (3 ∷ 0 ∷ []) $ fjoin ! $ move ! (2 ∷ 1 ∷ []) $ fjoin ! $ move ! (2 ∷ 0 ∷ []) $ fjoin ! $ frame ! $ done !
+  Toks = toks 𝓤 κ₁ κ₂ κ₃ q₁ q₂ q₃
 
   abbrev Post : Val → SProp 𝓤
   Post = walkOf 𝓤 H A fill.ended stayed (fill.clauses 𝓤 H A at-mem run) .post (((κ, (κ₁, (κ₂, (κ₃, tt)))), (q, (q₁, (q₂, (q₃, tt)))), tt, a, at), tt)
@@ -266,7 +244,7 @@ module _ {M : Type 1} (𝓤 : URA M) (H : Heap 𝓤) (A : Atoms 𝓤) (W : Given
           rewrite ! 10 (λ (t : Bool). ‵ (fat fullShare tyBool l₉ 0 (vbool t))) (lt-ltb (i .0) n less) refl $
           stays ! (load ! (from ! (stop !)) (look ! 10 refl)) $
           -- the call, with a copy of the store's references
-          move ! (5 ∷ []) $ use1 W (‵ Lent ⊛ ‵ Lent) twice $ split ! $ move ! (6 ∷ 0 ∷ []) $
+          move ! (5 ∷ []) $ use1 W (‵ Lent ⊛ ‵ Lent) (twice κ₁ κ₂ κ₃ hd en apt 𝓤 H A W) $ split ! $ move ! (6 ∷ 0 ∷ []) $
           use2 W (raw (Slot 𝓤 H A at-mem run .pre (to-slot (i .0)))) (goes-slot F-fits (i .0) (fits i)) $
           calls-at ! (fmOf 𝓤 H (W .laws) 𝓣) (Slot 𝓤 H A at-mem run) known (to-slot (i .0))
           (and-then ! (load ! (from ! (stop !)) (look ! 24 refl)) (and-then ! (load ! (from ! (stop !)) (look ! 22 refl)) (and-then ! (load ! (from ! (stop !)) (look ! 20 refl)) (and-then ! (load ! (from ! (stop !)) (look ! 16 refl)) (and-then ! (load ! (from ! (stop !)) (look ! 18 refl)) (and-then ! (load ! (from ! (stop !)) (look ! 14 refl)) (no-more !))))))) (λ w.
@@ -314,10 +292,10 @@ module _ {M : Type 1} (𝓤 : URA M) (H : Heap 𝓤) (A : Atoms 𝓤) (W : Given
         alloc1 ! (λ l₀. alloc1 ! (λ l₁. alloc1 ! (λ l₂. alloc1 ! (λ l₃. alloc1 ! (λ l₄. alloc1 ! (λ l₅. alloc1 ! (λ l₆. alloc1 ! (λ l₇. alloc1 ! (λ l₈. alloc1 ! (λ l₉. alloc1 ! (λ m₀. alloc1 ! (λ m₁. alloc0 ! $ params1 ! $
         pass1 ! (init ! 20 refl (tt, (tt, (record { fits = room .0 }, tt)))) $ pass1 ! (init ! 18 refl (tt, tt)) $ pass1 ! (init ! 16 refl (tt, (tt, (record { fits = en-room .0 }, tt)))) $ pass1 ! (init ! 14 refl (tt, (tt, (record { fits = apt-room .0 }, tt)))) $ pass1 ! (init ! 12 refl (tt, record { fits = k-fits })) $ pass0 ! $
         move ! (25 ∷ []) $ fsplit ! $ fsplit ! $ move ! (1 ∷ []) $ fsplit ! $ move ! (3 ∷ []) $ fsplit ! $ move ! (1 ∷ []) $ fsplit ! $ move ! (1 ∷ []) $ fsplit ! $
-        -- [Own₃; k's; Own₂; Own₁; obs; the borrow; list's fact; _11; …; _0; …; the tokens]
+        -- [own₃; k's; own₂; own₁; obs; the borrow; list's fact; _11; …; _0; …; the tokens]
         move ! (2 ∷ 0 ∷ []) $ fjoin ! $ move ! (2 ∷ 0 ∷ []) $ fjoin ! $ move ! (29 ∷ []) $ split ! $
         -- [the token; Toks; Lent; k's; obs; the borrow; list's fact; _11; …; _0; …]: `number`, with a copy of the store's references
-        move ! (2 ∷ []) $ use1 W (‵ Lent ⊛ ‵ Lent) twice $ split ! $ move ! (3 ∷ 0 ∷ []) $
+        move ! (2 ∷ []) $ use1 W (‵ Lent ⊛ ‵ Lent) (twice κ₁ κ₂ κ₃ hd en apt 𝓤 H A W) $ split ! $ move ! (3 ∷ 0 ∷ []) $
         use2 W (raw (Number 𝓤 H A at-mem run .pre to-number)) goes-number $
         calls-at ! (fmOf 𝓤 H (W .laws) 𝓣) (Number 𝓤 H A at-mem run) known-number to-number
         (and-then ! (load ! (from ! (stop !)) (look ! 25 refl)) (and-then ! (load ! (from ! (stop !)) (look ! 23 refl)) (and-then ! (load ! (from ! (stop !)) (look ! 21 refl)) (and-then ! (load ! (from ! (stop !)) (look ! 19 refl)) (no-more !))))) (λ w.
