@@ -1,7 +1,7 @@
 -- A lent list of items, and what a call for a run of them leaves in it (01, Items).
 use Prim.Native.Nat.{ℕ}
 use mathlib.Core.Bool.{cond}
-use mathlib.Core.List.{List, [], _∷_}
+use mathlib.Core.List.{List, [], _∷_, _++_}
 use lib.ListN.{getD}
 use Rattle.base.specs.Run.{run}
 use Rattle.place.specs.declared.Item.{Item}
@@ -9,7 +9,7 @@ use Rattle.place.specs.Item.{zeroItem}
 use Rattle.sheet.specs.Meaning.{sheetItems}
 use Rattle.sheet.specs.Valid.{valid}
 use Rattle.lists.specs.declared.Batch.{Batch}
-use Rattle.descend.specs.Slots.{fetchOf, fetchNumber}
+use Rattle.descend.specs.Slots.{itemWords, fetchOf, fetchNumber}
 
 -- the number that a call answers: 21 for a store that is no sheet, 20 from the total on, 0 otherwise
 unfoldable pub numberOf : List ℕ → List ℕ → List ℕ → ℕ → ℕ
@@ -34,3 +34,8 @@ filled head e a k n = listed (held head e a) k n
 -- eight slots by value
 unfoldable pub batchOf : List ℕ → List ℕ → List ℕ → ℕ → Batch
 batchOf head e a k = record { number = numberOf head e a k; items = filled head e a k 8 }
+
+-- the words of items, one after the other (docs/SHEET.md)
+unfoldable pub wordsOf : List Item → List ℕ
+wordsOf [] = []
+wordsOf (t ∷ ts) = itemWords t ++ wordsOf ts
