@@ -2,13 +2,16 @@
 --     upto f i ys      the first i slots of ys are f 0, f 1, …
 --     tab f n          the list f 0, …, f (n - 1)
 -- Only `filled-is` speaks of items. Assumes nothing.
-use Prim.Native.Nat.{ℕ, zero, suc, _+_}
+use Prim.Native.Nat.{ℕ, zero, suc, _+_, _-_, _≤_}
+use native.Mathlib.Omega.{arith}
 use native.Mathlib.Nat.{add-zero, add-suc, suc-add}
 use mathlib.Core.Path.{_≡_, refl, sym, _∙_, ap}
-use mathlib.Core.List.{List, [], _∷_}
-use lib.ListN.{length, set, length-set}
+use mathlib.Core.List.{List, [], _∷_, _++_}
+use lib.ListN.{length, set, length-set, take, drop, replicate, length-append, take-append-drop, length-replicate, replicate-append-replicate}
+use lib.Seq.{drop-at}
 use Rattle.base.specs.Run.{run}
 use Rattle.place.specs.declared.Item.{Item}
+use Rattle.place.specs.Item.{zeroItem}
 use Rattle.lists.specs.Lists.{slotOf, held, listed, filled}
 
 pub one-more : (i : ℕ) → i + 1 ≡ suc i
@@ -54,3 +57,12 @@ listed-is ts k (suc n) =
 pub filled-is : (head e a : List ℕ) (k n : ℕ) → tab (λ (i : ℕ). slotOf (held head e a) (k + i)) n ≡ filled head e a k n
 unfolding filled
 filled-is head e a k n = listed-is (held head e a) k n
+
+-- m slots of an array are changed and the others not: it is as long as before
+pub whole-long : (m : ℕ) (l ys : List Item) → length l ≡ length (take m ys) → length (l ++ drop m ys) ≡ length ys
+whole-long m l ys e = length-append l (drop m ys) ∙ ap (λ (j : ℕ). j + length (drop m ys)) e ∙ sym (length-append (take m ys) (drop m ys)) ∙ ap (λ (t : List Item). length t) (take-append-drop m ys)
+
+pub rest-zeros : (m : ℕ) → m ≤ 8 → drop m (replicate 8 zeroItem) ≡ replicate (8 - m) zeroItem
+rest-zeros m l =
+    let q : 8 ≡ m + (8 - m) = omega arith in
+    ap (λ (j : ℕ). drop m (replicate j zeroItem)) q ∙ ap (drop m) (sym (replicate-append-replicate m (8 - m) zeroItem)) ∙ drop-at (replicate m zeroItem) (replicate (8 - m) zeroItem) m (length-replicate m zeroItem)

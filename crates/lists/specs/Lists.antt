@@ -1,8 +1,8 @@
 -- A lent list of items, and what a call for a run of them leaves in it (01, Items).
-use Prim.Native.Nat.{ℕ}
+use Prim.Native.Nat.{ℕ, _-_}
 use mathlib.Core.Bool.{cond}
 use mathlib.Core.List.{List, [], _∷_, _++_}
-use lib.ListN.{getD}
+use lib.ListN.{getD, replicate}
 use Rattle.base.specs.Run.{run}
 use Rattle.place.specs.declared.Item.{Item}
 use Rattle.place.specs.Item.{zeroItem}
@@ -31,9 +31,9 @@ listed ts k n = run (λ i. slotOf ts i ∷ []) k n
 unfoldable pub filled : List ℕ → List ℕ → List ℕ → ℕ → ℕ → List Item
 filled head e a k n = listed (held head e a) k n
 
--- eight slots by value
-unfoldable pub batchOf : List ℕ → List ℕ → List ℕ → ℕ → Batch
-batchOf head e a k = record { number = numberOf head e a k; items = filled head e a k 8 }
+-- eight slots by value: m of them filled, the others zero items
+unfoldable pub batchOf : List ℕ → List ℕ → List ℕ → ℕ → ℕ → Batch
+batchOf head e a k m = record { number = numberOf head e a k; items = filled head e a k m ++ replicate (8 - m) zeroItem }
 
 -- the words of items, one after the other (docs/SHEET.md)
 unfoldable pub wordsOf : List Item → List ℕ

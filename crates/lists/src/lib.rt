@@ -1,8 +1,9 @@
 // Items of a sheet in a list that the caller lends. The functions that take the list are thin: what a slot holds is `slot`'s matter.
 use place::Item;
 ghost use mathlib.Core.Path.{_≡_};
-ghost use Prim.Native.Nat.{_+_};
-ghost use lib.ListN.{length};
+ghost use Prim.Native.Nat.{_+_, _≤_};
+ghost use lib.ListN.{length, replicate};
+ghost use Rattle.place.specs.Item.{zeroItem};
 ghost use Rattle.lists.specs.Lists.{numberOf, held, slotOf, filled, batchOf};
 
 // Whether items can be answered from item k on: 0, or the refusal's number. The one look at the whole store.
@@ -53,18 +54,21 @@ pub struct Batch {
     pub items: [Item; 8],
 }
 
-// An array to lend: what it holds does not matter.
-fn blank() -> [Item; 8] {
+// An array to lend.
+fn blank() -> [Item; 8]
+    ensures { λ r. ⌜ r ≡ replicate 8 zeroItem ⌝ }
+{
     let zero = place::zero_item();
     [zero; 8]
 }
 
-// An array is lent and handed back by value, so that whoever calls this lends no list.
-pub fn eight(head: &[u64; 8], e: &[u64], a: &[u64], k: u64) -> Batch
-    ensures { λ r. ⌜ r ≡ batchOf (now (head .entry)) (now (e .entry)) (now (a .entry)) k ⌝ }
+// The first m slots of an array are lent, and the array is handed back by value: whoever calls this lends no list.
+pub fn run_of(head: &[u64; 8], e: &[u64], a: &[u64], k: u64, m: usize) -> Batch
+    requires { ⌜ m ≤ 8 ⌝ }
+    ensures { λ r. ⌜ r ≡ batchOf (now (head .entry)) (now (e .entry)) (now (a .entry)) k m ⌝ }
 {
     let mut items = blank();
-    let n = fill(&mut items, head, e, a, k);
+    let n = fill(&mut items[..m], head, e, a, k);
     Batch {
         number: n,
         items: items,
