@@ -26,7 +26,6 @@ both-hold true true n = (refl, refl)
 both-hold true false n = absurd (omega arith)
 both-hold false l n = absurd (omega arith)
 
--- where it is another number, no item that can be answered stands at k or behind
 fails : (l : Bool) → (fetchNumber (cond l F.Done F.Past) ≡ 0 → ⊥) → l ≡ false
 unfolding fetchNumber
 fails true nz = absurd (nz refl)
@@ -64,7 +63,7 @@ module _ (head e a : List ℕ) where
       let b = both-hold (valid head e a) (ltb k (length (sheetItems head e a))) (sym q ∙ z) in
       rw (length-sheet head e a (b .0)) at (ltb-true k (length (sheetItems head e a)) (b .1))
 
-  -- the slot of an item that is there, of one past the total, and where the call is refused
+  -- the slot of an item that is there, and of one past the total
   pub slot-is : (i : ℕ) (t : Item) → valid head e a ≡ true → t ≡ getD (items e a 10 (topOf head)) i zeroItem → t ≡ slotOf (held head e a) i
   unfolding slotOf held sheetItems
   slot-is i t v q = q ∙ simp v
@@ -75,8 +74,12 @@ module _ (head e a : List ℕ) where
       let long = length-sheet head e a v in
       z ∙ rw v (past-slot (sheetItems head e a) i (omega arith))
 
-  pub slot-refused : (k i n : ℕ) (t : Item) → n ≡ numberOf head e a k → (n ≡ 0 → ⊥) → t ≡ zeroItem → t ≡ slotOf (held head e a) (k + i)
+  -- where the call is refused, no item that can be answered stands at k or behind
+  pub none-behind : (k : ℕ) → (numberOf head e a k ≡ 0 → ⊥) → length (held head e a) ≤ k
   unfolding numberOf fetchOf held
+  none-behind k nz = none-from (valid head e a) (sheetItems head e a) k nz
+
+  pub slot-refused : (k i n : ℕ) (t : Item) → n ≡ numberOf head e a k → (n ≡ 0 → ⊥) → t ≡ zeroItem → t ≡ slotOf (held head e a) (k + i)
   slot-refused k i n t q nz z =
-      let none = none-from (valid head e a) (sheetItems head e a) k (λ u. nz (q ∙ u)) in
-      z ∙ past-slot (cond (valid head e a) (sheetItems head e a) []) (k + i) (omega (arith, none))
+      let none = none-behind k (λ u. nz (q ∙ u)) in
+      z ∙ past-slot (held head e a) (k + i) (omega (arith, none))
