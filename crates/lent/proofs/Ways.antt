@@ -1,8 +1,7 @@
 -- The two ways of a command: it is taken, or refused.
 -- Assumes nothing.
 use Prim.Native.Nat.{ℕ}
-use mathlib.Core.Path.{_≡_, sym, ap, _∙_}
-use mathlib.Core.Bool.{Bool, cond}
+use mathlib.Core.Path.{_≡_, refl, sym, _∙_}
 use borrow.Author.Tests.{eq-eqb, ne-eqb}
 use Rattle.command.specs.declared.Command.{Command}
 use Rattle.graphics.specs.declared.Graphics.{Graphics}
@@ -14,11 +13,11 @@ module _ (g : Graphics) (c : Command) (found n : ℕ) (q : n ≡ numberOf g c fo
   pub taken : (t : Graphics) → n ≡ 0 → t ≡ after c g → _≡_ {A = Stepped} (record { number = n; graphics = t }) (steppedOf g c found)
   unfolding steppedOf
   taken t z e =
-      let e′ = e ∙ sym (ap (λ (b : Bool). cond b (after c g) g) (eq-eqb (numberOf g c found) 0 (sym q ∙ z))) in
+      let e′ : t ≡ steppedOf g c found .graphics = rw (eq-eqb (numberOf g c found) 0 (sym q ∙ z)) e in
       λ i. record { number = q i; graphics = e′ i }
 
   pub refused : (n ≡ 0 → ⊥) → _≡_ {A = Stepped} (record { number = n; graphics = g }) (steppedOf g c found)
   unfolding steppedOf
   refused nz =
-      let e′ = sym (ap (λ (b : Bool). cond b (after c g) g) (ne-eqb (numberOf g c found) 0 (λ z. nz (q ∙ z)))) in
+      let e′ : g ≡ steppedOf g c found .graphics = rw (ne-eqb (numberOf g c found) 0 (λ z. nz (q ∙ z))) refl in
       λ i. record { number = q i; graphics = e′ i }

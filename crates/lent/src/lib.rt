@@ -56,6 +56,7 @@ pub struct Stepped {
     pub graphics: Graphics,
 }
 
+// The command by value: a refused one leaves the state as it was.
 pub fn next(g: Graphics, c: Command, found: u64) -> Stepped
     ensures { λ r. ⌜ r ≡ steppedOf g c found ⌝ }
 {
@@ -73,11 +74,23 @@ pub fn next(g: Graphics, c: Command, found: u64) -> Stepped
     }
 }
 
-// The same over a state that is lent: a refused command leaves it as it was.
+// The same over a state that is lent.
 pub fn step(g: &mut Graphics, c: Command, found: u64) -> u64
     ensures { λ r. ⌜ (r ≡ steppedOf (now (g .entry)) c found .number) × (now (g .exit) ≡ steppedOf (now (g .entry)) c found .graphics) ⌝ }
 {
     let t = next(*g, c, found);
     *g = t.graphics;
     t.number
+}
+
+// A state is lent to `step` and handed back by value: whoever calls this lends nothing.
+pub fn once(g: Graphics, c: Command, found: u64) -> Stepped
+    ensures { λ r. ⌜ r ≡ steppedOf g c found ⌝ }
+{
+    let mut t = g;
+    let n = step(&mut t, c, found);
+    Stepped {
+        number: n,
+        graphics: t,
+    }
 }
