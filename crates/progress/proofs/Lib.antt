@@ -1,1 +1,4 @@
 pub mod Levels
+pub mod Found
+pub mod Apertures
+pub mod Macros
