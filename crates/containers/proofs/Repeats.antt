@@ -1,0 +1,254 @@
+-- A repeat that opens: what is known behind it.
+-- Assumes nothing.
+use Prim.Native.Nat.{ℕ, suc, _+_, _-_, _*_, _≤_, _<_, _^_}
+use mathlib.Core.Path.{_≡_, refl, sym, ap, _∙_}
+use mathlib.Core.Bool.{Bool, true, false, not, cond}
+use mathlib.Core.List.{List, [], _∷_, _++_}
+use native.Mathlib.Nat.{le-refl, add-zero, one-le-mul, mul-le-mul}
+use native.Mathlib.Numerals.{add-one}
+use native.Mathlib.Omega.{arith}
+use lib.Dec.{eqb, leb, ltb, lit≤}
+use borrow.Author.Tests.{not-false, leb-true, leb-false, eqb-true, eqb-false, le-leb, lt-leb, ne-eqb}
+use Rattle.base.specs.And.{_and_}
+use Rattle.base.specs.Or.{_or_}
+use Rattle.base.proofs.And.{and-l, and-r}
+use Rattle.decimal.specs.declared.answers.Amount.{Amount}
+use Rattle.place.specs.Mark.{begin, repeat, edges, written}
+use Rattle.place.specs.declared.Repeat.{Repeat}
+use Rattle.graphics.specs.declared.Graphics.{Graphics}
+use Rattle.graphics.specs.Graphics.{origin, unset, withPoint}
+use Rattle.command.specs.Choose.{pick}
+use Rattle.command.specs.declared.Command.the-variants as command
+use Rattle.changes.specs.After.{after}
+use Rattle.fits.specs.declared.Level.{Level}
+use Rattle.drawing.specs.Counts.{most, counted}
+use Rattle.rules.specs.Bounds.{isCount, isRepeat}
+use Rattle.rules.specs.Rules.{repeatStartFault}
+use Rattle.marks.specs.Marks.{repeatOf, marksOf}
+use Rattle.bounds.specs.Bounded.{Repeats}
+use Rattle.bounds.proofs.Tables.{neither}
+use Rattle.sheet.specs.Records.{entryOf, entryRoom}
+use Rattle.stack.specs.Stack.{hasRoom, pushed}
+use Rattle.stack.proofs.Turning.{room-left}
+use Rattle.building.specs.Open.{opener}
+use Rattle.build.specs.declared.Builder.{Builder}
+use Rattle.build.specs.declared.Put.{Put}
+use Rattle.build.specs.declared.Put.the-variants as put
+use Rattle.build.specs.Builder.{inner, begun}
+use Rattle.build.specs.Entries.{repeatEntry}
+use Rattle.shown.specs.Shown.{blank, Shows}
+use Rattle.shown.proofs.Entries.{pushed-is}
+use Rattle.shown.proofs.Marks.{one-more, opens-repeat}
+use Rattle.reading.specs.State as opened
+use Rattle.reading.specs.State.{Opened, State}
+use Rattle.reading.specs.Levels.{inRepeat}
+use Rattle.reading.specs.Steps.{passed, withLevel, withOpened, repeatStartStep}
+use Rattle.progress.specs.declared.Progress.{Progress}
+use Rattle.progress.specs.Lent.{Lent, roomOf, withEntries}
+use Rattle.progress.specs.Levels.{levelAt, levelOf, Counted}
+use Rattle.progress.specs.Around.{Around}
+use Rattle.progress.specs.Knows.{Knows, Known, Follows, StepsTo}
+use Rattle.progress.specs.declared.Stepped.the-variants.{Next, Fault}
+use Rattle.progress.proofs.Levels.{block-level, repeat-level, top-level}
+use Rattle.containers.proofs.Levels.{inside-top, around-top}
+use Rattle.containers.proofs.Faults.{row-false, full-is}
+
+-- the bounds of SR
+pub record Counts (nx ny : ℕ) : Type 0 where
+  pub nx-low : 1 ≤ nx
+  pub nx-high : nx ≤ 9999
+  pub ny-low : 1 ≤ ny
+  pub ny-high : ny ≤ 9999
+  pub some : 1 ≤ nx * ny
+  pub few : nx * ny ≤ 9999 * 9999
+
+pub counts-of : (nx ny : ℕ) (dx dy : Amount) → isRepeat nx ny dx dy ≡ true → Counts nx ny
+unfolding isRepeat isCount
+counts-of nx ny dx dy q =
+    let both = and-l _ _ q in
+    let x = and-l _ _ both in
+    let y = and-r _ _ both in
+    let a : 1 ≤ nx = leb-true 1 nx (and-l _ _ x) in
+    let b : nx ≤ 9999 = leb-true nx 9999 (and-r _ _ x) in
+    let c : 1 ≤ ny = leb-true 1 ny (and-l _ _ y) in
+    let d : ny ≤ 9999 = leb-true ny 9999 (and-r _ _ y) in
+    record { nx-low = a; nx-high = b; ny-low = c; ny-high = d; some = one-le-mul a c; few = mul-le-mul b d }
+
+-- how far reading has come behind SR
+abbrev pub repeated : Progress → ℕ → ℕ → Amount → Amount → Progress
+repeated p nx ny dx dy = record {
+  graphics = after (command.RepeatStart nx ny dx dy) (p .graphics);
+  builder = inner (p .builder) 9;
+  contour = p .contour;
+  depth = p .depth;
+  copies = nx * ny;
+  sheet = p .builder .items;
+  apertures = p .apertures;
+  macros = p .macros;
+  numbers = p .numbers;
+}
+
+module _ (w : Lent) (s : State) (p : Progress) (k : Knows w p s) (place nx ny : ℕ) (dx dy : Amount) (bounds : Repeats nx ny dx dy) where
+  -- the test of the code is the rule
+  pub repeat-fault : repeatStartStep (roomOf w) place nx ny dx dy s .fault ≡
+      repeatStartFault (p .graphics) (levelOf p) (isRepeat nx ny dx dy) (not (hasRoom (w .entries) (p .builder .closed) (p .builder .high)))
+  unfolding repeatStartStep roomOf hasRoom
+  repeat-fault =
+      let full : eqb (entryRoom (w .entries) - s .entries) 0 ≡ not (ltb (p .builder .closed + p .builder .high) (entryRoom (w .entries))) =
+      rw (← k .entries) (full-is (entryRoom (w .entries)) (p .builder .closed + p .builder .high)) in
+      λ i. repeatStartFault (sym (k .graphics) i) (sym (k .level) i) (isRepeat nx ny dx dy) (full i)
+
+  module _ (none : repeatStartFault (p .graphics) (levelOf p) (isRepeat nx ny dx dy) (not (hasRoom (w .entries) (p .builder .closed) (p .builder .high))) ≡ 0) where
+    passes : ((p .graphics .region .on or not (eqb (levelOf p .inside) 0)) ≡ false) × (isRepeat nx ny dx dy ≡ true) × (hasRoom (w .entries) (p .builder .closed) (p .builder .high) ≡ true)
+    unfolding repeatStartFault
+    passes =
+        let first = row-false _ 7 _ (lit≤ tt) none in
+        let second = row-false _ 10 _ (lit≤ tt) (first .1) in
+        let third = row-false _ 17 _ (lit≤ tt) (second .1) in
+        (first .0, not-false _ (second .0), not-false _ (third .0))
+
+    pub repeat-counts : Counts nx ny
+    repeat-counts = counts-of nx ny dx dy (passes .1)
+
+    pub repeat-room : hasRoom (w .entries) (p .builder .closed) (p .builder .high) ≡ true
+    repeat-room = passes .2
+
+    off : s .graphics .region .contour ≡ true → ⊥
+    off q =
+        let on = neither _ _ (passes .0) .0 in
+        let z : true ≡ false = sym (k .inside q) ∙ ap (λ (g : Graphics). g .region .on) (sym (k .graphics)) ∙ on in
+        let y : _≡_ {A = ℕ} 0 1 = cc in
+        omega arith
+
+    at-top : (8 < p .builder .height) × (p .builder .height ≡ 9 → ⊥)
+    unfolding levelOf
+    at-top =
+        let q : levelOf p .inside ≡ 0 = eqb-true _ _ (not-false _ (neither _ _ (passes .0) .1)) in
+        inside-top (p .builder .height) (p .builder .items) (p .depth) (p .copies) (p .sheet) q
+
+    tops : (s .opened ≡ []) × (p .builder .start ≡ 0) × (p .builder .height ≡ 10) × (p .depth ≡ 0)
+    tops = around-top (w .entries) (w .apertures) _ (p .apertures) (s .opened) _ _ _ _ _ (at-top .0) (at-top .1) (k .around)
+
+    level-is : s .level ≡ record { inside = 0; items = p .builder .items; height = 0; depth = p .depth; copies = 1; sheet = 0 }
+    unfolding levelOf
+    level-is = sym (k .level) ∙ top-level (p .builder .height) (p .builder .items) (p .depth) (p .copies) (p .sheet) (at-top .0) (at-top .1)
+
+    few : p .builder .items ≤ most
+    unfolding counted
+    few = let c = (rw level-is at (k .counts)) .within in omega arith
+
+    level-then : levelOf (repeated p nx ny dx dy) ≡ inRepeat nx ny (s .level)
+    unfolding levelOf inner inRepeat
+    level-then = repeat-level 9 0 (p .depth) (nx * ny) (p .builder .items) refl ∙ rw level-is
+
+    counts-then : Counted (inRepeat nx ny (s .level))
+    unfolding inRepeat counted
+    counts-then =
+        let f = few in
+        let c = repeat-counts .some in
+        rw level-is (record { within = omega arith; before = f; some = c })
+
+    abbrev left : List ℕ
+    left = pushed (w .entries) (p .builder .closed) (p .builder .high) (repeatEntry (p .builder .items) (p .builder .start) (repeatOf nx ny dx dy) place)
+
+    long : entryRoom left ≡ entryRoom (w .entries)
+    long = pushed-is (w .entries) (p .builder .closed) (p .builder .high) _ (passes .2) .as-long
+
+    opener-is : opener left (entryRoom left) (p .builder .high + 1) ≡ repeatEntry (p .builder .items) (p .builder .start) (repeatOf nx ny dx dy) place
+    opener-is = rw (long, add-one (p .builder .high)) (pushed-is (w .entries) (p .builder .closed) (p .builder .high) _ (passes .2) .new)
+
+    around-then : Around left (w .apertures) (entryRoom left) (p .apertures) (opened.repeat (s .level) ∷ s .opened) (p .builder .high + 1) 9 (p .depth) (nx * ny) (p .builder .items)
+    unfolding Around repeatEntry repeatOf
+    around-then =
+        rw (tops .0, opener-is) (
+          record {
+            nine = refl;
+            none = tops .3;
+            some = omega arith;
+            first = tops .1;
+            copies-are = refl;
+            sheet-is = refl;
+            level = top-level 10 (p .builder .items) 0 1 0 (lit≤ tt) (λ q. let z : _≡_ {A = ℕ} 10 9 = q in omega arith) ∙ rw (level-is, tops .3);
+            counts = k .counts;
+          },
+          (refl, refl, refl),
+        )
+
+    shows-then : Shows (s .marks ++ begin (repeat (repeatOf nx ny dx dy)) ∷ []) left (w .apertures) (entryRoom left) (p .apertures) (inner (p .builder) 9)
+    unfolding edges repeatOf
+    shows-then =
+        let c = repeat-counts in
+        rw (one-more (s .marks) (begin (repeat (repeatOf nx ny dx dy))) refl, long)
+        (opens-repeat (written (s .marks) blank) (w .entries) (w .apertures) (entryRoom (w .entries)) (p .apertures) (p .builder) (k .shows) (passes .2)
+        (repeatOf nx ny dx dy) place (tops .2) (c .nx-low) (c .nx-high) (c .ny-low) (c .ny-high) (bounds .across) (bounds .up))
+
+    pub repeat-begins : Knows (withEntries (pushed (w .entries) (p .builder .closed) (p .builder .high) (repeatEntry (p .builder .items) (p .builder .start) (repeatOf nx ny dx dy) place)) w)
+        (repeated p nx ny dx dy) (repeatStartStep (roomOf w) place nx ny dx dy s .next)
+    unfolding repeatStartStep withLevel withOpened passed withEntries after withPoint unset origin marksOf inner
+    repeat-begins =
+        let entries = k .entries in
+        record {
+          graphics = ap (after (command.RepeatStart nx ny dx dy)) (k .graphics);
+          point = record { across = lit≤ tt; up = lit≤ tt };
+          mode = k .mode;
+          inside = k .inside;
+          aperture = k .aperture;
+          level = level-then;
+          counts = counts-then;
+          around = around-then;
+          apertures = k .apertures;
+          macros = k .macros;
+          numbers = k .numbers;
+          entries = omega arith;
+          shows = shows-then;
+          contour = λ q. absurd (off q);
+        }
+
+-- SR comes to its fault, or to what is known behind it; what the calls answer is handed in
+module _ (e : List ℕ) (p : Progress) (place nx ny : ℕ) (dx dy : Amount) (bounds : Repeats nx ny dx dy)
+    (room : Bool) (room-is : room ≡ hasRoom e (p .builder .closed) (p .builder .high)) (l : Level) (level-told : l ≡ levelOf p)
+    (keeps : Bool) (keeps-is : keeps ≡ isRepeat nx ny dx dy) (fault : ℕ) (fault-told : fault ≡ repeatStartFault (p .graphics) l keeps (not room)) where
+  fault-is : fault ≡ repeatStartFault (p .graphics) (levelOf p) (isRepeat nx ny dx dy) (not (hasRoom e (p .builder .closed) (p .builder .high)))
+  fault-is = fault-told ∙ (λ i. repeatStartFault (p .graphics) (level-told i) (keeps-is i) (not (room-is i)))
+
+  pub repeat-refused : (e′ : List ℕ) → 1 ≤ fault → StepsTo (λ room s. repeatStartStep room place nx ny dx dy s) (λ w. w .entries ≡ e) (withEntries e′) p (Fault fault)
+  unfolding Follows
+  repeat-refused e′ some w s q k = (repeat-fault w s p k place nx ny dx dy bounds ∙ rw q (sym fault-is), some)
+
+  module _ (known : Known (λ w. w .entries ≡ e) p) (none : fault ≡ 0) where
+    none-is : repeatStartFault (p .graphics) (levelOf p) (isRepeat nx ny dx dy) (not (hasRoom (known .lent .entries) (p .builder .closed) (p .builder .high))) ≡ 0
+    none-is = rw (known .is) (sym fault-is ∙ none)
+
+    pub repeat-few : nx * ny ≤ 99_980_001
+    repeat-few = repeat-counts (known .lent) (known .state) p (known .knows) place nx ny dx dy bounds none-is .few
+
+    left-room : hasRoom e (p .builder .closed) (p .builder .high) ≡ true
+    left-room = rw (known .is) at (repeat-room (known .lent) (known .state) p (known .knows) place nx ny dx dy bounds none-is)
+
+    next-is : begun e (p .builder) 9 ≡ put.Next (inner (p .builder) 9)
+    unfolding begun
+    next-is = rw left-room
+
+    module _ (x : Put) (put-told : x ≡ begun e (p .builder) 9) where
+      pub repeat-fits : x ≡ put.Full → ⊥
+      repeat-fits q = let z = next-is in let y : _≡_ {A = ℕ} 0 1 = cc in omega arith
+
+      pub repeat-opens : (e′ : List ℕ) (r : Repeat) → r ≡ repeatOf nx ny dx dy → e′ ≡ pushed e (p .builder .closed) (p .builder .high) (repeatEntry (p .builder .items) (p .builder .start) r place) →
+          (b : Builder) → x ≡ put.Next b → (g : Graphics) → g ≡ after (command.RepeatStart nx ny dx dy) (p .graphics) →
+          StepsTo (λ room s. repeatStartStep room place nx ny dx dy s) (λ w. w .entries ≡ e) (withEntries e′) p
+          (Next (record {
+            graphics = g;
+            builder = b;
+            contour = p .contour;
+            depth = p .depth;
+            copies = nx * ny;
+            sheet = p .builder .items;
+            apertures = p .apertures;
+            macros = p .macros;
+            numbers = p .numbers;
+          }))
+      unfolding Follows
+      repeat-opens e′ r r-is e′-is b b-is g g-is w s q k =
+          let none-here = rw (← q) at (sym fault-is ∙ none) in
+          let grown : b ≡ inner (p .builder) 9 = let z = next-is in cc in
+          rw (g-is, grown, e′-is, r-is, ← q) (repeat-fault w s p k place nx ny dx dy bounds ∙ none-here, repeat-begins w s p k place nx ny dx dy bounds none-here)
