@@ -2,3 +2,4 @@ pub mod Faults
 pub mod Around
 pub mod Levels
 pub mod Repeats
+pub mod Blocks

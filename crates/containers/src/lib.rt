@@ -55,3 +55,49 @@ pub fn repeat_start(
         numbers: p.numbers,
     })
 }
+
+// AB, opening: the block's record stands open from here on, and its number is taken.
+pub fn block_start(e: &mut [u64], a: &mut [u64], p: Progress, place: u64, n: u64) -> Stepped
+    requires { ⌜ Known (λ w. (w .entries ≡ now e) × (w .apertures ≡ now a)) p ⌝ }
+    ensures { λ r. ⌜ StepsTo (λ room s. blockStartStep room place n s) (λ w. (w .entries ≡ now (e .entry)) × (w .apertures ≡ now (a .entry)))
+        (λ w. withApertures (now (a .exit)) (withEntries (now (e .exit)) w)) p r ⌝ }
+{
+    let g = p.graphics;
+    let b = p.builder;
+    let used = p.apertures;
+    let room = stack::has_room(e, b.closed, b.high);
+    let full = base::either(!room, used >= a.len() / 8);
+    let level = progress::level_of(p);
+    let found = index::search_number(a, used, n);
+    let Search::Free(link) = found else {
+        return Stepped::Fault(rules::block_start_fault(g, level, true, full));
+    };
+    let fault = rules::block_start_fault(g, level, false, full);
+    if fault != 0 {
+        return Stepped::Fault(fault);
+    }
+    let opening = Aperture {
+        number: n,
+        kind: 0,
+        first: 0,
+        len: 0,
+        items: 0,
+        height: 0,
+    };
+    tables::put_aperture(a, used, link, opening);
+    let put = build::open_block(e, b, used as u64, place);
+    let Put::Next(builder) = put else {
+        return Stepped::Fault(17);
+    };
+    Stepped::Next(Progress {
+        graphics: changes::after(Command::BlockStart(n), g),
+        builder,
+        contour: p.contour,
+        depth: p.depth + 1,
+        copies: p.copies,
+        sheet: p.sheet,
+        apertures: used + 1,
+        macros: p.macros,
+        numbers: p.numbers,
+    })
+}
