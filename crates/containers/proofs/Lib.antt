@@ -1,5 +1,8 @@
 pub mod Faults
 pub mod Around
 pub mod Levels
+pub mod Tables
 pub mod Repeats
 pub mod Blocks
+pub mod BlockEnds
+pub mod RepeatEnds

@@ -1,6 +1,6 @@
 // AB and SR, opening and closing: each is tested by its rules, then the entries, the table of apertures and the progress follow.
 ghost use mathlib.Core.Path.{_≡_};
-ghost use Prim.Native.Nat.{_≤_};
+ghost use Prim.Native.Nat.{ℕ};
 ghost use Rattle.reading.specs.Steps.{blockStartStep, blockEndStep, repeatStartStep, repeatEndStep};
 ghost use Rattle.bounds.specs.Bounded.{Repeats};
 ghost use Rattle.progress.specs.Lent.{withEntries, withApertures};
@@ -97,6 +97,57 @@ pub fn block_start(e: &mut [u64], a: &mut [u64], p: Progress, place: u64, n: u64
         copies: p.copies,
         sheet: p.sheet,
         apertures: used + 1,
+        macros: p.macros,
+        numbers: p.numbers,
+    })
+}
+
+// AB, closing: the record of its number is a block from here on.
+pub fn block_end(e: &mut [u64], a: &mut [u64], p: Progress) -> Stepped
+    requires { ⌜ Known (λ w. (w .entries ≡ now e) × (w .apertures ≡ now a)) p ⌝ }
+    ensures { λ r. ⌜ ((place : ℕ) → StepsTo (λ room s. blockEndStep place s) (λ w. (w .entries ≡ now (e .entry)) × (w .apertures ≡ now (a .entry)))
+        (λ w. withApertures (now (a .exit)) (withEntries (now (e .exit)) w)) p r) ⌝ }
+{
+    let g = p.graphics;
+    let b = p.builder;
+    let fault = rules::closing_fault(g, progress::level_of(p), 1);
+    if fault != 0 {
+        return Stepped::Fault(fault);
+    }
+    let builder = close::close_block(e, a, b);
+    Stepped::Next(Progress {
+        graphics: changes::after(Command::BlockEnd, g),
+        builder,
+        contour: p.contour,
+        depth: p.depth - 1,
+        copies: p.copies,
+        sheet: p.sheet,
+        apertures: p.apertures,
+        macros: p.macros,
+        numbers: p.numbers,
+    })
+}
+
+// SR, closing: the sheet goes on with the copies.
+pub fn repeat_end(e: &mut [u64], p: Progress) -> Stepped
+    requires { ⌜ Known (λ w. w .entries ≡ now e) p ⌝ }
+    ensures { λ r. ⌜ ((place : ℕ) → StepsTo (λ room s. repeatEndStep place s) (λ w. w .entries ≡ now (e .entry)) (λ w. withEntries (now (e .exit)) w) p r) ⌝ }
+{
+    let g = p.graphics;
+    let b = p.builder;
+    let fault = rules::closing_fault(g, progress::level_of(p), 2);
+    if fault != 0 {
+        return Stepped::Fault(fault);
+    }
+    let builder = close::close_repeat(e, b, p.copies);
+    Stepped::Next(Progress {
+        graphics: changes::after(Command::RepeatEnd, g),
+        builder,
+        contour: p.contour,
+        depth: p.depth,
+        copies: 1,
+        sheet: 0,
+        apertures: p.apertures,
         macros: p.macros,
         numbers: p.numbers,
     })

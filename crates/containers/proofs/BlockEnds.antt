@@ -1,0 +1,221 @@
+-- A block that closes: its fault, and what is known behind it.
+-- Assumes nothing.
+use Prim.Native.Nat.{ℕ, suc, _+_, _-_, _*_, _≤_, _<_, _^_}
+use mathlib.Core.Path.{_≡_, refl, sym, ap, _∙_}
+use mathlib.Core.Bool.{Bool, true, false, not}
+use mathlib.Core.List.{List, [], _∷_, _++_}
+use native.Mathlib.Nat.{le-refl}
+use native.Mathlib.Omega.{arith}
+use lib.Dec.{eqb, lit≤}
+use borrow.Author.Tests.{not-false, eqb-true}
+use Rattle.base.specs.Or.{_or_}
+use Rattle.place.specs.Mark.{finish, edges, written}
+use Rattle.graphics.specs.declared.Graphics.{Graphics}
+use Rattle.graphics.specs.Graphics.{origin, unset, withPoint}
+use Rattle.command.specs.declared.Command.the-variants as command
+use Rattle.changes.specs.After.{after}
+use Rattle.fits.specs.declared.Level.{Level}
+use Rattle.drawing.specs.Counts.{most, counted}
+use Rattle.rules.specs.Rules.{closingFault}
+use Rattle.marks.specs.Marks.{marksOf}
+use Rattle.bounds.proofs.Tables.{neither}
+use Rattle.sheet.specs.Records.{entryRoom, apertureOf, apertureRoom}
+use Rattle.building.specs.Open.{opener}
+use Rattle.build.specs.declared.Builder.{Builder}
+use Rattle.close.specs.Closed.{Closes, BlockClosed}
+use Rattle.shown.specs.Shown.{blank, Shows}
+use Rattle.shown.proofs.Marks.{one-more}
+use Rattle.shown.proofs.Ends.{closes-block}
+use Rattle.reading.specs.State.{Room, State}
+use Rattle.reading.specs.Apertures.{closing}
+use Rattle.reading.specs.Steps as steps
+use Rattle.reading.specs.Steps.{Step, passed, withLevel, withOpened, blockEnds, blockEndStep}
+use Rattle.progress.specs.declared.Progress.{Progress}
+use Rattle.progress.specs.Lent.{Lent, roomOf, withEntries, withApertures}
+use Rattle.progress.specs.Levels.{levelOf}
+use Rattle.progress.specs.Tables.{ApertureTable, Chosen}
+use Rattle.progress.specs.Around.{Around}
+use Rattle.progress.specs.Knows.{Knows, Known, Follows, StepsTo}
+use Rattle.progress.specs.declared.Stepped.the-variants.{Next, Fault}
+use Rattle.progress.proofs.Levels.{block-level}
+use Rattle.containers.proofs.Around.{around-same, start-below}
+use Rattle.containers.proofs.Faults.{row-false}
+use Rattle.containers.proofs.Levels.{inside-block, AroundBlock, around-block}
+use Rattle.containers.proofs.Tables.{closing-room, closing-kept, table-closed, chosen-closed}
+
+-- how far reading has come behind the AB that closes
+abbrev pub unblocked : Progress → Builder → Progress
+unblocked p b = record {
+  graphics = after command.BlockEnd (p .graphics);
+  builder = b;
+  contour = p .contour;
+  depth = p .depth - 1;
+  copies = p .copies;
+  sheet = p .sheet;
+  apertures = p .apertures;
+  macros = p .macros;
+  numbers = p .numbers;
+}
+
+module _ (w : Lent) (s : State) (p : Progress) (k : Knows w p s) where
+  pub block-end-fault : (place : ℕ) → blockEndStep place s .fault ≡ closingFault (p .graphics) (levelOf p) 1
+  unfolding blockEndStep
+  block-end-fault place = λ i. closingFault (sym (k .graphics) i) (sym (k .level) i) 1
+
+  module _ (none : closingFault (p .graphics) (levelOf p) 1 ≡ 0) where
+    passes : (p .graphics .region .on ≡ false) × (not (eqb (levelOf p .inside) 1) ≡ false)
+    unfolding closingFault
+    passes = neither _ _ (row-false _ 7 _ (lit≤ tt) none .0)
+
+    off : s .graphics .region .contour ≡ true → ⊥
+    off q =
+        let z : true ≡ false = sym (k .inside q) ∙ ap (λ (g : Graphics). g .region .on) (sym (k .graphics)) ∙ passes .0 in
+        let y : _≡_ {A = ℕ} 0 1 = cc in
+        omega arith
+
+    low : p .builder .height ≤ 8
+    unfolding levelOf
+    low = inside-block (p .builder .height) (p .builder .items) (p .depth) (p .copies) (p .sheet) (eqb-true _ _ (not-false _ (passes .1)))
+
+    level-is : s .level ≡ record { inside = 1; items = p .builder .items; height = p .builder .height; depth = p .depth; copies = 1; sheet = 0 }
+    unfolding levelOf
+    level-is = sym (k .level) ∙ block-level (p .builder .height) (p .builder .items) (p .depth) (p .copies) (p .sheet) low
+
+    few : p .builder .items ≤ most
+    unfolding counted
+    few = let c = (rw level-is at (k .counts)) .within in omega arith
+
+    inner : AroundBlock (w .entries) (w .apertures) (entryRoom (w .entries)) (p .apertures) (s .opened) (p .builder .start) (p .builder .height) (p .depth) (p .copies) (p .sheet)
+    inner = around-block (w .entries) (w .apertures) (entryRoom (w .entries)) (p .apertures) (s .opened) (p .builder .start) (p .builder .height) (p .depth) (p .copies) (p .sheet) low (k .around)
+
+    pub block-deep : 1 ≤ p .depth
+    block-deep = inner .here .some
+
+    pub block-closes : Closes (w .entries) (p .builder)
+    block-closes =
+        let below = inner .here .below in
+        record {
+          some = omega arith;
+          below = start-below (written (s .marks) blank) (w .entries) (w .apertures) (entryRoom (w .entries)) (p .apertures) (p .builder) (k .shows);
+          fits = k .shows .fits;
+        }
+
+    abbrev who : ℕ
+    who = opener (w .entries) (entryRoom (w .entries)) (p .builder .start) .who
+
+    pub block-record : who < apertureRoom (w .apertures)
+    block-record = closing-room (w .apertures) (p .apertures) (s .apertures) (k .apertures) who 0 0 0 0 (inner .here .early)
+
+    module _ (e′ a′ : List ℕ) (b : Builder) (c : BlockClosed (w .entries) e′ (w .apertures) a′ (p .builder) b) where
+      abbrev n : ℕ
+      n = inner .number
+
+      table-then : ApertureTable a′ (p .apertures) (closing n (p .builder .items) (p .builder .height) (s .apertures))
+      table-then =
+          rw (c .stores, ← inner .here .number)
+          (table-closed (w .apertures) (p .apertures) (s .apertures) (k .apertures) who (p .builder .closed) (p .builder .high - p .builder .start) (p .builder .items) (p .builder .height)
+          (inner .here .early) few low)
+
+      kept : (j : ℕ) → (j ≡ who → ⊥) → apertureOf a′ j ≡ apertureOf (w .apertures) j
+      kept j ne = rw (c .stores) (closing-kept (w .apertures) (p .apertures) (s .apertures) (k .apertures) who (p .builder .closed) (p .builder .high - p .builder .start) (p .builder .items) (p .builder .height) (inner .here .early) j ne)
+
+      chosen-then : Chosen a′ (p .apertures) (s .graphics .aperture)
+      chosen-then =
+          rw (c .stores)
+          (chosen-closed (w .apertures) (p .apertures) (s .apertures) (k .apertures) who (p .builder .closed) (p .builder .high - p .builder .start) (p .builder .items) (p .builder .height)
+          (inner .here .early) (s .graphics .aperture) (inner .here .is-open) (k .aperture))
+
+      openers : (q : ℕ) → 1 ≤ q → q ≤ p .builder .start - 1 → opener (w .entries) (entryRoom (w .entries)) q ≡ opener e′ (entryRoom (w .entries)) q
+      openers q some below =
+          let one : suc (q - 1) ≡ q = omega arith in
+          rw one at (c .leaves .moved .same-stack (q - 1) (omega arith))
+
+      around-then : Around e′ a′ (entryRoom e′) (p .apertures) (inner .others) (b .start) (b .height) (p .depth - 1) (p .copies) (p .sheet)
+      around-then =
+          let below = inner .here .below in
+          let early = inner .here .early in
+          rw (c .leaves .moved .as-long, c .next)
+          (around-same (w .entries) (w .apertures) e′ a′ (entryRoom (w .entries)) (p .builder .start - 1) who openers
+          (λ i l. sym (kept i (λ q. let z : i ≡ who = q in absurd (omega arith))))
+          (inner .others) who (p .apertures) _ _ (p .depth - 1) (p .copies) (p .sheet) (omega arith) (le-refl _) (omega arith) (inner .rest))
+
+      shows-then : Shows (s .marks ++ finish ∷ []) e′ a′ (entryRoom e′) (p .apertures) b
+      unfolding edges
+      shows-then =
+          let rooms = k .apertures .indexed .tree .inside in
+          rw (one-more (s .marks) finish refl, c .leaves .moved .as-long)
+          (closes-block (written (s .marks) blank) (w .entries) e′ (w .apertures) a′ (p .apertures) (p .builder) b (k .shows) low few (omega arith) c)
+
+      entries-then : b .closed + b .high ≡ s .entries + 0
+      entries-then =
+          let q = k .entries in
+          let below = block-closes .below in
+          rw (c .next) (omega arith)
+
+      next-is : (place : ℕ) → blockEndStep place s .next ≡
+          withLevel (inner .outer) (withOpened (inner .others) (steps.withApertures (closing n (p .builder .items) (p .builder .height) (s .apertures)) (passed command.BlockEnd place 0 s)))
+      unfolding blockEndStep blockEnds passed
+      next-is place =
+          ap (λ os. blockEnds os (passed command.BlockEnd place 0 s)) (inner .is)
+          ∙ (λ i. withLevel (inner .outer) (withOpened (inner .others) (steps.withApertures (closing n (level-is i .items) (level-is i .height) (s .apertures)) (passed command.BlockEnd place 0 s))))
+
+      pub block-ends : (place : ℕ) → Knows (withApertures a′ (withEntries e′ w)) (unblocked p b) (blockEndStep place s .next)
+      unfolding withLevel withOpened steps.withApertures passed withEntries withApertures after withPoint unset origin marksOf levelOf
+      block-ends place =
+          rw (next-is place)
+          (record {
+            graphics = ap (after command.BlockEnd) (k .graphics);
+            point = record { across = lit≤ tt; up = lit≤ tt };
+            mode = k .mode;
+            inside = k .inside;
+            aperture = chosen-then;
+            level = rw (c .next) (inner .here .level);
+            counts = inner .here .counts;
+            around = around-then;
+            apertures = table-then;
+            macros = k .macros;
+            numbers = k .numbers;
+            entries = entries-then;
+            shows = shows-then;
+            contour = λ q. absurd (off q);
+          })
+
+-- the AB that closes comes to its fault, or to what is known behind it; what the calls answer is handed in
+module _ (e a : List ℕ) (p : Progress) (l : Level) (level-told : l ≡ levelOf p) (fault : ℕ) (fault-told : fault ≡ closingFault (p .graphics) l 1) where
+  abbrev lends : Lent → Type 0
+  lends w = (w .entries ≡ e) × (w .apertures ≡ a)
+
+  fault-is : fault ≡ closingFault (p .graphics) (levelOf p) 1
+  fault-is = fault-told ∙ (λ i. closingFault (p .graphics) (level-told i) 1)
+
+  pub block-end-refused : (e′ a′ : List ℕ) → 1 ≤ fault → (place : ℕ) → StepsTo (λ room s. blockEndStep place s) lends (λ w. withApertures a′ (withEntries e′ w)) p (Fault fault)
+  unfolding Follows
+  block-end-refused e′ a′ some place w s q k = (block-end-fault w s p k place ∙ sym fault-is, some)
+
+  module _ (known : Known lends p) (none : fault ≡ 0) where
+    pub block-end-deep : 1 ≤ p .depth
+    block-end-deep = block-deep (known .lent) (known .state) p (known .knows) (sym fault-is ∙ none)
+
+    pub block-end-closes : Closes e (p .builder) × (opener e (entryRoom e) (p .builder .start) .who < apertureRoom a)
+    block-end-closes =
+        let w = known .lent in
+        let k = known .knows in
+        rw (← known .is .0, ← known .is .1) (block-closes w (known .state) p k (sym fault-is ∙ none), block-record w (known .state) p k (sym fault-is ∙ none))
+
+    pub block-end-ends : (e′ a′ : List ℕ) (b : Builder) → BlockClosed e e′ a a′ (p .builder) b → (g : Graphics) → g ≡ after command.BlockEnd (p .graphics) →
+        (place : ℕ) → StepsTo (λ room s. blockEndStep place s) lends (λ w. withApertures a′ (withEntries e′ w)) p
+        (Next (record {
+          graphics = g;
+          builder = b;
+          contour = p .contour;
+          depth = p .depth - 1;
+          copies = p .copies;
+          sheet = p .sheet;
+          apertures = p .apertures;
+          macros = p .macros;
+          numbers = p .numbers;
+        }))
+    unfolding Follows
+    block-end-ends e′ a′ b c g g-is place w s q k =
+        let closed : BlockClosed (w .entries) e′ (w .apertures) a′ (p .builder) b = rw (q .0, q .1) c in
+        rw g-is (block-end-fault w s p k place ∙ sym fault-is ∙ none, block-ends w s p k (sym fault-is ∙ none) e′ a′ b closed place)
