@@ -1,15 +1,14 @@
 -- What is open around stays so where its openers and its records stay.
 -- Assumes nothing.
-use Prim.Native.Nat.{ℕ, suc, _+_, _-_, _≤_, _<_}
-use mathlib.Core.Path.{_≡_, refl, sym, ap, _∙_}
+use Prim.Native.Nat.{ℕ, _-_, _≤_, _<_}
+use mathlib.Core.Path.{_≡_, sym, ap, _∙_}
 use mathlib.Core.List.{List, [], _∷_}
 use native.Mathlib.Nat.{le-refl}
 use native.Mathlib.Omega.{arith}
-use lib.Dec.{lit≤}
 use Rattle.place.specs.Mark.{top, within, Sheet}
 use Rattle.place.specs.Mark as mark
 use Rattle.place.specs.declared.Item.{Item}
-use Rattle.sheet.specs.Records.{apertureOf, entryRoom}
+use Rattle.sheet.specs.Records.{apertureOf}
 use Rattle.sheet.specs.declared.Aperture.{Aperture}
 use Rattle.building.specs.Open as building
 use Rattle.building.specs.Open.{opener}

@@ -1,8 +1,8 @@
 -- A block that closes: its fault, and what is known behind it.
 -- Assumes nothing.
-use Prim.Native.Nat.{ℕ, suc, _+_, _-_, _*_, _≤_, _<_, _^_}
+use Prim.Native.Nat.{ℕ, suc, _+_, _-_, _≤_, _<_}
 use mathlib.Core.Path.{_≡_, refl, sym, ap, _∙_}
-use mathlib.Core.Bool.{Bool, true, false, not}
+use mathlib.Core.Bool.{false, not}
 use mathlib.Core.List.{List, [], _∷_, _++_}
 use native.Mathlib.Nat.{le-refl}
 use native.Mathlib.Omega.{arith}
@@ -26,12 +26,12 @@ use Rattle.close.specs.Closed.{Closes, BlockClosed}
 use Rattle.shown.specs.Shown.{blank, Shows}
 use Rattle.shown.proofs.Marks.{one-more}
 use Rattle.shown.proofs.Ends.{closes-block}
-use Rattle.reading.specs.State.{Room, State}
+use Rattle.reading.specs.State.{State}
 use Rattle.reading.specs.Apertures.{closing}
 use Rattle.reading.specs.Steps as steps
-use Rattle.reading.specs.Steps.{Step, passed, withLevel, withOpened, blockEnds, blockEndStep}
+use Rattle.reading.specs.Steps.{passed, withLevel, withOpened, blockEnds, blockEndStep}
 use Rattle.progress.specs.declared.Progress.{Progress}
-use Rattle.progress.specs.Lent.{Lent, roomOf, withEntries, withApertures}
+use Rattle.progress.specs.Lent.{Lent, withEntries, withApertures}
 use Rattle.progress.specs.Levels.{levelOf}
 use Rattle.progress.specs.Tables.{ApertureTable, Chosen}
 use Rattle.progress.specs.Around.{Around}
@@ -39,7 +39,7 @@ use Rattle.progress.specs.Knows.{Knows, Known, Follows, StepsTo}
 use Rattle.progress.specs.declared.Stepped.the-variants.{Next, Fault}
 use Rattle.progress.proofs.Levels.{block-level}
 use Rattle.containers.proofs.Around.{around-same, start-below}
-use Rattle.containers.proofs.Faults.{row-false}
+use Rattle.containers.proofs.Faults.{row-false, no-contour}
 use Rattle.containers.proofs.Levels.{inside-block, AroundBlock, around-block}
 use Rattle.containers.proofs.Tables.{closing-room, closing-kept, table-closed, chosen-closed}
 
@@ -66,12 +66,6 @@ module _ (w : Lent) (s : State) (p : Progress) (k : Knows w p s) where
     passes : (p .graphics .region .on ≡ false) × (not (eqb (levelOf p .inside) 1) ≡ false)
     unfolding closingFault
     passes = neither _ _ (row-false _ 7 _ (lit≤ tt) none .0)
-
-    off : s .graphics .region .contour ≡ true → ⊥
-    off q =
-        let z : true ≡ false = sym (k .inside q) ∙ ap (λ (g : Graphics). g .region .on) (sym (k .graphics)) ∙ passes .0 in
-        let y : _≡_ {A = ℕ} 0 1 = cc in
-        omega arith
 
     low : p .builder .height ≤ 8
     unfolding levelOf
@@ -177,7 +171,7 @@ module _ (w : Lent) (s : State) (p : Progress) (k : Knows w p s) where
             numbers = k .numbers;
             entries = entries-then;
             shows = shows-then;
-            contour = λ q. absurd (off q);
+            contour = λ q. absurd (no-contour w p s k (passes .0) q);
           })
 
 -- the AB that closes comes to its fault, or to what is known behind it; what the calls answer is handed in

@@ -1,6 +1,6 @@
 -- A block that opens: its fault, and what is known behind it.
 -- Assumes nothing.
-use Prim.Native.Nat.{ℕ, suc, _+_, _-_, _*_, _≤_, _<_, _^_}
+use Prim.Native.Nat.{ℕ, suc, _+_, _-_, _≤_, _<_}
 use mathlib.Core.Path.{_≡_, refl, sym, ap, _∙_}
 use mathlib.Core.Bool.{Bool, true, false, not}
 use mathlib.Core.List.{List, [], _∷_, _++_}
@@ -8,7 +8,6 @@ use native.Mathlib.Nat.{le-refl}
 use native.Mathlib.Numerals.{add-one}
 use native.Mathlib.Omega.{arith}
 use lib.Dec.{eqb, leb, ltb, lit≤}
-use lib.ListN.{length}
 use borrow.Author.Tests.{not-false, leb-false}
 use Rattle.base.specs.Or.{_or_}
 use Rattle.place.specs.Mark.{begin, block, edges, written}
@@ -18,21 +17,21 @@ use Rattle.command.specs.Choose.{pick}
 use Rattle.command.specs.declared.Command.the-variants as command
 use Rattle.changes.specs.After.{after}
 use Rattle.fits.specs.declared.Level.{Level}
-use Rattle.drawing.specs.Counts.{most, counted}
+use Rattle.drawing.specs.Counts.{counted}
 use Rattle.rules.specs.Rules.{blockStartFault}
 use Rattle.marks.specs.Marks.{marksOf}
 use Rattle.bounds.proofs.Tables.{neither}
 use Rattle.index.specs.declared.Search.{Search}
 use Rattle.index.specs.declared.Search.the-variants.{At, Free}
 use Rattle.index.specs.Numbers.{numbered, Numbered}
-use Rattle.sheet.specs.Records.{entryOf, entryRoom, apertureOf, apertureRoom}
+use Rattle.sheet.specs.Records.{entryRoom, apertureOf, apertureRoom}
 use Rattle.sheet.specs.Valid.{isBlock}
 use Rattle.sheet.specs.declared.Aperture.{Aperture}
 use Rattle.stack.specs.Stack.{hasRoom, pushed}
 use Rattle.stack.proofs.Turning.{room-left}
 use Rattle.tables.specs.Added.{added}
 use Rattle.tables.specs.Apertures.{apertureWords}
-use Rattle.tables.proofs.Apertures.{aperture-numbered, aperture-long}
+use Rattle.tables.proofs.Apertures.{aperture-numbered}
 use Rattle.building.specs.Open.{opener}
 use Rattle.build.specs.declared.Builder.{Builder}
 use Rattle.build.specs.declared.Put.{Put}
@@ -43,7 +42,7 @@ use Rattle.shown.specs.Shown.{blank, Shows}
 use Rattle.shown.proofs.Entries.{pushed-is}
 use Rattle.shown.proofs.Marks.{one-more, opens-block}
 use Rattle.reading.specs.State as opened
-use Rattle.reading.specs.State.{Room, Opened, State}
+use Rattle.reading.specs.State.{Room, State}
 use Rattle.reading.specs.Apertures.{isTaken, opening}
 use Rattle.reading.specs.Levels.{inBlock}
 use Rattle.reading.specs.Steps as steps
@@ -58,7 +57,7 @@ use Rattle.progress.specs.declared.Stepped.the-variants.{Next, Fault}
 use Rattle.progress.proofs.Levels.{block-level}
 use Rattle.progress.proofs.Apertures.{number-is, taken-at, taken-free, known-long, record-kept, record-new, table-more, chosen-kept}
 use Rattle.containers.proofs.Around.{around-same, start-below}
-use Rattle.containers.proofs.Faults.{row-false, full-is}
+use Rattle.containers.proofs.Faults.{row-false, no-contour, full-is}
 
 -- a number that is taken is a fault
 pub taken-fault : (g : Graphics) (l : Level) (full : Bool) → 1 ≤ blockStartFault g l true full
@@ -118,12 +117,6 @@ module _ (w : Lent) (s : State) (p : Progress) (k : Knows w p s) (place n : ℕ)
 
     pub record-room : p .apertures < apertureRoom (w .apertures)
     record-room = leb-false _ _ (neither _ _ (passes .2) .1)
-
-    off : s .graphics .region .contour ≡ true → ⊥
-    off q =
-        let z : true ≡ false = sym (k .inside q) ∙ ap (λ (g : Graphics). g .region .on) (sym (k .graphics)) ∙ passes .0 in
-        let y : _≡_ {A = ℕ} 0 1 = cc in
-        omega arith
 
     abbrev leaves : List ℕ
     leaves = pushed (w .entries) (p .builder .closed) (p .builder .high) (blockEntry (p .builder .items) (p .apertures) (p .builder .start) (p .builder .height) place)
@@ -213,7 +206,7 @@ module _ (w : Lent) (s : State) (p : Progress) (k : Knows w p s) (place n : ℕ)
           numbers = k .numbers;
           entries = omega arith;
           shows = shows-then;
-          contour = λ q. absurd (off q);
+          contour = λ q. absurd (no-contour w p s k (passes .0) q);
         }
 
 -- the table that is lent is searched

@@ -1,15 +1,14 @@
 -- A repeat that opens: what is known behind it.
 -- Assumes nothing.
-use Prim.Native.Nat.{ℕ, suc, _+_, _-_, _*_, _≤_, _<_, _^_}
+use Prim.Native.Nat.{ℕ, _+_, _-_, _*_, _≤_, _<_}
 use mathlib.Core.Path.{_≡_, refl, sym, ap, _∙_}
-use mathlib.Core.Bool.{Bool, true, false, not, cond}
+use mathlib.Core.Bool.{Bool, true, false, not}
 use mathlib.Core.List.{List, [], _∷_, _++_}
-use native.Mathlib.Nat.{le-refl, add-zero, one-le-mul, mul-le-mul}
+use native.Mathlib.Nat.{one-le-mul, mul-le-mul}
 use native.Mathlib.Numerals.{add-one}
 use native.Mathlib.Omega.{arith}
-use lib.Dec.{eqb, leb, ltb, lit≤}
-use borrow.Author.Tests.{not-false, leb-true, leb-false, eqb-true, eqb-false, le-leb, lt-leb, ne-eqb}
-use Rattle.base.specs.And.{_and_}
+use lib.Dec.{eqb, ltb, lit≤}
+use borrow.Author.Tests.{not-false, leb-true, eqb-true}
 use Rattle.base.specs.Or.{_or_}
 use Rattle.base.proofs.And.{and-l, and-r}
 use Rattle.decimal.specs.declared.answers.Amount.{Amount}
@@ -17,7 +16,6 @@ use Rattle.place.specs.Mark.{begin, repeat, edges, written}
 use Rattle.place.specs.declared.Repeat.{Repeat}
 use Rattle.graphics.specs.declared.Graphics.{Graphics}
 use Rattle.graphics.specs.Graphics.{origin, unset, withPoint}
-use Rattle.command.specs.Choose.{pick}
 use Rattle.command.specs.declared.Command.the-variants as command
 use Rattle.changes.specs.After.{after}
 use Rattle.fits.specs.declared.Level.{Level}
@@ -27,9 +25,8 @@ use Rattle.rules.specs.Rules.{repeatStartFault}
 use Rattle.marks.specs.Marks.{repeatOf, marksOf}
 use Rattle.bounds.specs.Bounded.{Repeats}
 use Rattle.bounds.proofs.Tables.{neither}
-use Rattle.sheet.specs.Records.{entryOf, entryRoom}
+use Rattle.sheet.specs.Records.{entryRoom}
 use Rattle.stack.specs.Stack.{hasRoom, pushed}
-use Rattle.stack.proofs.Turning.{room-left}
 use Rattle.building.specs.Open.{opener}
 use Rattle.build.specs.declared.Builder.{Builder}
 use Rattle.build.specs.declared.Put.{Put}
@@ -40,18 +37,18 @@ use Rattle.shown.specs.Shown.{blank, Shows}
 use Rattle.shown.proofs.Entries.{pushed-is}
 use Rattle.shown.proofs.Marks.{one-more, opens-repeat}
 use Rattle.reading.specs.State as opened
-use Rattle.reading.specs.State.{Opened, State}
+use Rattle.reading.specs.State.{State}
 use Rattle.reading.specs.Levels.{inRepeat}
 use Rattle.reading.specs.Steps.{passed, withLevel, withOpened, repeatStartStep}
 use Rattle.progress.specs.declared.Progress.{Progress}
 use Rattle.progress.specs.Lent.{Lent, roomOf, withEntries}
-use Rattle.progress.specs.Levels.{levelAt, levelOf, Counted}
+use Rattle.progress.specs.Levels.{levelOf, Counted}
 use Rattle.progress.specs.Around.{Around}
 use Rattle.progress.specs.Knows.{Knows, Known, Follows, StepsTo}
 use Rattle.progress.specs.declared.Stepped.the-variants.{Next, Fault}
-use Rattle.progress.proofs.Levels.{block-level, repeat-level, top-level}
+use Rattle.progress.proofs.Levels.{repeat-level, top-level}
 use Rattle.containers.proofs.Levels.{inside-top, around-top}
-use Rattle.containers.proofs.Faults.{row-false, full-is}
+use Rattle.containers.proofs.Faults.{row-false, no-contour, full-is}
 
 -- the bounds of SR
 pub record Counts (nx ny : ℕ) : Type 0 where
@@ -112,13 +109,6 @@ module _ (w : Lent) (s : State) (p : Progress) (k : Knows w p s) (place nx ny : 
 
     pub repeat-room : hasRoom (w .entries) (p .builder .closed) (p .builder .high) ≡ true
     repeat-room = passes .2
-
-    off : s .graphics .region .contour ≡ true → ⊥
-    off q =
-        let on = neither _ _ (passes .0) .0 in
-        let z : true ≡ false = sym (k .inside q) ∙ ap (λ (g : Graphics). g .region .on) (sym (k .graphics)) ∙ on in
-        let y : _≡_ {A = ℕ} 0 1 = cc in
-        omega arith
 
     at-top : (8 < p .builder .height) × (p .builder .height ≡ 9 → ⊥)
     unfolding levelOf
@@ -201,7 +191,7 @@ module _ (w : Lent) (s : State) (p : Progress) (k : Knows w p s) (place nx ny : 
           numbers = k .numbers;
           entries = omega arith;
           shows = shows-then;
-          contour = λ q. absurd (off q);
+          contour = λ q. absurd (no-contour w p s k (neither _ _ (passes .0) .0) q);
         }
 
 -- SR comes to its fault, or to what is known behind it; what the calls answer is handed in

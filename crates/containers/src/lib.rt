@@ -1,6 +1,7 @@
 // AB and SR, opening and closing: each is tested by its rules, then the entries, the table of apertures and the progress follow.
 ghost use mathlib.Core.Path.{_≡_};
 ghost use Prim.Native.Nat.{ℕ};
+ghost use lib.ListN.{length};
 ghost use Rattle.reading.specs.Steps.{blockStartStep, blockEndStep, repeatStartStep, repeatEndStep};
 ghost use Rattle.bounds.specs.Bounded.{Repeats};
 ghost use Rattle.progress.specs.Lent.{withEntries, withApertures};
@@ -13,53 +14,11 @@ use progress::Progress;
 use progress::Stepped;
 use sheet::Aperture;
 
-// SR, opening.
-pub fn repeat_start(
-    e: &mut [u64],
-    p: Progress,
-    place: u64,
-    nx: u64,
-    ny: u64,
-    dx: Amount,
-    dy: Amount,
-) -> Stepped
-    requires { ⌜ Known (λ w. w .entries ≡ now e) p ⌝ }
-    requires { ⌜ Repeats nx ny dx dy ⌝ }
-    ensures { λ r. ⌜ StepsTo (λ room s. repeatStartStep room place nx ny dx dy s) (λ w. w .entries ≡ now (e .entry)) (λ w. withEntries (now (e .exit)) w) p r ⌝ }
-{
-    let g = p.graphics;
-    let b = p.builder;
-    let full = !stack::has_room(e, b.closed, b.high);
-    let fault = rules::repeat_start_fault(
-        g,
-        progress::level_of(p),
-        rules::is_repeat(nx, ny, dx, dy),
-        full,
-    );
-    if fault != 0 {
-        return Stepped::Fault(fault);
-    }
-    let put = build::open_repeat(e, b, marks::repeat_of(nx, ny, dx, dy), place);
-    let Put::Next(builder) = put else {
-        return Stepped::Fault(17);
-    };
-    Stepped::Next(Progress {
-        graphics: changes::after(Command::RepeatStart { nx, ny, dx, dy }, g),
-        builder,
-        contour: p.contour,
-        depth: p.depth,
-        copies: nx * ny,
-        sheet: b.items,
-        apertures: p.apertures,
-        macros: p.macros,
-        numbers: p.numbers,
-    })
-}
-
 // AB, opening: the block's record stands open from here on, and its number is taken.
 pub fn block_start(e: &mut [u64], a: &mut [u64], p: Progress, place: u64, n: u64) -> Stepped
     requires { ⌜ Known (λ w. (w .entries ≡ now e) × (w .apertures ≡ now a)) p ⌝ }
-    ensures { λ r. ⌜ StepsTo (λ room s. blockStartStep room place n s) (λ w. (w .entries ≡ now (e .entry)) × (w .apertures ≡ now (a .entry)))
+    ensures { λ r. ⌜ (length (now (e .exit)) ≡ length (now (e .entry))) × (length (now (a .exit)) ≡ length (now (a .entry)))
+        × StepsTo (λ room s. blockStartStep room place n s) (λ w. (w .entries ≡ now (e .entry)) × (w .apertures ≡ now (a .entry)))
         (λ w. withApertures (now (a .exit)) (withEntries (now (e .exit)) w)) p r ⌝ }
 {
     let g = p.graphics;
@@ -105,7 +64,8 @@ pub fn block_start(e: &mut [u64], a: &mut [u64], p: Progress, place: u64, n: u64
 // AB, closing: the record of its number is a block from here on.
 pub fn block_end(e: &mut [u64], a: &mut [u64], p: Progress) -> Stepped
     requires { ⌜ Known (λ w. (w .entries ≡ now e) × (w .apertures ≡ now a)) p ⌝ }
-    ensures { λ r. ⌜ ((place : ℕ) → StepsTo (λ room s. blockEndStep place s) (λ w. (w .entries ≡ now (e .entry)) × (w .apertures ≡ now (a .entry)))
+    ensures { λ r. ⌜ (length (now (e .exit)) ≡ length (now (e .entry))) × (length (now (a .exit)) ≡ length (now (a .entry)))
+        × ((place : ℕ) → StepsTo (λ room s. blockEndStep place s) (λ w. (w .entries ≡ now (e .entry)) × (w .apertures ≡ now (a .entry)))
         (λ w. withApertures (now (a .exit)) (withEntries (now (e .exit)) w)) p r) ⌝ }
 {
     let g = p.graphics;
@@ -128,10 +88,55 @@ pub fn block_end(e: &mut [u64], a: &mut [u64], p: Progress) -> Stepped
     })
 }
 
+// SR, opening.
+pub fn repeat_start(
+    e: &mut [u64],
+    p: Progress,
+    place: u64,
+    nx: u64,
+    ny: u64,
+    dx: Amount,
+    dy: Amount,
+) -> Stepped
+    requires { ⌜ Known (λ w. w .entries ≡ now e) p ⌝ }
+    requires { ⌜ Repeats nx ny dx dy ⌝ }
+    ensures { λ r. ⌜ (length (now (e .exit)) ≡ length (now (e .entry)))
+        × StepsTo (λ room s. repeatStartStep room place nx ny dx dy s) (λ w. w .entries ≡ now (e .entry)) (λ w. withEntries (now (e .exit)) w) p r ⌝ }
+{
+    let g = p.graphics;
+    let b = p.builder;
+    let full = !stack::has_room(e, b.closed, b.high);
+    let fault = rules::repeat_start_fault(
+        g,
+        progress::level_of(p),
+        rules::is_repeat(nx, ny, dx, dy),
+        full,
+    );
+    if fault != 0 {
+        return Stepped::Fault(fault);
+    }
+    let put = build::open_repeat(e, b, marks::repeat_of(nx, ny, dx, dy), place);
+    let Put::Next(builder) = put else {
+        return Stepped::Fault(17);
+    };
+    Stepped::Next(Progress {
+        graphics: changes::after(Command::RepeatStart { nx, ny, dx, dy }, g),
+        builder,
+        contour: p.contour,
+        depth: p.depth,
+        copies: nx * ny,
+        sheet: b.items,
+        apertures: p.apertures,
+        macros: p.macros,
+        numbers: p.numbers,
+    })
+}
+
 // SR, closing: the sheet goes on with the copies.
 pub fn repeat_end(e: &mut [u64], p: Progress) -> Stepped
     requires { ⌜ Known (λ w. w .entries ≡ now e) p ⌝ }
-    ensures { λ r. ⌜ ((place : ℕ) → StepsTo (λ room s. repeatEndStep place s) (λ w. w .entries ≡ now (e .entry)) (λ w. withEntries (now (e .exit)) w) p r) ⌝ }
+    ensures { λ r. ⌜ (length (now (e .exit)) ≡ length (now (e .entry)))
+        × ((place : ℕ) → StepsTo (λ room s. repeatEndStep place s) (λ w. w .entries ≡ now (e .entry)) (λ w. withEntries (now (e .exit)) w) p r) ⌝ }
 {
     let g = p.graphics;
     let b = p.builder;

@@ -1,81 +1,57 @@
+-- `containers::repeat_start` meets its contract: its faults, and the repeat that opens.
 use borrow.Author.Needs.{needs}
 use Rattle.containers.proofs.repeat_start.Statement.{statement}
 use Rattle.containers.proofs.repeat_start.Tie as tie
-use Rattle.containers.proofs.repeat_start.Reads as reads
-use Rattle.containers.proofs.repeat_start.Lts as lts
-use Rattle.build.proofs.open_repeat.Reads as open-repeat-reads
-use Rattle.changes.proofs.after.Reads as after-reads
-use Rattle.marks.proofs.repeat_of.Reads as repeat-of-reads
-use Rattle.progress.proofs.level_of.Reads as level-of-reads
-use Rattle.rules.proofs.is_repeat.Reads as is-repeat-reads
-use Rattle.rules.proofs.repeat_start_fault.Reads as repeat-start-fault-reads
 use native.Mathlib.Omega.{arith}
 use Rattle.containers.proofs.Repeats as repeats
-use Rattle.stack.proofs.has_room.Reads as has-room-reads
 
--- src/lib.rt:24:17
 has-room-requires : tie.Need-has-room-requires
 has-room-requires c κs = search needs
 
--- src/lib.rt:25:46
 level-of-requires : tie.Need-level-of-requires
 level-of-requires c κs = search needs
 
--- src/lib.rt:25:69
 is-repeat-requires : tie.Need-is-repeat-requires
 is-repeat-requires c κs = search needs
 
--- src/lib.rt:25:9
 repeat-start-fault-requires : tie.Need-repeat-start-fault-requires
 repeat-start-fault-requires c κs = search needs
 
--- src/lib.rt:27:9
 same-length : tie.Need-same-length
 same-length c = search needs
 
--- src/lib.rt:27:9
 returns : tie.Need-returns
-returns c = repeats.repeat-refused _ (c .before .before .before .before .before .before .before .before .before .args .p) (c .before .before .before .before .before .before .before .before .before .args .place) _ _ _ _ (c .before .before .before .before .before .before .before .before .before .pre .1) _ (c .before .before .before .before .has-room .ensures) _ (c .before .before .before .level-of .ensures) _ (c .before .before .is-repeat .ensures) _ (c .before .repeat-start-fault .ensures) _ (omega arith)
+returns c = (same-length c, repeats.repeat-refused _ (c .before .before .before .before .before .before .before .before .before .args .p) (c .before .before .before .before .before .before .before .before .before .args .place) _ _ _ _ (c .before .before .before .before .before .before .before .before .before .pre .1) _ (c .before .before .before .before .has-room .ensures) _ (c .before .before .before .level-of .ensures) _ (c .before .before .is-repeat .ensures) _ (c .before .repeat-start-fault .ensures) _ (omega arith))
 
--- src/lib.rt:29:40
 repeat-of-requires : tie.Need-repeat-of-requires
 repeat-of-requires c κs = search needs
 
--- src/lib.rt:29:9
 open-repeat-requires : tie.Need-open-repeat-requires
 open-repeat-requires c κs = search needs
 
--- src/lib.rt:30:19
 enum-known-put : tie.Need-enum-known-put
 enum-known-put c = search needs
 
--- src/lib.rt:31:9
 enum-told : tie.Need-enum-told
 enum-told c = search needs
 
--- src/lib.rt:31:9
 same-length-2 : tie.Need-same-length-2
 same-length-2 c = search needs
 
--- src/lib.rt:31:9
 returns-2 : tie.Need-returns-2
 returns-2 c = absurd (repeats.repeat-fits _ (c .before .before .before .before .before .before .before .before .before .before .before .before .before .before .before .before .args .p) (c .before .before .before .before .before .before .before .before .before .before .before .before .before .before .before .before .args .place) _ _ _ _ (c .before .before .before .before .before .before .before .before .before .before .before .before .before .before .before .before .pre .1) _ (c .before .before .before .before .before .before .before .before .before .before .before .has-room .ensures) _ (c .before .before .before .before .before .before .before .before .before .before .level-of .ensures) _ (c .before .before .before .before .before .before .before .before .before .is-repeat .ensures) _ (c .before .before .before .before .before .before .before .before .repeat-start-fault .ensures) (c .before .before .before .before .before .before .before .before .before .before .before .before .before .before .before .before .pre .0) (omega arith) _ (c .before .before .before .before .open-repeat .ensures .0) (c .enum-told .given .1))
 
--- src/lib.rt:34:19
 after-requires : tie.Need-after-requires
 after-requires c κs = search needs
 
--- src/lib.rt:38:17
 mul-t23 : tie.Need-mul-t23
 mul-t23 c = let few = repeats.repeat-few _ (c .before .before .before .before .before .before .before .before .before .before .before .before .before .before .before .before .before .before .args .p) (c .before .before .before .before .before .before .before .before .before .before .before .before .before .before .before .before .before .before .args .place) _ _ _ _ (c .before .before .before .before .before .before .before .before .before .before .before .before .before .before .before .before .before .before .pre .1) _ (c .before .before .before .before .before .before .before .before .before .before .before .before .before .has-room .ensures) _ (c .before .before .before .before .before .before .before .before .before .before .before .before .level-of .ensures) _ (c .before .before .before .before .before .before .before .before .before .before .before .is-repeat .ensures) _ (c .before .before .before .before .before .before .before .before .before .before .repeat-start-fault .ensures) (c .before .before .before .before .before .before .before .before .before .before .before .before .before .before .before .before .before .before .pre .0) (omega arith) in omega arith
 
--- src/lib.rt:17:1
 same-length-3 : tie.Need-same-length-3
 same-length-3 c = search needs
 
--- src/lib.rt:17:1
 returns-3 : tie.Need-returns-3
-returns-3 c = repeats.repeat-opens _ (c .before .before .before .before .before .before .before .before .before .before .before .before .before .before .before .before .before .before .args .p) (c .before .before .before .before .before .before .before .before .before .before .before .before .before .before .before .before .before .before .args .place) _ _ _ _ (c .before .before .before .before .before .before .before .before .before .before .before .before .before .before .before .before .before .before .pre .1) _ (c .before .before .before .before .before .before .before .before .before .before .before .before .before .has-room .ensures) _ (c .before .before .before .before .before .before .before .before .before .before .before .before .level-of .ensures) _ (c .before .before .before .before .before .before .before .before .before .before .before .is-repeat .ensures) _ (c .before .before .before .before .before .before .before .before .before .before .repeat-start-fault .ensures) (c .before .before .before .before .before .before .before .before .before .before .before .before .before .before .before .before .before .before .pre .0) (omega arith) _ (c .before .before .before .before .before .before .open-repeat .ensures .0) _ _ (c .before .before .before .before .before .before .before .repeat-of .ensures) (c .before .before .before .before .before .before .open-repeat .ensures .1) _ (c .before .before .put .given .1) _ (c .after .ensures)
+returns-3 c = (same-length-3 c, repeats.repeat-opens _ (c .before .before .before .before .before .before .before .before .before .before .before .before .before .before .before .before .before .before .args .p) (c .before .before .before .before .before .before .before .before .before .before .before .before .before .before .before .before .before .before .args .place) _ _ _ _ (c .before .before .before .before .before .before .before .before .before .before .before .before .before .before .before .before .before .before .pre .1) _ (c .before .before .before .before .before .before .before .before .before .before .before .before .before .has-room .ensures) _ (c .before .before .before .before .before .before .before .before .before .before .before .before .level-of .ensures) _ (c .before .before .before .before .before .before .before .before .before .before .before .is-repeat .ensures) _ (c .before .before .before .before .before .before .before .before .before .before .repeat-start-fault .ensures) (c .before .before .before .before .before .before .before .before .before .before .before .before .before .before .before .before .before .before .pre .0) (omega arith) _ (c .before .before .before .before .before .before .open-repeat .ensures .0) _ _ (c .before .before .before .before .before .before .before .repeat-of .ensures) (c .before .before .before .before .before .before .open-repeat .ensures .1) _ (c .before .before .put .given .1) _ (c .after .ensures))
 
 pub repeat-start-spec : {M : Type 1} → statement M
 repeat-start-spec =
