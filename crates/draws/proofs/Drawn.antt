@@ -1,0 +1,330 @@
+-- What is known behind a D01 that breaks no rule: outside a region, at the first of a contour, and at the others.
+-- Assumes nothing.
+use Prim.Native.Nat.{ℕ, suc, _+_, _-_, _≤_, _<_, _^_}
+use mathlib.Core.Path.{_≡_, refl, sym, ap, _∙_}
+use mathlib.Core.Bool.{Bool, true, false, cond, not, false≢true}
+use mathlib.Core.List.{List, [], _∷_, _++_, append-assoc}
+use native.Mathlib.Omega.{arith}
+use borrow.Author.Tests.{not-true, not-false}
+use Rattle.base.specs.And.{_and_}
+use Rattle.base.proofs.And.{and-l, and-r, false-and, ands}
+use Rattle.points.specs.Points.{Within}
+use Rattle.points.specs.declared.Point.{Point}
+use Rattle.place.specs.declared.Item.{Item}
+use Rattle.place.specs.Mark as mark
+use Rattle.place.specs.Mark.{withCount}
+use Rattle.sheet.specs.Records.{entryOf, entryRoom}
+use Rattle.stack.specs.Stack.{hasRoom, pushed}
+use Rattle.building.proofs.Grow.{not-raised}
+use Rattle.build.specs.declared.Builder.{Builder}
+use Rattle.build.specs.Builder.{grown}
+use Rattle.build.specs.Entries.{itemEntry}
+use Rattle.contours.specs.Counted.{edged}
+use Rattle.shown.proofs.Entries.{pushed-is}
+use Rattle.command.specs.declared.Axis.{Axis}
+use Rattle.command.specs.declared.Offset.{Offset}
+use Rattle.command.specs.declared.Command.the-variants as command
+use Rattle.graphics.specs.Graphics.{withPoint, withRegion}
+use Rattle.graphics.specs.declared.Graphics.{Graphics}
+use Rattle.changes.specs.After.{target, goingTo, startsContour, drawing, after}
+use Rattle.bounds.specs.Bounded.{Draws}
+use Rattle.bounds.proofs.Target.{target-within}
+use Rattle.fits.specs.declared.Level.{Level}
+use Rattle.drawing.specs.Counts.{most, counted}
+use Rattle.drawing.specs.Faults.{drawItems, drawFault}
+use Rattle.marks.specs.Items.{drawn, edge, contour}
+use Rattle.marks.specs.Marks.{drawMarks, marksOf}
+use Rattle.reading.specs.State.{State}
+use Rattle.reading.specs.Steps.{drawStep}
+use Rattle.progress.specs.Lent.{Lent, withEntries, roomOf}
+use Rattle.progress.specs.Levels.{levelAt, levelOf}
+use Rattle.progress.specs.Contour.{Contour}
+use Rattle.progress.specs.Knows.{Knows, Known, Follows, StepsTo}
+use Rattle.progress.specs.declared.Progress.{Progress}
+use Rattle.progress.specs.declared.Stepped.{Stepped}
+use Rattle.progress.specs.declared.Stepped.the-variants.{Next, Fault}
+use Rattle.draws.specs.Draws.{leftOf, advanced, Leads, MayDraw}
+use Rattle.draws.proofs.Faults.{and-rest, draw-mode, draw-counts, draw-room}
+use Rattle.draws.proofs.Levels.{items-few, items-level}
+use Rattle.draws.proofs.Within.{drawn-near, edge-near, contour-near}
+use Rattle.draws.proofs.Grown.{Grows, grown-knows}
+use Rattle.draws.proofs.Operations.{draw-moves}
+use Rattle.draws.proofs.Items.{start-low, below-pushed, has-room, item-grows}
+use Rattle.draws.proofs.Contours.{contour-shows, edged-room, contour-grows, contour-low, contour-few, contour-start, below-edged, contour-begun}
+use Rattle.draws.proofs.Known.{known-fits, known-kept, known-items, draw-faults}
+
+module _ (w : Lent) (p : Progress) (s : State) (k : Knows w p s) (place : ℕ) (x y : Axis) (o : Offset) (near : Draws x y o)
+    (none : drawFault (p .graphics) (levelOf p) (leftOf (w .entries) (p .builder)) x y o ≡ 0) where
+  none-there : drawFault (s .graphics) (s .level) (entryRoom (w .entries) - s .entries) x y o ≡ 0
+  unfolding drawStep roomOf
+  none-there = sym (draw-faults w p s k place x y o) ∙ none
+
+  left : p .builder .closed + p .builder .high + drawItems (s .graphics) ≤ entryRoom (w .entries)
+  left =
+      let l = draw-room _ _ _ _ _ _ none-there in
+      let q = k .entries in
+      let f = k .shows .fits in
+      omega arith
+
+  there : Within (10 ^ 12) (target (s .graphics) x y)
+  there = target-within (s .graphics) x y (k .point) (near .goes)
+
+  counts : counted (s .level) (drawItems (s .graphics)) ≤ most
+  counts = draw-counts _ _ _ _ _ _ none-there
+
+  mode : 1 ≤ s .graphics .mode
+  mode = draw-mode _ _ _ _ _ _ none-there
+
+  -- outside a region
+  module _ (outside : s .graphics .region .on ≡ false) where
+    one-item : drawItems (s .graphics) ≡ 1
+    unfolding drawItems startsContour
+    one-item = rw (outside, false-and (not (s .graphics .region .contour)))
+
+    item-marks : marksOf (command.Draw x y o) (s .graphics) place ≡ mark.draw (drawn (s .graphics) (target (s .graphics) x y) o place) ∷ []
+    unfolding marksOf drawMarks
+    item-marks = rw outside
+
+    item-none : after (command.Draw x y o) (s .graphics) .region .contour ≡ true → ⊥
+    unfolding after goingTo withPoint withRegion drawing
+    item-none q = false≢true (sym outside ∙ q)
+
+    pub item-knows : Knows (withEntries (pushed (w .entries) (p .builder .closed) (p .builder .high) (itemEntry (p .builder .items) (drawn (s .graphics) (target (s .graphics) x y) o place))) w)
+        (advanced p (after (command.Draw x y o) (s .graphics)) (grown (p .builder) 1 (p .builder .height)) (p .contour)) (drawStep (roomOf w) place x y o s .next)
+    unfolding drawStep drawn
+    item-knows =
+        let l = left in
+        let q = one-item in
+        let m = k .mode in
+        let n = mode in
+        rw one-item
+        (grown-knows w p s (command.Draw x y o) place 1 1 0 _ _ _ k (draw-moves w p s x y o k (near .goes))
+        (item-grows w p s k (omega arith) (command.Draw x y o) place (drawn (s .graphics) (target (s .graphics) x y) o place)
+        (drawn-near (s .graphics) (k .point) (target (s .graphics) x y) there place o (near .centre)) n (omega arith)
+        item-marks item-none (rw one-item at counts)))
+
+  -- an edge more of the open contour
+  abbrev e-edge : List ℕ
+  e-edge = edged (w .entries) (p .builder) (p .contour) (edge (s .graphics) (target (s .graphics) x y) o place)
+
+  module _ (inside : s .graphics .region .on ≡ true) (later : startsContour (s .graphics .region) ≡ false) where
+    is-open : s .graphics .region .contour ≡ true
+    unfolding startsContour
+    is-open = not-false _ (and-rest _ _ inside later)
+
+    one-edge : drawItems (s .graphics) ≡ 1
+    unfolding drawItems
+    one-edge = rw later
+
+    edge-marks : marksOf (command.Draw x y o) (s .graphics) place ≡ mark.edge (edge (s .graphics) (target (s .graphics) x y) o place) ∷ []
+    unfolding marksOf drawMarks
+    edge-marks = rw (later, inside)
+
+    pub edge-knows : Knows (withEntries e-edge w) (advanced p (after (command.Draw x y o) (s .graphics)) (grown (p .builder) 1 (p .builder .height)) (p .contour)) (drawStep (roomOf w) place x y o s .next)
+    unfolding drawStep edge grown levelOf
+    edge-knows =
+        let l = left in
+        let q = one-edge in
+        let m = k .mode in
+        let n = mode in
+        let d = k .contour is-open in
+        let t = edge-near (s .graphics) (k .point) (target (s .graphics) x y) there place o (near .centre) in
+        let fits : p .builder .closed + p .builder .high < entryRoom (w .entries) = omega arith in
+        let low : 1 ≤ edge (s .graphics) (target (s .graphics) x y) o place .kind = omega arith in
+        let up : edge (s .graphics) (target (s .graphics) x y) o place .kind ≤ 8 = omega arith in
+        let as-long = edged-room (w .entries) (w .apertures) (p .apertures) (p .builder) (p .contour) (s .marks) d fits _ t low up in
+        let grows = contour-grows (w .entries) (w .apertures) (p .apertures) (p .builder) (p .contour) (s .marks) d fits _ t low up in
+        rw one-edge
+        (grown-knows w p s (command.Draw x y o) place 1 1 0 _ _ _ k (draw-moves w p s x y o k (near .goes))
+        (record {
+          as-long = as-long;
+          below = below-edged (w .entries) (p .builder) (p .contour) _ fits (contour-low _ _ _ _ _ _ d) (p .builder .start) (contour-start _ _ _ _ _ _ d);
+          start-is = refl;
+          raised = not-raised _;
+          level = items-level (p .builder .height) (p .builder .items) (p .depth) (p .copies) (p .sheet) 1;
+          counts = rw one-edge at counts;
+          entries = omega arith;
+          shows = rw (edge-marks, ← as-long) (contour-shows _ _ _ _ _ _ grows);
+          contour = λ z. rw edge-marks grows;
+        }))
+
+  -- the first of a contour
+  abbrev e-begun : List ℕ
+  e-begun = pushed (w .entries) (p .builder .closed) (p .builder .high) (itemEntry (p .builder .items) (contour (s .graphics) place))
+
+  abbrev b-begun : Builder
+  b-begun = grown (p .builder) 1 (p .builder .height)
+
+  abbrev e-contour : List ℕ
+  e-contour = edged e-begun b-begun (p .builder .high) (edge (s .graphics) (target (s .graphics) x y) o place)
+
+  module _ (first : startsContour (s .graphics .region) ≡ true) where
+    in-region : s .graphics .region .on ≡ true
+    unfolding startsContour
+    in-region = and-l _ _ first
+
+    two-items : drawItems (s .graphics) ≡ 2
+    unfolding drawItems
+    two-items = rw first
+
+    contour-marks : marksOf (command.Draw x y o) (s .graphics) place
+        ≡ mark.contour (contour (s .graphics) place) ∷ mark.edge (edge (s .graphics) (target (s .graphics) x y) o place) ∷ []
+    unfolding marksOf drawMarks
+    contour-marks = rw (first, in-region)
+
+    begun-room : entryRoom e-begun ≡ entryRoom (w .entries)
+    begun-room = let l = left in let q = two-items in
+        pushed-is (w .entries) (p .builder .closed) (p .builder .high) _ (has-room (w .entries) (p .builder .closed) (p .builder .high) (omega arith)) .as-long
+
+    begun : Contour e-begun (w .apertures) (p .apertures) b-begun (p .builder .high) (s .marks ++ mark.contour (contour (s .graphics) place) ∷ [])
+    unfolding contour withCount
+    begun =
+        let l = left in
+        let q = two-items in
+        contour-begun (w .entries) (w .apertures) (p .apertures) (p .builder) (s .marks) (contour (s .graphics) place) (k .shows) (omega arith)
+        (contour-near (s .graphics) (k .point) place) (omega arith) (omega arith)
+
+    pub contour-knows : Knows (withEntries e-contour w) (advanced p (after (command.Draw x y o) (s .graphics)) (grown b-begun 1 (p .builder .height)) (p .builder .high)) (drawStep (roomOf w) place x y o s .next)
+    unfolding drawStep edge grown levelOf
+    contour-knows =
+        let l = left in
+        let q = two-items in
+        let m = k .mode in
+        let n = mode in
+        let d = begun in
+        let t = edge-near (s .graphics) (k .point) (target (s .graphics) x y) there place o (near .centre) in
+        let room = begun-room in
+        let fits : p .builder .closed + p .builder .high < entryRoom (w .entries) = omega arith in
+        let fits-still : b-begun .closed + b-begun .high < entryRoom e-begun = omega arith in
+        let low : 1 ≤ edge (s .graphics) (target (s .graphics) x y) o place .kind = omega arith in
+        let up : edge (s .graphics) (target (s .graphics) x y) o place .kind ≤ 8 = omega arith in
+        let as-long = edged-room e-begun (w .apertures) (p .apertures) b-begun (p .builder .high) _ d fits-still _ t low up ∙ room in
+        let grows = contour-grows e-begun (w .apertures) (p .apertures) b-begun (p .builder .high) _ d fits-still _ t low up in
+        let grows-all = rw (append-assoc (s .marks) (mark.contour (contour (s .graphics) place) ∷ []) (mark.edge (edge (s .graphics) (target (s .graphics) x y) o place) ∷ [])) at grows in
+        let start = start-low w p s k in
+        let more : p .builder .items + 1 + 1 ≡ p .builder .items + 2 = omega arith in
+        rw two-items
+        (grown-knows w p s (command.Draw x y o) place 2 2 0 _ _ _ k (draw-moves w p s x y o k (near .goes))
+        (record {
+          as-long = as-long;
+          below = λ r z. below-pushed (w .entries) (p .builder .closed) (p .builder .high) (p .builder .start) _ fits start r z
+              ∙ rw room at (below-edged e-begun b-begun (p .builder .high) (edge (s .graphics) (target (s .graphics) x y) o place) fits-still (omega arith) (p .builder .start) start r z);
+          start-is = refl;
+          raised = not-raised _;
+          level = rw more (items-level (p .builder .height) (p .builder .items) (p .depth) (p .copies) (p .sheet) 2);
+          counts = rw two-items at counts;
+          entries = omega arith;
+          shows = rw (contour-marks, ← as-long) (contour-shows _ _ _ _ _ _ grows-all);
+          contour = λ z. rw contour-marks grows-all;
+        }))
+
+-- as the code has it: by the progress, and the entries at the call
+module _ (e : List ℕ) (p : Progress) (place : ℕ) (x y : Axis) (o : Offset) (may : MayDraw e p x y o) where
+  left-here : p .builder .closed + p .builder .high + drawItems (p .graphics) ≤ entryRoom e
+  left-here =
+      let l = draw-room _ _ _ _ _ _ (may .none) in
+      let f = known-fits e p (may .known) in
+      omega arith
+
+  some : 1 ≤ drawItems (p .graphics)
+  unfolding drawItems
+  some = go (startsContour (p .graphics .region))
+    where
+      go : (t : Bool) → 1 ≤ cond t 2 1
+      go true = omega arith
+      go false = omega arith
+
+  pub draw-has-room : hasRoom e (p .builder .closed) (p .builder .high) ≡ true
+  draw-has-room = let l = left-here in let m = some in has-room _ _ _ (omega arith)
+
+  -- what an edge more asks for
+  pub edge-asks : (p .graphics .region .on ≡ true) × (startsContour (p .graphics .region) ≡ false) →
+      ((p .builder .items ≤ 1000000000000) × (p .contour < p .builder .high) × (entryOf e (entryRoom e - suc (p .contour)) .count ≤ 1000000000000))
+      × (hasRoom e (p .builder .closed) (p .builder .high) ≡ true)
+  unfolding startsContour
+  edge-asks inside =
+      let k = may .known in
+      let d = k .knows .contour (not-false _ (and-rest _ _ (rw (k .knows .graphics) at (inside .0)) (rw (k .knows .graphics) at (inside .1)))) in
+      let few = known-items e p k in
+      ((few, contour-low _ _ _ _ _ _ d, rw (k .is) at (contour-few _ _ _ _ _ _ d 1000000000000 few)), draw-has-room)
+
+  -- what the contour's first edge asks for, behind the contour
+  pub contour-asks : {u : Item} {e₁ : List ℕ} {b₁ : Builder} → startsContour (p .graphics .region) ≡ true → u ≡ contour (p .graphics) place →
+      (b₁ ≡ grown (p .builder) 1 (p .builder .height)) × (e₁ ≡ pushed e (p .builder .closed) (p .builder .high) (itemEntry (p .builder .items) u)) →
+      ((b₁ .items ≤ 1000000000000) × (p .builder .high < b₁ .high) × (entryOf e₁ (entryRoom e₁ - suc (p .builder .high)) .count ≤ 1000000000000))
+      × (hasRoom e₁ (b₁ .closed) (b₁ .high) ≡ true)
+  unfolding drawItems itemEntry contour grown levelOf levelAt
+  contour-asks first u-is begun =
+      let l : p .builder .closed + p .builder .high + 2 ≤ entryRoom e = rw first at left-here in
+      let few : p .builder .items + 2 ≤ most = items-few (levelOf p) 2 (known-kept e p (may .known) .copies-some) (rw first at (draw-counts _ _ _ _ _ _ (may .none))) in
+      let put = pushed-is e (p .builder .closed) (p .builder .high) (itemEntry (p .builder .items) (contour (p .graphics) place)) draw-has-room in
+      let long = put .as-long in
+      rw (begun .0, begun .1, u-is, long) (((omega arith), (omega arith), rw (put .new) (omega arith)), has-room _ _ _ (omega arith))
+
+  abbrev leads : List ℕ → Progress → Type 0
+  leads e′ r = Leads (λ room s. drawStep room place x y o s) (λ w. w .entries ≡ e) (withEntries e′) p r
+
+  -- the parts, as the calls give them
+  item-leads : p .graphics .region .on ≡ false →
+      leads (pushed e (p .builder .closed) (p .builder .high) (itemEntry (p .builder .items) (drawn (p .graphics) (target (p .graphics) x y) o place)))
+      (advanced p (after (command.Draw x y o) (p .graphics)) (grown (p .builder) 1 (p .builder .height)) (p .contour))
+  item-leads outside w s lent k =
+      rw (← lent, k .graphics)
+      (item-knows w p s k place x y o (may .near) (rw (← lent) at (may .none)) (rw (k .graphics) at outside))
+
+  edge-leads : p .graphics .region .on ≡ true → startsContour (p .graphics .region) ≡ false →
+      leads (edged e (p .builder) (p .contour) (edge (p .graphics) (target (p .graphics) x y) o place))
+      (advanced p (after (command.Draw x y o) (p .graphics)) (grown (p .builder) 1 (p .builder .height)) (p .contour))
+  edge-leads inside later w s lent k =
+      rw (← lent, k .graphics)
+      (edge-knows w p s k place x y o (may .near) (rw (← lent) at (may .none)) (rw (k .graphics) at inside) (rw (k .graphics) at later))
+
+  contour-leads : startsContour (p .graphics .region) ≡ true →
+      leads (edged (pushed e (p .builder .closed) (p .builder .high) (itemEntry (p .builder .items) (contour (p .graphics) place)))
+      (grown (p .builder) 1 (p .builder .height)) (p .builder .high) (edge (p .graphics) (target (p .graphics) x y) o place))
+      (advanced p (after (command.Draw x y o) (p .graphics)) (grown (grown (p .builder) 1 (p .builder .height)) 1 (p .builder .height)) (p .builder .high))
+  contour-leads first w s lent k =
+      rw (← lent, k .graphics)
+      (contour-knows w p s k place x y o (may .near) (rw (← lent) at (may .none)) (rw (k .graphics) at first))
+
+  module _ {end : Point} {t : Item} {e′ : List ℕ} {b′ : Builder} {g′ : Graphics} {r : Progress} (end-is : end ≡ target (p .graphics) x y) (after-is : g′ ≡ after (command.Draw x y o) (p .graphics)) where
+    pub item-drawn : p .graphics .region .on ≡ false → t ≡ drawn (p .graphics) end o place →
+        (b′ ≡ grown (p .builder) 1 (p .builder .height)) × (e′ ≡ pushed e (p .builder .closed) (p .builder .high) (itemEntry (p .builder .items) t)) →
+        r ≡ advanced p g′ b′ (p .contour) → leads e′ r
+    item-drawn outside t-is put r-is = rw (r-is, after-is, put .0, put .1, t-is, end-is) (item-leads outside)
+
+    pub edge-drawn : (p .graphics .region .on ≡ true) × (startsContour (p .graphics .region) ≡ false) → t ≡ edge (p .graphics) end o place →
+        (b′ ≡ grown (p .builder) 1 (p .builder .height)) × (e′ ≡ edged e (p .builder) (p .contour) t) →
+        r ≡ advanced p g′ b′ (p .contour) → leads e′ r
+    edge-drawn inside t-is put r-is = rw (r-is, after-is, put .0, put .1, t-is, end-is) (edge-leads (inside .0) (inside .1))
+
+    pub contour-drawn : {u : Item} {e₁ : List ℕ} {b₁ : Builder} → startsContour (p .graphics .region) ≡ true → u ≡ contour (p .graphics) place →
+        (b₁ ≡ grown (p .builder) 1 (p .builder .height)) × (e₁ ≡ pushed e (p .builder .closed) (p .builder .high) (itemEntry (p .builder .items) u)) →
+        t ≡ edge (p .graphics) end o place →
+        (b′ ≡ grown b₁ 1 (b₁ .height)) × (e′ ≡ edged e₁ b₁ (p .builder .high) t) →
+        r ≡ advanced p g′ b′ (p .builder .high) → leads e′ r
+    unfolding grown
+    contour-drawn first u-is begun t-is put r-is = rw (r-is, after-is, put .0, put .1, begun .0, begun .1, u-is, t-is, end-is) (contour-leads first)
+
+-- the whole step
+module _ (e : List ℕ) (p : Progress) (place : ℕ) (x y : Axis) (o : Offset) {n room : ℕ} {l : Level} (level-is : l ≡ levelOf p) (room-is : room ≡ leftOf e (p .builder))
+    (fault-is : n ≡ drawFault (p .graphics) l room x y o) where
+  same-fault : drawFault (p .graphics) (levelOf p) (leftOf e (p .builder)) x y o ≡ n
+  same-fault = sym (fault-is ∙ (λ i. drawFault (p .graphics) (level-is i) (room-is i) x y o))
+
+  abbrev steps : List ℕ → Stepped → Type 0
+  steps e′ r = StepsTo (λ room s. drawStep room place x y o s) (λ w. w .entries ≡ e) (withEntries e′) p r
+
+  pub draw-refused : (e′ : List ℕ) → (n ≡ 0 → ⊥) → steps e′ (Fault n)
+  unfolding Follows
+  draw-refused e′ ne w s lent k = (sym (draw-faults w p s k place x y o) ∙ rw lent same-fault, above ne)
+    where
+      above : (n ≡ 0 → ⊥) → 1 ≤ n
+      above ne = omega arith
+
+  pub may-draw : Known (λ w. w .entries ≡ e) p → Draws x y o → n ≡ 0 → MayDraw e p x y o
+  may-draw known near zero = record { known = known; near = near; none = same-fault ∙ zero }
+
+  pub draw-goes : (e′ : List ℕ) (r : Progress) → n ≡ 0 → Leads (λ room s. drawStep room place x y o s) (λ w. w .entries ≡ e) (withEntries e′) p r → steps e′ (Next r)
+  unfolding Follows
+  draw-goes e′ r zero goes w s lent k = (sym (draw-faults w p s k place x y o) ∙ rw lent (same-fault ∙ zero), goes w s lent k)

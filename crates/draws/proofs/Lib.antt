@@ -1,0 +1,11 @@
+pub mod Puts
+pub mod Around
+pub mod Faults
+pub mod Levels
+pub mod Within
+pub mod Grown
+pub mod Operations
+pub mod Items
+pub mod Contours
+pub mod Known
+pub mod Drawn

@@ -1,0 +1,25 @@
+-- D01 and D03 move the current point within its bounds, and leave mode and aperture.
+-- Assumes nothing.
+use Prim.Native.Nat.{ℕ, suc, _+_, _-_, _≤_, _<_, _^_}
+use mathlib.Core.Path.{_≡_, refl, sym, ap, _∙_}
+use mathlib.Core.Bool.{true}
+use Rattle.command.specs.declared.Axis.{Axis}
+use Rattle.command.specs.declared.Offset.{Offset}
+use Rattle.command.specs.declared.Command.the-variants as command
+use Rattle.graphics.specs.Graphics.{withPoint, withRegion}
+use Rattle.changes.specs.After.{goingTo, drawing, after}
+use Rattle.bounds.specs.Bounded.{Goes}
+use Rattle.bounds.proofs.Target.{target-within}
+use Rattle.reading.specs.State.{State}
+use Rattle.progress.specs.Lent.{Lent}
+use Rattle.progress.specs.Knows.{Knows}
+use Rattle.progress.specs.declared.Progress.{Progress}
+use Rattle.draws.proofs.Grown.{Moves}
+
+pub draw-moves : (w : Lent) (p : Progress) (s : State) (x y : Axis) (o : Offset) → Knows w p s → Goes x y → Moves (command.Draw x y o) s
+unfolding after goingTo withPoint withRegion drawing
+draw-moves w p s x y o k goes = record { point = target-within (s .graphics) x y (k .point) goes; mode = refl; aperture = refl; inside = λ q. q }
+
+pub flash-moves : (w : Lent) (p : Progress) (s : State) (x y : Axis) → Knows w p s → Goes x y → Moves (command.Flash x y) s
+unfolding after goingTo withPoint
+flash-moves w p s x y k goes = record { point = target-within (s .graphics) x y (k .point) goes; mode = refl; aperture = refl; inside = k .inside }
