@@ -39,9 +39,8 @@ use Rattle.reading.specs.Steps.{drawStep}
 use Rattle.progress.specs.Lent.{Lent, withEntries, roomOf}
 use Rattle.progress.specs.Levels.{levelAt, levelOf}
 use Rattle.progress.specs.Contour.{Contour}
-use Rattle.progress.specs.Knows.{Knows, Known, Follows, StepsTo}
+use Rattle.progress.specs.Knows.{Knows, Known, StepsTo}
 use Rattle.progress.specs.declared.Progress.{Progress}
-use Rattle.progress.specs.declared.Stepped.{Stepped}
 use Rattle.progress.specs.declared.Stepped.the-variants.{Next, Fault}
 use Rattle.draws.specs.Draws.{leftOf, advanced, Leads, MayDraw}
 use Rattle.draws.proofs.Faults.{and-rest, draw-mode, draw-counts, draw-room}
@@ -51,7 +50,7 @@ use Rattle.draws.proofs.Grown.{Grows, grown-knows}
 use Rattle.draws.proofs.Operations.{draw-moves}
 use Rattle.draws.proofs.Items.{start-low, below-pushed, has-room, item-grows}
 use Rattle.draws.proofs.Contours.{contour-shows, edged-room, contour-grows, contour-low, contour-few, contour-start, below-edged, contour-begun}
-use Rattle.draws.proofs.Known.{known-fits, known-kept, known-items, draw-faults}
+use Rattle.draws.proofs.Known.{known-fits, known-kept, known-items, draw-faults, refused, goes}
 
 module _ (w : Lent) (p : Progress) (s : State) (k : Knows w p s) (place : ℕ) (x y : Axis) (o : Offset) (near : Draws x y o)
     (none : drawFault (p .graphics) (levelOf p) (leftOf (w .entries) (p .builder)) x y o ≡ 0) where
@@ -306,25 +305,21 @@ module _ (e : List ℕ) (p : Progress) (place : ℕ) (x y : Axis) (o : Offset) (
     unfolding grown
     contour-drawn first u-is begun t-is put r-is = rw (r-is, after-is, put .0, put .1, begun .0, begun .1, u-is, t-is, end-is) (contour-leads first)
 
--- the whole step
+-- the number that the code has is that of the step's fault
 module _ (e : List ℕ) (p : Progress) (place : ℕ) (x y : Axis) (o : Offset) {n room : ℕ} {l : Level} (level-is : l ≡ levelOf p) (room-is : room ≡ leftOf e (p .builder))
     (fault-is : n ≡ drawFault (p .graphics) l room x y o) where
   same-fault : drawFault (p .graphics) (levelOf p) (leftOf e (p .builder)) x y o ≡ n
   same-fault = sym (fault-is ∙ (λ i. drawFault (p .graphics) (level-is i) (room-is i) x y o))
 
-  abbrev steps : List ℕ → Stepped → Type 0
-  steps e′ r = StepsTo (λ room s. drawStep room place x y o s) (λ w. w .entries ≡ e) (withEntries e′) p r
-
-  pub draw-refused : (e′ : List ℕ) → (n ≡ 0 → ⊥) → steps e′ (Fault n)
-  unfolding Follows
-  draw-refused e′ ne w s lent k = (sym (draw-faults w p s k place x y o) ∙ rw lent same-fault, above ne)
-    where
-      above : (n ≡ 0 → ⊥) → 1 ≤ n
-      above ne = omega arith
+  draw-says : (w : Lent) (s : State) → w .entries ≡ e → Knows w p s → drawStep (roomOf w) place x y o s .fault ≡ n
+  draw-says w s lent k = sym (draw-faults w p s k place x y o) ∙ rw lent same-fault
 
   pub may-draw : Known (λ w. w .entries ≡ e) p → Draws x y o → n ≡ 0 → MayDraw e p x y o
   may-draw known near zero = record { known = known; near = near; none = same-fault ∙ zero }
 
-  pub draw-goes : (e′ : List ℕ) (r : Progress) → n ≡ 0 → Leads (λ room s. drawStep room place x y o s) (λ w. w .entries ≡ e) (withEntries e′) p r → steps e′ (Next r)
-  unfolding Follows
-  draw-goes e′ r zero goes w s lent k = (sym (draw-faults w p s k place x y o) ∙ rw lent (same-fault ∙ zero), goes w s lent k)
+  pub draw-refused : (e′ : List ℕ) → (n ≡ 0 → ⊥) → StepsTo (λ room s. drawStep room place x y o s) (λ w. w .entries ≡ e) (withEntries e′) p (Fault n)
+  draw-refused = refused (λ room s. drawStep room place x y o s) e p draw-says
+
+  pub draw-goes : (e′ : List ℕ) (r : Progress) → n ≡ 0 → Leads (λ room s. drawStep room place x y o s) (λ w. w .entries ≡ e) (withEntries e′) p r →
+      StepsTo (λ room s. drawStep room place x y o s) (λ w. w .entries ≡ e) (withEntries e′) p (Next r)
+  draw-goes = goes (λ room s. drawStep room place x y o s) e p draw-says

@@ -36,7 +36,7 @@ unfolding _or_
 or-l true b q = q
 or-l false b q = refl
 
-or-r : (a b : Bool) → (a or b) ≡ false → b ≡ false
+pub or-r : (a b : Bool) → (a or b) ≡ false → b ≡ false
 unfolding _or_
 or-r true b q = cc
 or-r false b q = q

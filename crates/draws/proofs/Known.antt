@@ -13,14 +13,16 @@ use Rattle.bounds.specs.Bounded.{Goes}
 use Rattle.bounds.proofs.Target.{target-within}
 use Rattle.drawing.specs.Counts.{most, Kept}
 use Rattle.drawing.specs.Faults.{drawFault, flashFault}
-use Rattle.reading.specs.State.{State}
-use Rattle.reading.specs.Steps.{drawStep, flashStep}
-use Rattle.progress.specs.Lent.{Lent, roomOf}
+use Rattle.reading.specs.State.{Room, State}
+use Rattle.reading.specs.Steps.{Step, drawStep, flashStep}
+use Rattle.progress.specs.Lent.{Lent, roomOf, withEntries}
 use Rattle.progress.specs.Levels.{levelAt, levelOf}
-use Rattle.progress.specs.Knows.{Knows, Known}
+use Rattle.progress.specs.Knows.{Knows, Known, Follows, StepsTo}
 use Rattle.progress.specs.declared.Progress.{Progress}
-use Rattle.draws.specs.Draws.{leftOf}
+use Rattle.progress.specs.declared.Stepped.the-variants.{Next, Fault}
+use Rattle.draws.specs.Draws.{leftOf, Leads}
 use Rattle.draws.proofs.Levels.{items-kept}
+use Rattle.draws.proofs.Selected.{selected-few}
 
 module _ (e : List ℕ) (p : Progress) (known : Known (λ w. w .entries ≡ e) p) where
   pub known-fits : p .builder .closed + p .builder .high ≤ entryRoom e
@@ -32,6 +34,9 @@ module _ (e : List ℕ) (p : Progress) (known : Known (λ w. w .entries ≡ e) p
   pub known-items : p .builder .items ≤ most
   unfolding levelOf levelAt
   known-items = known-kept .items-kept
+
+  pub known-few : p .graphics .aperture .items ≤ most
+  known-few = let k = known .knows in rw (k .graphics) (selected-few _ _ _ _ (k .apertures) (k .aperture))
 
   pub known-point : Within (10 ^ 12) (p .graphics .point .at)
   known-point = rw (known .knows .graphics) (known .knows .point)
@@ -51,3 +56,16 @@ module _ (w : Lent) (p : Progress) (s : State) (k : Knows w p s) (place : ℕ) (
   pub flash-faults : flashFault (p .graphics) (levelOf p) (leftOf (w .entries) (p .builder)) x y ≡ flashStep (roomOf w) place x y s .fault
   unfolding flashStep roomOf
   flash-faults = λ i. flashFault (k .graphics i) (k .level i) (entryRoom (w .entries) - k .entries i) x y
+
+-- a step whose fault is known by its number
+module _ (step : Room → State → Step) (e : List ℕ) (p : Progress) {n : ℕ} (says : (w : Lent) (s : State) → w .entries ≡ e → Knows w p s → step (roomOf w) s .fault ≡ n) (e′ : List ℕ) where
+  pub refused : (n ≡ 0 → ⊥) → StepsTo step (λ w. w .entries ≡ e) (withEntries e′) p (Fault n)
+  unfolding Follows
+  refused ne w s lent k = (says w s lent k, above ne)
+    where
+      above : (n ≡ 0 → ⊥) → 1 ≤ n
+      above ne = omega arith
+
+  pub goes : (r : Progress) → n ≡ 0 → Leads step (λ w. w .entries ≡ e) (withEntries e′) p r → StepsTo step (λ w. w .entries ≡ e) (withEntries e′) p (Next r)
+  unfolding Follows
+  goes r zero leads w s lent k = (says w s lent k ∙ zero, leads w s lent k)

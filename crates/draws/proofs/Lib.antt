@@ -9,3 +9,5 @@ pub mod Items
 pub mod Contours
 pub mod Known
 pub mod Drawn
+pub mod Selected
+pub mod Flashed

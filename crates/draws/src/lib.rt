@@ -23,6 +23,7 @@ use command::Command;
 use command::Offset;
 use graphics::Graphics;
 use place::Item;
+use place::Pose;
 use progress::Progress;
 use progress::Stepped;
 use sheet::Container;
@@ -47,6 +48,20 @@ fn put_edge(e: &mut [u64], b: Builder, c: usize, t: Item) -> Builder
     ensures { λ r. ⌜ (r ≡ grown b 1 (b .height)) × (now (e .exit) ≡ edged (now (e .entry)) b c t) ⌝ }
 {
     let r = contours::add_edge(e, b, c, t);
+    match r {
+        Put::Next(n) => n,
+        Put::Full => b,
+    }
+}
+
+// Puts a flash of the block k, which aperture record `who` defines, where there is room.
+fn put_use(e: &mut [u64], b: Builder, who: u64, k: Container, m: Pose, place: u64) -> Builder
+    requires { ⌜ (b .items ≤ 1000000000000) × (k .items ≤ 1000000000000) × (k .height ≤ 8) ⌝ }
+    requires { ⌜ hasRoom (now e) (b .closed) (b .high) ≡ true ⌝ }
+    ensures { λ r. ⌜ (r ≡ grown b (k .items) (raised (b .height) (k .height)))
+        × (now (e .exit) ≡ pushed (now (e .entry)) (b .closed) (b .high) (useEntry (b .items) who m place)) ⌝ }
+{
+    let r = build::add_use(e, b, who, k, m, place);
     match r {
         Put::Next(n) => n,
         Put::Full => b,
@@ -143,4 +158,58 @@ pub fn draw(e: &mut [u64], p: Progress, place: u64, x: Axis, y: Axis, o: Offset)
         return Stepped::Next(draw_edge(e, p, place, x, y, o));
     }
     Stepped::Next(draw_item(e, p, place, x, y, o))
+}
+
+// A D03 with an aperture that is no block.
+fn flash_item(e: &mut [u64], p: Progress, place: u64, x: Axis, y: Axis) -> Progress
+    requires { ⌜ MayFlash (now e) p x y ⌝ }
+    requires { ⌜ p .graphics .aperture .block ≡ false ⌝ }
+    ensures { λ r. ⌜ Leads (λ room s. flashStep room place x y s) (λ w. w .entries ≡ now (e .entry)) (withEntries (now (e .exit))) p r ⌝ }
+{
+    let g = p.graphics;
+    let b = p.builder;
+    let t = marks::flashed(g, changes::target(g, x, y), place);
+    let next = put_item(e, b, t);
+    let c = Command::Flash { x, y };
+    advanced(p, changes::after(c, g), next, p.contour)
+}
+
+// A D03 with a block. Where its entries lie is its record's matter.
+fn flash_block(e: &mut [u64], p: Progress, place: u64, x: Axis, y: Axis) -> Progress
+    requires { ⌜ MayFlash (now e) p x y ⌝ }
+    requires { ⌜ p .graphics .aperture .block ≡ true ⌝ }
+    ensures { λ r. ⌜ Leads (λ room s. flashStep room place x y s) (λ w. w .entries ≡ now (e .entry)) (withEntries (now (e .exit))) p r ⌝ }
+{
+    let g = p.graphics;
+    let b = p.builder;
+    let m = marks::pose(g, changes::target(g, x, y));
+    let k = Container {
+        first: 0,
+        len: 0,
+        items: g.aperture.items,
+        height: g.aperture.height,
+    };
+    let next = put_use(e, b, g.aperture.slot as u64, k, m, place);
+    let c = Command::Flash { x, y };
+    advanced(p, changes::after(c, g), next, p.contour)
+}
+
+// D03.
+pub fn flash(e: &mut [u64], p: Progress, place: u64, x: Axis, y: Axis) -> Stepped
+    requires { ⌜ Known (λ w. w .entries ≡ now e) p ⌝ }
+    requires { ⌜ Goes x y ⌝ }
+    ensures { λ r. ⌜ (length (now (e .exit)) ≡ length (now (e .entry)))
+        × StepsTo (λ room s. flashStep room place x y s) (λ w. w .entries ≡ now (e .entry)) (withEntries (now (e .exit))) p r ⌝ }
+{
+    let g = p.graphics;
+    let b = p.builder;
+    let left = entries_left(e, b);
+    let n = drawing::flash_fault(g, progress::level_of(p), left, x, y);
+    if n != 0 {
+        return Stepped::Fault(n);
+    }
+    if g.aperture.block {
+        return Stepped::Next(flash_block(e, p, place, x, y));
+    }
+    Stepped::Next(flash_item(e, p, place, x, y))
 }

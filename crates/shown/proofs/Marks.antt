@@ -52,7 +52,7 @@ raise-above h k = go (leb h k) refl
     go true q = omega arith
     go false q = leb-false h k q
 
-raise-raised : (h k : ℕ) → k ≤ 8 → (h ≤ 8 → k ≤ 7) → Raised h (raised h k)
+pub raise-raised : (h k : ℕ) → k ≤ 8 → (h ≤ 8 → k ≤ 7) → Raised h (raised h k)
 unfolding raised
 raise-raised h k eight lower = go (leb h k) refl
   where
