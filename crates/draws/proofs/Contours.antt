@@ -2,7 +2,6 @@
 -- Assumes nothing.
 use Prim.Native.Nat.{ℕ, suc, _+_, _-_, _*_, _/_, _≤_, _<_}
 use mathlib.Core.Path.{_≡_, refl, sym, ap, _∙_}
-use mathlib.Core.Bool.{true}
 use mathlib.Core.List.{List, [], _∷_, _++_, map, append-assoc}
 use native.Mathlib.Omega.{arith}
 use lib.ListN.{length, length-append}
@@ -11,11 +10,11 @@ use Rattle.place.specs.Mark as mark
 use Rattle.place.specs.Mark.{Mark, written, withCount}
 use Rattle.place.specs.Placing.{ItemWithin}
 use Rattle.sheet.specs.Valid.{far}
-use Rattle.sheet.specs.Records.{entryOf, entryRoom, entryWords, stored}
+use Rattle.sheet.specs.Records.{entryOf, entryRoom, entryWords}
 use Rattle.sheet.specs.Meaning as meaning
 use Rattle.sheet.proofs.Stored.{entry-kept}
-use Rattle.stack.specs.Stack.{hasRoom, pushed}
-use Rattle.building.specs.Drawing.{Draw, DrawAll, Drawing}
+use Rattle.stack.specs.Stack.{pushed}
+use Rattle.building.specs.Drawing.{DrawAll, Drawing}
 use Rattle.build.specs.Entries.{itemEntry}
 use Rattle.build.specs.declared.Builder.{Builder}
 use Rattle.build.specs.Builder.{grown}

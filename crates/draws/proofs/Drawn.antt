@@ -1,13 +1,13 @@
 -- What is known behind a D01 that breaks no rule: outside a region, at the first of a contour, and at the others.
 -- Assumes nothing.
 use Prim.Native.Nat.{ℕ, suc, _+_, _-_, _≤_, _<_, _^_}
-use mathlib.Core.Path.{_≡_, refl, sym, ap, _∙_}
+use mathlib.Core.Path.{_≡_, refl, sym, _∙_}
 use mathlib.Core.Bool.{Bool, true, false, cond, not, false≢true}
 use mathlib.Core.List.{List, [], _∷_, _++_, append-assoc}
 use native.Mathlib.Omega.{arith}
-use borrow.Author.Tests.{not-true, not-false}
+use borrow.Author.Tests.{not-false}
 use Rattle.base.specs.And.{_and_}
-use Rattle.base.proofs.And.{and-l, and-r, false-and, ands}
+use Rattle.base.proofs.And.{and-l, false-and}
 use Rattle.points.specs.Points.{Within}
 use Rattle.points.specs.declared.Point.{Point}
 use Rattle.place.specs.declared.Item.{Item}
@@ -46,7 +46,7 @@ use Rattle.draws.specs.Draws.{leftOf, advanced, Leads, MayDraw}
 use Rattle.draws.proofs.Faults.{and-rest, draw-mode, draw-counts, draw-room}
 use Rattle.draws.proofs.Levels.{items-few, items-level}
 use Rattle.draws.proofs.Within.{drawn-near, edge-near, contour-near}
-use Rattle.draws.proofs.Grown.{Grows, grown-knows}
+use Rattle.draws.proofs.Grown.{grown-knows}
 use Rattle.draws.proofs.Operations.{draw-moves}
 use Rattle.draws.proofs.Items.{start-low, below-pushed, has-room, item-grows}
 use Rattle.draws.proofs.Contours.{contour-shows, edged-room, contour-grows, contour-low, contour-few, contour-start, below-edged, contour-begun}

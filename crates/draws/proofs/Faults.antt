@@ -1,12 +1,12 @@
 -- Where no rule is broken, no test of its table holds.
 -- Assumes nothing.
-use Prim.Native.Nat.{ℕ, _≤_, _+_, _-_}
+use Prim.Native.Nat.{ℕ, _≤_}
 use mathlib.Core.Path.{_≡_, refl}
 use mathlib.Core.Bool.{Bool, true, false, not}
 use mathlib.Core.List.{[], _∷_}
 use native.Mathlib.Omega.{arith}
-use lib.Dec.{eqb, ltb, leb}
-use borrow.Author.Tests.{ltb-false, eqb-false, eqb-true, leb-false, leb-true, not-false}
+use lib.Dec.{ltb}
+use borrow.Author.Tests.{ltb-false, eqb-false, leb-true, not-false}
 use Rattle.base.specs.And.{_and_}
 use Rattle.base.specs.Or.{_or_}
 use Rattle.command.specs.Choose.{pick}

@@ -1,8 +1,8 @@
 -- What is known behind a D03 that breaks no rule: with a block, and with another aperture.
 -- Assumes nothing.
-use Prim.Native.Nat.{ℕ, suc, _+_, _-_, _%_, _≤_, _<_, _^_}
+use Prim.Native.Nat.{ℕ, _+_, _-_, _%_, _≤_, _<_, _^_}
 use mathlib.Core.Path.{_≡_, refl, sym, ap, _∙_}
-use mathlib.Core.Bool.{Bool, true, false, cond, not, false≢true}
+use mathlib.Core.Bool.{true, false, false≢true}
 use mathlib.Core.List.{List, [], _∷_}
 use native.Mathlib.Omega.{arith}
 use borrow.Author.Tests.{not-false, eqb-true, leb-false, eq-eqb}
@@ -11,9 +11,9 @@ use Rattle.points.specs.declared.Point.{Point}
 use Rattle.place.specs.declared.Item.{Item}
 use Rattle.place.specs.declared.Pose.{Pose}
 use Rattle.place.specs.Mark as mark
-use Rattle.place.specs.Mark.{edges, marked}
+use Rattle.place.specs.Mark.{edges}
 use Rattle.place.specs.Placing.{quarterTurn}
-use Rattle.sheet.specs.Records.{apertureOf, entryRoom}
+use Rattle.sheet.specs.Records.{entryRoom}
 use Rattle.sheet.specs.Containers.{blockOf}
 use Rattle.stack.specs.Stack.{hasRoom, pushed}
 use Rattle.build.specs.declared.Builder.{Builder}
@@ -37,7 +37,7 @@ use Rattle.marks.specs.Marks.{flashMarks, marksOf}
 use Rattle.reading.specs.State.{State}
 use Rattle.reading.specs.Steps.{flashHeight, flashStep}
 use Rattle.progress.specs.Lent.{Lent, withEntries, roomOf}
-use Rattle.progress.specs.Levels.{levelAt, levelOf}
+use Rattle.progress.specs.Levels.{levelOf}
 use Rattle.progress.specs.Knows.{Knows, Known, StepsTo}
 use Rattle.progress.specs.declared.Progress.{Progress}
 use Rattle.progress.specs.declared.Stepped.the-variants.{Next, Fault}
@@ -46,7 +46,7 @@ use Rattle.draws.specs.Draws.{leftOf, advanced, Leads, MayFlash}
 use Rattle.draws.proofs.Faults.{and-rest, or-r, flash-outside, flash-set, flash-straight, flash-low, flash-counts, flash-room}
 use Rattle.draws.proofs.Levels.{flash-level}
 use Rattle.draws.proofs.Within.{flashed-near, pose-near}
-use Rattle.draws.proofs.Grown.{Grows, grown-knows}
+use Rattle.draws.proofs.Grown.{grown-knows}
 use Rattle.draws.proofs.Operations.{flash-moves}
 use Rattle.draws.proofs.Items.{start-low, below-pushed, has-room, item-grows}
 use Rattle.draws.proofs.Selected.{IsBlock, selected-block}

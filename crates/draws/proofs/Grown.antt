@@ -1,10 +1,9 @@
 -- What is known behind a step that puts entries on the stack and leaves all around it as it was.
 -- Assumes nothing.
 use Prim.Native.Nat.{ℕ, suc, _+_, _-_, _≤_, _<_, _^_}
-use mathlib.Core.Path.{_≡_, refl, sym, ap, _∙_}
+use mathlib.Core.Path.{_≡_, refl, ap, _∙_}
 use mathlib.Core.Bool.{true}
 use mathlib.Core.List.{List, _++_}
-use native.Mathlib.Omega.{arith}
 use Rattle.points.specs.Points.{Within}
 use Rattle.sheet.specs.Records.{entryOf, entryRoom}
 use Rattle.building.proofs.Grow.{Raised}

@@ -1,7 +1,7 @@
 -- One item put: what is known behind a D01 outside a region, and behind a D03 with an aperture that is no block.
 -- Assumes nothing.
 use Prim.Native.Nat.{ℕ, suc, _+_, _-_, _≤_, _<_}
-use mathlib.Core.Path.{_≡_, refl, sym, ap, _∙_}
+use mathlib.Core.Path.{_≡_, refl, sym}
 use mathlib.Core.Bool.{true}
 use mathlib.Core.List.{List, [], _∷_}
 use native.Mathlib.Omega.{arith}
@@ -14,7 +14,6 @@ use Rattle.sheet.specs.Valid.{far}
 use Rattle.sheet.specs.declared.Entry.{Entry}
 use Rattle.stack.specs.Stack.{hasRoom, pushed}
 use Rattle.building.proofs.Grow.{not-raised}
-use Rattle.building.proofs.Push.{Pushed}
 use Rattle.build.specs.Builder.{grown}
 use Rattle.build.specs.Entries.{itemEntry}
 use Rattle.shown.proofs.Entries.{pushed-is}

@@ -1,8 +1,6 @@
 -- D01 and D03 move the current point within its bounds, and leave mode and aperture.
 -- Assumes nothing.
-use Prim.Native.Nat.{ℕ, suc, _+_, _-_, _≤_, _<_, _^_}
-use mathlib.Core.Path.{_≡_, refl, sym, ap, _∙_}
-use mathlib.Core.Bool.{true}
+use mathlib.Core.Path.{refl}
 use Rattle.command.specs.declared.Axis.{Axis}
 use Rattle.command.specs.declared.Offset.{Offset}
 use Rattle.command.specs.declared.Command.the-variants as command

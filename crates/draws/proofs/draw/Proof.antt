@@ -5,73 +5,49 @@ use Rattle.draws.proofs.Drawn.{draw-refused, may-draw, draw-goes}
 use borrow.Author.Needs.{needs}
 use Rattle.draws.proofs.draw.Statement.{statement}
 use Rattle.draws.proofs.draw.Tie as tie
-use Rattle.draws.proofs.draw.Reads as reads
-use Rattle.draws.proofs.draw.Lts as lts
-use Rattle.changes.proofs.starts_contour.Reads as starts-contour-reads
-use Rattle.drawing.proofs.draw_fault.Reads as draw-fault-reads
-use Rattle.draws.proofs.draw_contour.Reads as draw-contour-reads
-use Rattle.draws.proofs.draw_edge.Reads as draw-edge-reads
-use Rattle.draws.proofs.draw_item.Reads as draw-item-reads
-use Rattle.draws.proofs.entries_left.Reads as entries-left-reads
-use Rattle.progress.proofs.level_of.Reads as level-of-reads
 
--- src/lib.rt:133:9
 entries-left-requires : tie.Need-entries-left-requires
 entries-left-requires c κs = known-fits _ _ (c .before .before .before .before .pre .0)
 
--- src/lib.rt:134:36
 level-of-requires : tie.Need-level-of-requires
 level-of-requires c κs = search needs
 
--- src/lib.rt:134:9
 draw-fault-requires : tie.Need-draw-fault-requires
 draw-fault-requires c κs = (rw (c .level-of .ensures) (known-kept _ _ (c .before .before .before .before .before .before .pre .0)), (known-point _ _ (c .before .before .before .before .before .before .pre .0), (known-target _ _ (c .before .before .before .before .before .before .pre .0) _ _ (c .before .before .before .before .before .before .pre .1 .goes), c .before .before .before .before .before .before .pre .1 .centre)))
 
--- src/lib.rt:136:9
 same-length : tie.Need-same-length
 same-length c = search needs
 
--- src/lib.rt:136:9
 returns : tie.Need-returns
 returns c = (refl, draw-refused _ _ _ _ _ _ (c .before .before .level-of .ensures) (c .before .before .before .entries-left .ensures) (c .before .draw-fault .ensures) _ (c .if1 .taken))
 
--- src/lib.rt:139:8
 starts-contour-requires : tie.Need-starts-contour-requires
 starts-contour-requires c κs = search needs
 
--- src/lib.rt:140:30
 draw-contour-requires : tie.Need-draw-contour-requires
 draw-contour-requires c κs = (may-draw _ _ (c .before .before .before .before .before .before .before .before .before .before .before .before .args .place) _ _ _ (c .before .before .before .before .before .before .level-of .ensures) (c .before .before .before .before .before .before .before .entries-left .ensures) (c .before .before .before .before .before .draw-fault .ensures) (c .before .before .before .before .before .before .before .before .before .before .before .before .pre .0) (c .before .before .before .before .before .before .before .before .before .before .before .before .pre .1) (c .before .before .before .before .if1 .left), sym (c .before .before .starts-contour .ensures) ∙ c .before .if2 .taken)
 
--- src/lib.rt:140:9
 same-length-2 : tie.Need-same-length-2
 same-length-2 c = search needs
 
--- src/lib.rt:140:9
 returns-2 : tie.Need-returns-2
 returns-2 c = (c .before .before .draw-contour .kept .0, draw-goes _ _ _ _ _ _ (c .before .before .before .before .before .before .before .before .before .level-of .ensures) (c .before .before .before .before .before .before .before .before .before .before .entries-left .ensures) (c .before .before .before .before .before .before .before .before .draw-fault .ensures) _ _ (c .before .before .before .before .before .before .before .if1 .left) (c .before .before .draw-contour .ensures))
 
--- src/lib.rt:143:30
 draw-edge-requires : tie.Need-draw-edge-requires
 draw-edge-requires c κs = (may-draw _ _ (c .before .before .before .before .before .before .before .before .before .before .before .before .before .args .place) _ _ _ (c .before .before .before .before .before .before .before .level-of .ensures) (c .before .before .before .before .before .before .before .before .entries-left .ensures) (c .before .before .before .before .before .before .draw-fault .ensures) (c .before .before .before .before .before .before .before .before .before .before .before .before .before .pre .0) (c .before .before .before .before .before .before .before .before .before .before .before .before .before .pre .1) (c .before .before .before .before .before .if1 .left), (c .before .if3 .taken, sym (c .before .before .before .starts-contour .ensures) ∙ c .before .before .if2 .left))
 
--- src/lib.rt:143:9
 same-length-3 : tie.Need-same-length-3
 same-length-3 c = search needs
 
--- src/lib.rt:143:9
 returns-3 : tie.Need-returns-3
 returns-3 c = (c .before .before .draw-edge .kept .0, draw-goes _ _ _ _ _ _ (c .before .before .before .before .before .before .before .before .before .before .level-of .ensures) (c .before .before .before .before .before .before .before .before .before .before .before .entries-left .ensures) (c .before .before .before .before .before .before .before .before .before .draw-fault .ensures) _ _ (c .before .before .before .before .before .before .before .before .if1 .left) (c .before .before .draw-edge .ensures))
 
--- src/lib.rt:145:19
 draw-item-requires : tie.Need-draw-item-requires
 draw-item-requires c κs = (may-draw _ _ (c .before .before .before .before .before .before .before .before .before .before .before .before .before .args .place) _ _ _ (c .before .before .before .before .before .before .before .level-of .ensures) (c .before .before .before .before .before .before .before .before .entries-left .ensures) (c .before .before .before .before .before .before .draw-fault .ensures) (c .before .before .before .before .before .before .before .before .before .before .before .before .before .pre .0) (c .before .before .before .before .before .before .before .before .before .before .before .before .before .pre .1) (c .before .before .before .before .before .if1 .left), c .before .if3 .left)
 
--- src/lib.rt:125:1
 same-length-4 : tie.Need-same-length-4
 same-length-4 c = search needs
 
--- src/lib.rt:125:1
 returns-4 : tie.Need-returns-4
 returns-4 c = (c .before .before .draw-item .kept .0, draw-goes _ _ _ _ _ _ (c .before .before .before .before .before .before .before .before .before .before .level-of .ensures) (c .before .before .before .before .before .before .before .before .before .before .before .entries-left .ensures) (c .before .before .before .before .before .before .before .before .before .draw-fault .ensures) _ _ (c .before .before .before .before .before .before .before .before .if1 .left) (c .before .before .draw-item .ensures))
 

@@ -5,49 +5,31 @@ use Rattle.draws.proofs.Drawn.{draw-has-room, contour-asks, contour-dra
 use borrow.Author.Needs.{needs}
 use Rattle.draws.proofs.draw_contour.Statement.{statement}
 use Rattle.draws.proofs.draw_contour.Tie as tie
-use Rattle.draws.proofs.draw_contour.Reads as reads
-use Rattle.draws.proofs.draw_contour.Lts as lts
-use Rattle.changes.proofs.after.Reads as after-reads
-use Rattle.changes.proofs.target.Reads as target-reads
-use Rattle.draws.proofs.advanced.Reads as advanced-reads
-use Rattle.draws.proofs.put_edge.Reads as put-edge-reads
-use Rattle.draws.proofs.put_item.Reads as put-item-reads
-use Rattle.marks.proofs.contour.Reads as contour-reads
-use Rattle.marks.proofs.edge.Reads as edge-reads
 
--- src/lib.rt:117:32
 contour-requires : tie.Need-contour-requires
 contour-requires c κs = search needs
 
--- src/lib.rt:117:9
 put-item-requires : tie.Need-put-item-requires
 put-item-requires c κs = (known-items _ _ (c .before .before .before .before .before .pre .0 .known), draw-has-room _ _ (c .before .before .before .before .before .args .place) _ _ _ (c .before .before .before .before .before .pre .0))
 
--- src/lib.rt:118:28
 target-requires : tie.Need-target-requires
 target-requires c κs = search needs
 
--- src/lib.rt:118:9
 edge-requires : tie.Need-edge-requires
 edge-requires c κs = (known-mode _ _ (c .before .before .before .before .before .before .before .before .before .pre .0 .known), (known-point _ _ (c .before .before .before .before .before .before .before .before .before .pre .0 .known), c .before .before .before .before .before .before .before .before .before .pre .0 .near .centre))
 
--- src/lib.rt:119:9
 put-edge-requires : tie.Need-put-edge-requires
 put-edge-requires c κs = contour-asks _ _ _ _ _ _ (c .before .before .before .before .before .before .before .before .before .before .before .pre .0) (c .before .before .before .before .before .before .before .before .before .before .before .pre .1) (c .before .before .before .before .before .before .contour .ensures) (c .before .before .before .before .before .put-item .ensures)
 
--- src/lib.rt:121:17
 after-requires : tie.Need-after-requires
 after-requires c κs = search needs
 
--- src/lib.rt:121:5
 advanced-requires : tie.Need-advanced-requires
 advanced-requires c κs = search needs
 
--- src/lib.rt:110:1
 same-length : tie.Need-same-length
 same-length c = c .before .before .before .before .put-edge .kept .0 ∙ c .before .before .before .before .before .before .before .before .before .before .put-item .kept .0
 
--- src/lib.rt:110:1
 returns : tie.Need-returns
 returns c = contour-drawn _ _ _ _ _ _ (c .before .before .before .before .before .before .before .before .before .before .before .before .before .before .before .before .pre .0) (c .before .before .before .before .before .before .before .target .ensures) (c .before .after .ensures) (c .before .before .before .before .before .before .before .before .before .before .before .before .before .before .before .before .pre .1) (c .before .before .before .before .before .before .before .before .before .before .before .contour .ensures) (c .before .before .before .before .before .before .before .before .before .before .put-item .ensures) (c .before .before .before .before .before .before .edge .ensures) (c .before .before .before .before .put-edge .ensures) (c .advanced .ensures)
 

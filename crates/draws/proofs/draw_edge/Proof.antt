@@ -4,39 +4,25 @@ use Rattle.draws.proofs.Drawn.{edge-asks, edge-drawn}
 use borrow.Author.Needs.{needs}
 use Rattle.draws.proofs.draw_edge.Statement.{statement}
 use Rattle.draws.proofs.draw_edge.Tie as tie
-use Rattle.draws.proofs.draw_edge.Reads as reads
-use Rattle.draws.proofs.draw_edge.Lts as lts
-use Rattle.changes.proofs.after.Reads as after-reads
-use Rattle.changes.proofs.target.Reads as target-reads
-use Rattle.draws.proofs.advanced.Reads as advanced-reads
-use Rattle.draws.proofs.put_edge.Reads as put-edge-reads
-use Rattle.marks.proofs.edge.Reads as edge-reads
 
--- src/lib.rt:103:28
 target-requires : tie.Need-target-requires
 target-requires c κs = search needs
 
--- src/lib.rt:103:9
 edge-requires : tie.Need-edge-requires
 edge-requires c κs = (known-mode _ _ (c .before .before .before .before .pre .0 .known), (known-point _ _ (c .before .before .before .before .pre .0 .known), c .before .before .before .before .pre .0 .near .centre))
 
--- src/lib.rt:104:9
 put-edge-requires : tie.Need-put-edge-requires
 put-edge-requires c κs = edge-asks _ _ (c .before .before .before .before .before .before .args .place) _ _ _ (c .before .before .before .before .before .before .pre .0) (c .before .before .before .before .before .before .pre .1)
 
--- src/lib.rt:106:17
 after-requires : tie.Need-after-requires
 after-requires c κs = search needs
 
--- src/lib.rt:106:5
 advanced-requires : tie.Need-advanced-requires
 advanced-requires c κs = search needs
 
--- src/lib.rt:96:1
 same-length : tie.Need-same-length
 same-length c = search needs
 
--- src/lib.rt:96:1
 returns : tie.Need-returns
 returns c = edge-drawn _ _ _ _ _ _ (c .before .before .before .before .before .before .before .before .before .before .before .pre .0) (c .before .before .before .before .before .before .before .target .ensures) (c .before .after .ensures) (c .before .before .before .before .before .before .before .before .before .before .before .pre .1) (c .before .before .before .before .before .before .edge .ensures) (c .before .before .before .before .put-edge .ensures) (c .advanced .ensures)
 

@@ -4,39 +4,25 @@ use Rattle.draws.proofs.Drawn.{draw-has-room, item-drawn}
 use borrow.Author.Needs.{needs}
 use Rattle.draws.proofs.draw_item.Statement.{statement}
 use Rattle.draws.proofs.draw_item.Tie as tie
-use Rattle.draws.proofs.draw_item.Reads as reads
-use Rattle.draws.proofs.draw_item.Lts as lts
-use Rattle.changes.proofs.after.Reads as after-reads
-use Rattle.changes.proofs.target.Reads as target-reads
-use Rattle.draws.proofs.advanced.Reads as advanced-reads
-use Rattle.draws.proofs.put_item.Reads as put-item-reads
-use Rattle.marks.proofs.drawn.Reads as drawn-reads
 
--- src/lib.rt:89:29
 target-requires : tie.Need-target-requires
 target-requires c κs = search needs
 
--- src/lib.rt:89:9
 drawn-requires : tie.Need-drawn-requires
 drawn-requires c κs = (known-point _ _ (c .before .before .before .before .pre .0 .known), c .before .before .before .before .pre .0 .near .centre)
 
--- src/lib.rt:90:9
 put-item-requires : tie.Need-put-item-requires
 put-item-requires c κs = (known-items _ _ (c .before .before .before .before .before .before .pre .0 .known), draw-has-room _ _ (c .before .before .before .before .before .before .args .place) _ _ _ (c .before .before .before .before .before .before .pre .0))
 
--- src/lib.rt:92:17
 after-requires : tie.Need-after-requires
 after-requires c κs = search needs
 
--- src/lib.rt:92:5
 advanced-requires : tie.Need-advanced-requires
 advanced-requires c κs = search needs
 
--- src/lib.rt:82:1
 same-length : tie.Need-same-length
 same-length c = search needs
 
--- src/lib.rt:82:1
 returns : tie.Need-returns
 returns c = item-drawn _ _ _ _ _ _ (c .before .before .before .before .before .before .before .before .before .before .before .pre .0) (c .before .before .before .before .before .before .before .target .ensures) (c .before .after .ensures) (c .before .before .before .before .before .before .before .before .before .before .before .pre .1) (c .before .before .before .before .before .before .drawn .ensures) (c .before .before .before .before .put-item .ensures) (c .advanced .ensures)
 

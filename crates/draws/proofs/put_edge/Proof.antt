@@ -3,35 +3,25 @@ use Rattle.draws.proofs.Puts.{put-next, put-full}
 use borrow.Author.Needs.{needs}
 use Rattle.draws.proofs.put_edge.Statement.{statement}
 use Rattle.draws.proofs.put_edge.Tie as tie
-use Rattle.draws.proofs.put_edge.Reads as reads
-use Rattle.draws.proofs.put_edge.Lts as lts
-use Rattle.contours.proofs.add_edge.Reads as add-edge-reads
 
--- src/lib.rt:49:9
 add-edge-requires : tie.Need-add-edge-requires
 add-edge-requires c κs = search needs
 
--- src/lib.rt:51:19
 enum-known-r : tie.Need-enum-known-r
 enum-known-r c = search needs
 
--- src/lib.rt:52:22
 enum-told : tie.Need-enum-told
 enum-told c = search needs
 
--- src/lib.rt:44:1
 same-length : tie.Need-same-length
 same-length c = search needs
 
--- src/lib.rt:44:1
 returns : tie.Need-returns
 returns c = (put-next _ _ _ _ _ (c .before .before .before .before .before .before .before .before .pre .1) (c .before .before .before .before .before .add-edge .ensures .0) _ (c .before .r .given .1), c .before .before .before .before .before .add-edge .ensures .1)
 
--- src/lib.rt:44:1
 same-length-2 : tie.Need-same-length-2
 same-length-2 c = search needs
 
--- src/lib.rt:44:1
 returns-2 : tie.Need-returns-2
 returns-2 c = absurd (put-full _ _ _ _ _ (c .before .before .before .before .before .before .before .pre .1) (c .before .before .before .before .add-edge .ensures .0) (c .enum-told .given .1))
 

@@ -3,35 +3,25 @@ use Rattle.draws.proofs.Puts.{put-next, put-full}
 use borrow.Author.Needs.{needs}
 use Rattle.draws.proofs.put_item.Statement.{statement}
 use Rattle.draws.proofs.put_item.Tie as tie
-use Rattle.draws.proofs.put_item.Reads as reads
-use Rattle.draws.proofs.put_item.Lts as lts
-use Rattle.build.proofs.add_item.Reads as add-item-reads
 
--- src/lib.rt:36:9
 add-item-requires : tie.Need-add-item-requires
 add-item-requires c κs = search needs
 
--- src/lib.rt:38:19
 enum-known-r : tie.Need-enum-known-r
 enum-known-r c = search needs
 
--- src/lib.rt:39:22
 enum-told : tie.Need-enum-told
 enum-told c = search needs
 
--- src/lib.rt:31:1
 same-length : tie.Need-same-length
 same-length c = search needs
 
--- src/lib.rt:31:1
 returns : tie.Need-returns
 returns c = (put-next _ _ _ _ _ (c .before .before .before .before .before .before .before .before .pre .1) (c .before .before .before .before .before .add-item .ensures .0) _ (c .before .r .given .1), c .before .before .before .before .before .add-item .ensures .1)
 
--- src/lib.rt:31:1
 same-length-2 : tie.Need-same-length-2
 same-length-2 c = search needs
 
--- src/lib.rt:31:1
 returns-2 : tie.Need-returns-2
 returns-2 c = absurd (put-full _ _ _ _ _ (c .before .before .before .before .before .before .before .pre .1) (c .before .before .before .before .add-item .ensures .0) (c .enum-told .given .1))
 

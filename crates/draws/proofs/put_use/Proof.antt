@@ -3,35 +3,25 @@ use Rattle.draws.proofs.Puts.{put-next, put-full}
 use borrow.Author.Needs.{needs}
 use Rattle.draws.proofs.put_use.Statement.{statement}
 use Rattle.draws.proofs.put_use.Tie as tie
-use Rattle.draws.proofs.put_use.Reads as reads
-use Rattle.draws.proofs.put_use.Lts as lts
-use Rattle.build.proofs.add_use.Reads as add-use-reads
 
--- src/lib.rt:64:9
 add-use-requires : tie.Need-add-use-requires
 add-use-requires c κs = search needs
 
--- src/lib.rt:66:19
 enum-known-r : tie.Need-enum-known-r
 enum-known-r c = search needs
 
--- src/lib.rt:67:22
 enum-told : tie.Need-enum-told
 enum-told c = search needs
 
--- src/lib.rt:58:1
 same-length : tie.Need-same-length
 same-length c = search needs
 
--- src/lib.rt:58:1
 returns : tie.Need-returns
 returns c = (put-next _ _ _ _ _ (c .before .before .before .before .before .before .before .before .pre .1) (c .before .before .before .before .before .add-use .ensures .0) _ (c .before .r .given .1), c .before .before .before .before .before .add-use .ensures .1)
 
--- src/lib.rt:58:1
 same-length-2 : tie.Need-same-length-2
 same-length-2 c = search needs
 
--- src/lib.rt:58:1
 returns-2 : tie.Need-returns-2
 returns-2 c = absurd (put-full _ _ _ _ _ (c .before .before .before .before .before .before .before .pre .1) (c .before .before .before .before .add-use .ensures .0) (c .enum-told .given .1))
 
