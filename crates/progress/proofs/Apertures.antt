@@ -69,6 +69,18 @@ told-other r e = rw e
 
 -- ---- found by number
 
+-- the record found is in use, and has the number
+module _ (a : List ℕ) (used n i : ℕ) (at : numbered a used n ≡ At i) where
+  picked : Picked (λ i. eqb (numberOf a i) n) used (At i)
+  unfolding numbered
+  picked = rw (zero-add used, at) at (first-picked (λ i. eqb (numberOf a i) n) 0 used (lastLink a used 0 n))
+
+  pub at-below : i < used
+  at-below = picked .0
+
+  pub at-number : apertureOf a i .number ≡ n
+  at-number = number-is a i ∙ eqb-true (numberOf a i) n (picked .1)
+
 abbrev chosenBy : (ℕ → Aperture) → Search → Selected
 chosenBy f (At i) = selected i (f i)
 chosenBy f (Free l) = noAperture
@@ -124,17 +136,6 @@ module _ (a : List ℕ) (used : ℕ) (known : List Aperture) (t : ApertureTable 
 
   pub with-free : (link : ℕ) → numbered a used n ≡ Free link → apertureWith n known ≡ noAperture
   with-free link e = chosen-by ∙ ap (chosenBy f) e
-
-  picked : Picked (λ i. eqb (numberOf a i) n) used (numbered a used n)
-  unfolding numbered
-  picked = rw (zero-add used) at (first-picked (λ i. eqb (numberOf a i) n) 0 used (lastLink a used 0 n))
-
-  -- the record found is in use, and has the number
-  pub at-below : (i : ℕ) → numbered a used n ≡ At i → i < used
-  at-below i e = (rw e at picked) .0
-
-  pub at-number : (i : ℕ) → numbered a used n ≡ At i → apertureOf a i .number ≡ n
-  at-number i e = number-is a i ∙ eqb-true (numberOf a i) n ((rw e at picked) .1)
 
 -- as many as are in use
 pub known-long : (a : List ℕ) (used : ℕ) (known : List Aperture) → ApertureTable a used known → length known ≡ used

@@ -25,9 +25,17 @@ use Rattle.tables.proofs.Macros.{macro-named, macro-new, macro-kept, macro-behi
 use Rattle.reading.specs.State.{Template}
 use Rattle.reading.specs.Apertures.{isAmong, namesOf, blocksOf}
 use Rattle.progress.specs.Tables.{templateOf, MacroTable}
-use Rattle.progress.proofs.Found.{isFound, first-picked, one-more}
+use Rattle.progress.proofs.Found.{isFound, Picked, first-picked, one-more}
 
 -- ---- found by name
+
+-- the macro found is in use
+pub macro-below : (file m : List ℕ) (used : ℕ) (name : List ℕ) (i : ℕ) → named file m used name ≡ At i → i < used
+unfolding named
+macro-below file m used name i at =
+    let p : Picked (λ i. sameBytes (nameOf file m i) name) used (At i) =
+    rw (zero-add used, at) at (first-picked (λ i. sameBytes (nameOf file m i) name) 0 used (lastLink m used 0 (keyOf name))) in
+    p .0
 
 abbrev blocksBy : (ℕ → Template) → Search → List ℕ
 blocksBy f (At i) = f i .blocks
@@ -82,12 +90,6 @@ module _ (file m : List ℕ) (used : ℕ) (known : List Template) (t : MacroTabl
   pub blocks-at : (i : ℕ) → named file m used name ≡ At i → blocksOf name known ≡ slice (macroOf m i .first) (macroOf m i .end) file
   unfolding templateOf
   blocks-at i e = blocks-by ∙ ap (blocksBy f) e
-
-  -- the macro found is in use
-  pub macro-below : (i : ℕ) → named file m used name ≡ At i → i < used
-  macro-below i e =
-      let p = rw (zero-add used) at (first-picked (λ i. sameBytes (f i .name) name) 0 used (lastLink m used 0 (keyOf name))) in
-      (rw (← search-is, e) at p) .0
 
 -- as many as are in use
 pub known-long : (file m : List ℕ) (used : ℕ) (known : List Template) → MacroTable file m used known → length known ≡ used

@@ -1,0 +1,13 @@
+-- What Dn selects, by what the search for its number found.
+use Prim.Native.Nat.{ℕ}
+use mathlib.Core.List.{List}
+use Rattle.index.specs.declared.Search.{Search}
+use Rattle.index.specs.declared.Search.the-variants.{At, Free}
+use Rattle.sheet.specs.Records.{apertureOf}
+use Rattle.graphics.specs.Graphics.{noAperture}
+use Rattle.graphics.specs.declared.Selected.{Selected}
+use Rattle.reading.specs.Apertures.{selected}
+
+unfoldable pub chosenBy : List ℕ → Search → Selected
+chosenBy a (At i) = selected i (apertureOf a i)
+chosenBy a (Free link) = noAperture
