@@ -1,2 +1,4 @@
 pub mod Passing
+pub mod Texts
 pub mod Selecting
+pub mod Modelling

@@ -1,12 +1,32 @@
--- A table of rules that gives 0: no test of it holds.
+-- Tests of the rules: where a table of them gives 0, none holds; a test that is known beside another; room that is left or not.
 -- Assumes nothing.
 use Prim.Native.Nat.{ℕ, _≤_}
 use mathlib.Core.Path.{_≡_, refl}
-use mathlib.Core.Bool.{Bool, true, false}
+use mathlib.Core.Bool.{Bool, true, false, not}
 use native.Mathlib.Omega.{arith}
+use lib.Dec.{leb, ltb}
+use borrow.Author.Tests.{ltb-true, ltb-false, le-leb, lt-leb}
+use Rattle.base.specs.Or.{_or_}
 use Rattle.command.specs.Choose.{pick}
 
 pub passes : (b : Bool) (n rest : ℕ) → 1 ≤ n → pick b n rest ≡ 0 → (b ≡ false) × (rest ≡ 0)
 unfolding pick
 passes true n rest h e = absurd (omega arith)
 passes false n rest h e = (refl, e)
+
+pub or-true : (b : Bool) → (b or true) ≡ true
+unfolding _or_
+or-true true = refl
+or-true false = refl
+
+pub or-false : (b : Bool) → (b or false) ≡ b
+unfolding _or_
+or-false true = refl
+or-false false = refl
+
+pub room-full : (used room : ℕ) → leb room used ≡ not (ltb used room)
+room-full used room = go (ltb used room) refl
+  where
+    go : (b : Bool) → ltb used room ≡ b → leb room used ≡ not b
+    go true e = lt-leb room used (ltb-true used room e)
+    go false e = le-leb room used (ltb-false used room e)

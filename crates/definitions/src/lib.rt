@@ -1,11 +1,18 @@
 // Dn, AD and AM: an aperture selected, and apertures and macros defined in their lent words.
+use command::Span;
 use graphics::Selected;
 use index::Search;
 use progress::Progress;
 use progress::Stepped;
+use tables::Macro;
 ghost use mathlib.Core.Path.{_≡_};
+ghost use Prim.Native.Nat.{_≤_};
+ghost use lib.ListN.{length};
+ghost use lib.Seq.{slice};
 ghost use Rattle.index.specs.Numbers.{numbered, Numbered};
-ghost use Rattle.reading.specs.Steps.{selectStep};
+ghost use Rattle.bounds.specs.Bounded.{Models};
+ghost use Rattle.reading.specs.Steps.{part, selectStep, macroStep};
+ghost use Rattle.progress.specs.Lent.{withMacros};
 ghost use Rattle.progress.specs.Knows.{Known, StepsTo};
 ghost use Rattle.definitions.specs.Chosen.{chosenBy};
 
@@ -59,6 +66,53 @@ pub fn select(a: &[u64], p: Progress, n: u64) -> Stepped
         sheet: p.sheet,
         apertures: p.apertures,
         macros: p.macros,
+        numbers: p.numbers,
+    })
+}
+
+// AM, whose text is file[from..end]; its name and its blocks lie in the text.
+pub fn add_macro(
+    file: &[u8],
+    m: &mut [u64],
+    p: Progress,
+    from: usize,
+    end: usize,
+    name: Span,
+    blocks: Span,
+    deep: bool,
+) -> Stepped
+    requires { ⌜ Known (λ w. (w .file ≡ now file) × (w .macros ≡ now m)) p × (from ≤ end) × (end ≤ length (now file)) × Models (slice from end (now file)) name blocks ⌝ }
+    ensures { λ r. ⌜ (length (now (m .exit)) ≡ length (now (m .entry))) × StepsTo (λ room s. macroStep room (part (slice from end (now (file .entry))) name) (slice (name .to) (blocks .to) (slice from end (now (file .entry)))) deep s) (λ w. (w .file ≡ now (file .entry)) × (w .macros ≡ now (m .entry))) (withMacros (now (m .exit))) p r ⌝ }
+{
+    let g = p.graphics;
+    let first = from + name.from;
+    let last = from + name.to;
+    let found = index::search_name(file, m, p.macros, first, last);
+    let Search::Free(link) = found else {
+        return Stepped::Fault(rules::macro_fault(g, true, deep, false));
+    };
+    let r = Macro {
+        from: first,
+        to: last,
+        first: last,
+        end: from + blocks.to,
+    };
+    let room = tables::put_macro(m, p.macros, link, r);
+    let kind = templates::kind_of(base::part(file, first, last));
+    let fault = rules::macro_fault(g, kind <= 4, deep, !room);
+    if fault != 0 {
+        return Stepped::Fault(fault);
+    }
+    let builder = p.builder;
+    Stepped::Next(Progress {
+        graphics: g,
+        builder,
+        contour: p.contour,
+        depth: p.depth,
+        copies: p.copies,
+        sheet: p.sheet,
+        apertures: p.apertures,
+        macros: p.macros + 1,
         numbers: p.numbers,
     })
 }
