@@ -2,3 +2,5 @@ pub mod Passing
 pub mod Texts
 pub mod Selecting
 pub mod Modelling
+pub mod Gathered
+pub mod Working

@@ -2,6 +2,8 @@
 use command::Span;
 use graphics::Selected;
 use index::Search;
+use macros::Outcome;
+use macros::Pen;
 use progress::Progress;
 use progress::Stepped;
 use tables::Macro;
@@ -9,12 +11,15 @@ ghost use mathlib.Core.Path.{_≡_};
 ghost use Prim.Native.Nat.{_≤_};
 ghost use lib.ListN.{length};
 ghost use lib.Seq.{slice};
+ghost use Rattle.templates.specs.Templates.{kindOf};
+ghost use Rattle.index.specs.Names.{Named};
 ghost use Rattle.index.specs.Numbers.{numbered, Numbered};
 ghost use Rattle.bounds.specs.Bounded.{Models};
 ghost use Rattle.reading.specs.Steps.{part, selectStep, macroStep};
 ghost use Rattle.progress.specs.Lent.{withMacros};
 ghost use Rattle.progress.specs.Knows.{Known, StepsTo};
 ghost use Rattle.definitions.specs.Chosen.{chosenBy};
+ghost use Rattle.definitions.specs.Worked.{standardOf, Comes, WorksOut};
 
 // The aperture with a number as Dn selects it, not set where it is an open block, or where there is none.
 fn aperture_with(a: &[u64], used: usize, n: u64) -> Selected
@@ -68,6 +73,53 @@ pub fn select(a: &[u64], p: Progress, n: u64) -> Stepped
         macros: p.macros,
         numbers: p.numbers,
     })
+}
+
+// What the parameters of a standard template come to, from their comma on; they are written as far as there is room.
+fn standard(kind: u64, t: &[u8], numbers: &mut [i64], used: usize) -> Outcome
+    ensures { λ r. ⌜ Comes (standardOf kind (now (t .entry))) (now (numbers .entry)) (now (numbers .exit)) used r ⌝ }
+{
+    let mut q = primitives::nothing();
+    let mut pen = Pen {
+        at: used,
+        over: false,
+    };
+    let mut at: usize = 0;
+    while at < t.len() {
+        let next = text::find(t, at + 1, b'X');
+        let d = command::size_of(base::part(t, at + 1, next));
+        let a = d.value;
+        pen = macros::write(numbers, pen, a);
+        q = primitives::one_more(q, a);
+        at = next;
+    }
+    let fault = drawing::fault(templates::keeps_rule(kind, q), 0, 10);
+    macros::answered(fault, pen)
+}
+
+// What an AD comes to whose template has that name in the file, by its parameters t from their comma on.
+fn worked(
+    kind: u64,
+    file: &[u8],
+    m: &[u64],
+    known: usize,
+    name: Span,
+    t: &[u8],
+    numbers: &mut [i64],
+    used: usize,
+) -> Outcome
+    requires { ⌜ (kind ≡ kindOf (part (now file) name)) × Named (now file) (now m) known × (name .from ≤ name .to) × (name .to ≤ length (now file)) ⌝ }
+    ensures { λ r. ⌜ WorksOut (now (file .entry)) (now (m .entry)) known (part (now (file .entry)) name) (now (t .entry)) (now (numbers .entry)) (now (numbers .exit)) used r ⌝ }
+{
+    if kind <= 4 {
+        return standard(kind, t, numbers, used);
+    }
+    let found = index::search_name(file, m, known, name.from, name.to);
+    let Search::At(i) = found else {
+        return Outcome { number: 8, used };
+    };
+    let r = tables::macro_at(m, i);
+    macros::work_out(base::part(file, r.first, r.end), 0, t, 0, numbers, used)
 }
 
 // AM, whose text is file[from..end]; its name and its blocks lie in the text.

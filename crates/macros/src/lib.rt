@@ -45,7 +45,7 @@ pub struct Outcome {
 }
 
 // Writes a number, where there is room.
-fn write(numbers: &mut [i64], p: Pen, a: Amount) -> Pen
+pub fn write(numbers: &mut [i64], p: Pen, a: Amount) -> Pen
     ensures { λ r. ⌜ (now (numbers .exit) ≡ set (now (numbers .entry)) (p .at) (a .millionths)) × (r ≡ penned (length (now (numbers .entry))) p) ⌝ }
 {
     let at = p.at;
@@ -276,7 +276,7 @@ pub fn work_out(
 }
 
 // 17 where there was no room, if nothing is at fault.
-fn answered(fault: u64, p: Pen) -> Outcome
+pub fn answered(fault: u64, p: Pen) -> Outcome
     ensures { λ r. ⌜ r ≡ outcomeBy fault p ⌝ }
 {
     if fault == 0 {
