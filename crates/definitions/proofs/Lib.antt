@@ -4,3 +4,5 @@ pub mod Selecting
 pub mod Modelling
 pub mod Gathered
 pub mod Working
+pub mod Kept
+pub mod Defining

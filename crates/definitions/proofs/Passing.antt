@@ -4,8 +4,8 @@ use Prim.Native.Nat.{ℕ, _≤_}
 use mathlib.Core.Path.{_≡_, refl}
 use mathlib.Core.Bool.{Bool, true, false, not}
 use native.Mathlib.Omega.{arith}
-use lib.Dec.{leb, ltb}
-use borrow.Author.Tests.{ltb-true, ltb-false, le-leb, lt-leb}
+use lib.Dec.{eqb, leb, ltb}
+use borrow.Author.Tests.{eqb-true, eqb-false, ltb-true, ltb-false, le-leb, lt-leb}
 use Rattle.base.specs.Or.{_or_}
 use Rattle.command.specs.Choose.{pick}
 
@@ -13,6 +13,15 @@ pub passes : (b : Bool) (n rest : ℕ) → 1 ≤ n → pick b n rest ≡ 0 → (
 unfolding pick
 passes true n rest h e = absurd (omega arith)
 passes false n rest h e = (refl, e)
+
+-- a row that gives the number it tests
+pub passes-number : (x rest : ℕ) → pick (not (eqb x 0)) x rest ≡ 0 → (x ≡ 0) × (rest ≡ 0)
+unfolding pick
+passes-number x rest = go (eqb x 0) refl
+  where
+    go : (b : Bool) → eqb x 0 ≡ b → pick (not b) x rest ≡ 0 → (x ≡ 0) × (rest ≡ 0)
+    go true e z = (eqb-true x 0 e, z)
+    go false e z = absurd (eqb-false x 0 e z)
 
 pub or-true : (b : Bool) → (b or true) ≡ true
 unfolding _or_

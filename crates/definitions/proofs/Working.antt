@@ -33,3 +33,8 @@ module _ (file m : List ℕ) (known : ℕ) (name s : List ℕ) (l l′ : List �
   works-macro h i at r er a ms t =
       rw (lt-leb (kindOf name) 4 (rw ek at h), among-at file m known ms t name i at, blocks-at file m known ms t name i at, ← er)
       (record { says = a .says; stores = a .stores })
+
+-- the same of a name and parameters known by other words
+pub works-text : (file m : List ℕ) (known : ℕ) (name name′ s s′ : List ℕ) (l l′ : List ℤ) (used : ℕ) (o : Outcome) → name ≡ name′ → s ≡ s′
+    → WorksOut file m known name s l l′ used o → WorksOut file m known name′ s′ l l′ used o
+works-text file m known name name′ s s′ l l′ used o en es w = rw (← en, ← es) w

@@ -6,6 +6,7 @@ use macros::Outcome;
 use macros::Pen;
 use progress::Progress;
 use progress::Stepped;
+use sheet::Aperture;
 use tables::Macro;
 ghost use mathlib.Core.Path.{_≡_};
 ghost use Prim.Native.Nat.{_≤_};
@@ -14,11 +15,12 @@ ghost use lib.Seq.{slice};
 ghost use Rattle.templates.specs.Templates.{kindOf};
 ghost use Rattle.index.specs.Names.{Named};
 ghost use Rattle.index.specs.Numbers.{numbered, Numbered};
-ghost use Rattle.bounds.specs.Bounded.{Models};
-ghost use Rattle.reading.specs.Steps.{part, selectStep, macroStep};
-ghost use Rattle.progress.specs.Lent.{withMacros};
+ghost use Rattle.bounds.specs.Bounded.{Defines, Models};
+ghost use Rattle.reading.specs.Steps.{part, selectStep, apertureStep, macroStep};
+ghost use Rattle.progress.specs.Lent.{withApertures, withMacros, withNumbers};
 ghost use Rattle.progress.specs.Knows.{Known, StepsTo};
 ghost use Rattle.definitions.specs.Chosen.{chosenBy};
+ghost use Rattle.definitions.specs.Lends.{Lends};
 ghost use Rattle.definitions.specs.Worked.{standardOf, Comes, WorksOut};
 
 // The aperture with a number as Dn selects it, not set where it is an open block, or where there is none.
@@ -120,6 +122,61 @@ fn worked(
     };
     let r = tables::macro_at(m, i);
     macros::work_out(base::part(file, r.first, r.end), 0, t, 0, numbers, used)
+}
+
+// AD, whose text is file[from..end]; the name of its template and its parameters, from their comma on, lie in the text.
+pub fn define(
+    file: &[u8],
+    a: &mut [u64],
+    m: &[u64],
+    numbers: &mut [i64],
+    p: Progress,
+    from: usize,
+    end: usize,
+    n: u64,
+    name: Span,
+    parameters: Span,
+) -> Stepped
+    requires { ⌜ Known (Lends (now file) (now a) (now m) (now numbers)) p × (from ≤ end) × (end ≤ length (now file)) × Defines (slice from end (now file)) n name parameters ⌝ }
+    ensures { λ r. ⌜ (length (now (a .exit)) ≡ length (now (a .entry))) × (length (now (numbers .exit)) ≡ length (now (numbers .entry))) × StepsTo (λ room s. apertureStep room n (part (slice from end (now (file .entry))) name) (part (slice from end (now (file .entry))) parameters) s) (Lends (now (file .entry)) (now (a .entry)) (now (m .entry)) (now (numbers .entry))) (λ w. withApertures (now (a .exit)) (withNumbers (now (numbers .exit)) w)) p r ⌝ }
+{
+    let g = p.graphics;
+    let found = index::search_number(a, p.apertures, n);
+    let Search::Free(link) = found else {
+        return Stepped::Fault(rules::aperture_fault(g, true, 0, false));
+    };
+    let template = Span {
+        from: from + name.from,
+        to: from + name.to,
+    };
+    let kind = templates::kind_of(base::part(file, template.from, template.to));
+    let given = base::part(file, from + parameters.from, from + parameters.to);
+    let o = worked(kind, file, m, p.macros, template, given, numbers, p.numbers);
+    let r = Aperture {
+        number: n,
+        kind,
+        first: p.numbers as u64,
+        len: (o.used - p.numbers) as u64,
+        items: 0,
+        height: 0,
+    };
+    let room = tables::put_aperture(a, p.apertures, link, r);
+    let fault = rules::aperture_fault(g, false, o.number, !room);
+    if fault != 0 {
+        return Stepped::Fault(fault);
+    }
+    let builder = p.builder;
+    Stepped::Next(Progress {
+        graphics: g,
+        builder,
+        contour: p.contour,
+        depth: p.depth,
+        copies: p.copies,
+        sheet: p.sheet,
+        apertures: p.apertures + 1,
+        macros: p.macros,
+        numbers: o.used,
+    })
 }
 
 // AM, whose text is file[from..end]; its name and its blocks lie in the text.
