@@ -1,0 +1,3 @@
+pub mod Keeps
+pub mod Steps
+pub mod Sets

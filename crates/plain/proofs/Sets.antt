@@ -1,0 +1,85 @@
+-- What a plain command comes to, whatever is known.
+-- Assumes nothing.
+use Prim.Native.Nat.{ℕ, _≤_}
+use mathlib.Core.Path.{_≡_, sym, ap, subst, _∙_}
+use mathlib.Core.Bool.{Bool, true}
+use mathlib.Core.List.{List}
+use native.Mathlib.Omega.{arith}
+use Rattle.command.specs.declared.Command.{Command}
+use Rattle.graphics.specs.declared.Graphics.{Graphics}
+use Rattle.fits.specs.declared.Level.{Level}
+use Rattle.changes.specs.After.{after}
+use Rattle.rules.specs.Rules.{fileAttributeFault}
+use Rattle.bounds.specs.Bounded.{Bounded}
+use Rattle.reading.specs.State.{State}
+use Rattle.reading.specs.Steps as state
+use Rattle.reading.specs.Apertures.{isAmong}
+use Rattle.reading.specs.Steps.{fileAttributeStep, stepOf}
+use Rattle.progress.specs.Lent.{Lent, roomOf}
+use Rattle.progress.specs.Levels.{levelOf}
+use Rattle.progress.specs.Knows.{Knows, Follows, StepsTo}
+use Rattle.progress.specs.declared.Progress.{Progress}
+use Rattle.progress.specs.declared.Stepped.the-variants.{Next, Fault}
+use Rattle.plain.specs.Plain.{isPlain, faultOf, withGraphics}
+use Rattle.plain.proofs.Keeps.{Keeps, keeps-itself, still-known, after-keeps}
+use Rattle.plain.proofs.Steps.{plain-step}
+
+module _ (p : Progress) (c : Command) (text : List ℕ) (place : ℕ) (q : isPlain c ≡ true) (b : Bounded text c) (l : Level) (at : l ≡ levelOf p) where
+  fault-is : (w : Lent) (s : State) → Knows w p s → stepOf (roomOf w) text place c s .fault ≡ faultOf (p .graphics) l c
+  fault-is w s k =
+      ap (λ t. t .fault) (plain-step (roomOf w) text place s c q) ∙ sym (λ i. faultOf (k .graphics i) ((at ∙ k .level) i) c)
+
+  pub set-refuses :
+      (n : ℕ)
+      → n ≡ faultOf (p .graphics) l c
+      → (n ≡ 0 → ⊥)
+      → StepsTo (λ room s. stepOf room text place c s) (λ w. Unit) (λ w. w) p (Fault n)
+  unfolding Follows
+  set-refuses n e some w s u k = (fault-is w s k ∙ sym e, omega (arith, some))
+
+  pub set-goes-on :
+      (g : Graphics)
+      → g ≡ after c (p .graphics)
+      → faultOf (p .graphics) l c ≡ 0
+      → StepsTo (λ room s. stepOf room text place c s) (λ w. Unit) (λ w. w) p (Next (withGraphics g p))
+  unfolding Follows
+  set-goes-on g a e w s u k =
+      let now : Keeps (s .graphics) (after c (s .graphics)) = after-keeps (s .graphics) (keeps-itself w p s k) text c q b in
+      let known : Knows w (withGraphics (after c (s .graphics)) p) (state.withGraphics (after c (s .graphics)) s) = still-known w p s k _ now in
+      let same : after c (s .graphics) ≡ g = sym (a ∙ ap (after c) (k .graphics)) in (
+        fault-is w s k ∙ e,
+        subst (λ t. Knows w (withGraphics g p) (t .next)) (sym (plain-step (roomOf w) text place s c q))
+            (subst (λ h. Knows w (withGraphics h p) (state.withGraphics (after c (s .graphics)) s)) same known),
+      )
+
+-- TF: nothing of its name is kept but that it is set
+module _ (p : Progress) (name : List ℕ) (again : Bool) (w : Lent) (s : State) (e : again ≡ isAmong name (s .names)) (k : Knows w p s) where
+  name-fault : fileAttributeStep name s .fault ≡ fileAttributeFault (p .graphics) again
+  unfolding fileAttributeStep
+  name-fault = λ i. fileAttributeFault (sym (k .graphics) i) (sym e i)
+
+  pub name-refuses : (n : ℕ) → n ≡ fileAttributeFault (p .graphics) again → (n ≡ 0 → ⊥) → Follows (Knows w) (fileAttributeStep name s) (Fault n)
+  unfolding Follows
+  name-refuses n f some = (name-fault ∙ sym f, omega (arith, some))
+
+  pub name-goes-on : fileAttributeFault (p .graphics) again ≡ 0 → Follows (Knows w) (fileAttributeStep name s) (Next p)
+  unfolding Follows fileAttributeStep state.withNames
+  name-goes-on f = (
+    name-fault ∙ f,
+    record {
+      graphics = k .graphics;
+      point = k .point;
+      mode = k .mode;
+      inside = k .inside;
+      aperture = k .aperture;
+      level = k .level;
+      counts = k .counts;
+      around = k .around;
+      apertures = k .apertures;
+      macros = k .macros;
+      numbers = k .numbers;
+      entries = k .entries;
+      shows = k .shows;
+      contour = k .contour;
+    },
+  )
