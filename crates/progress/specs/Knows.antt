@@ -1,5 +1,5 @@
 -- What the lent words and the progress hold of what reading knows between two commands (crates/reading), and what a step comes to.
-use Prim.Native.Nat.{ℕ, _+_, _^_, _≤_}
+use Prim.Native.Nat.{_+_, _^_, _≤_}
 use mathlib.Core.Path.{_≡_}
 use mathlib.Core.Bool.{true}
 use Rattle.points.specs.Points.{Within}

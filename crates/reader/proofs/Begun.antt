@@ -1,20 +1,16 @@
 -- Over rooms of zeros, nothing is known before the first command.
 -- Assumes nothing.
 use Prim.Native.Nat.{ℕ, zero, suc}
-use mathlib.Core.Path.{_≡_, refl, sym, ap, _∙_}
+use mathlib.Core.Path.{_≡_, refl}
 use mathlib.Core.Bool.{true, false}
-use mathlib.Core.List.{List, [], _++_}
 use native.Mathlib.Nat.{sub-zero}
 use native.Mathlib.Omega.{arith}
-use lib.IntN.{ℤ, pos, natAbs}
 use lib.ListN.{length, getD, replicate}
 use Rattle.base.specs.Run.{run}
 use Rattle.place.specs.Mark.{written}
-use Rattle.sheet.specs.Records.{entryRoom}
 use Rattle.graphics.specs.Graphics as graphics
 use Rattle.graphics.specs.Graphics.{origin, unset, noAperture, noRegion}
 use Rattle.drawing.specs.Counts.{counted}
-use Rattle.shown.specs.Shown.{blank}
 use Rattle.shown.proofs.Ends.{starts}
 use Rattle.reading.specs.State.{outermost, begun}
 use Rattle.progress.specs.Lent.{Lent}

@@ -2,9 +2,9 @@
 -- Assumes nothing.
 use Prim.Native.Nat.{ℕ, _+_, _≤_}
 use mathlib.Core.Path.{_≡_, refl, sym, ap, _∙_, subst}
-use mathlib.Core.Bool.{true, false, cond}
-use mathlib.Core.List.{List, []}
-use lib.IntN.{ℤ, pos}
+use mathlib.Core.Bool.{true, false}
+use mathlib.Core.List.{List}
+use lib.IntN.{pos}
 use lib.ListN.{length, replicate, length-replicate}
 use Rattle.scan.specs.Permitted.{fits}
 use Rattle.commands.specs.Commands.{commandsOf}
@@ -13,8 +13,8 @@ use Rattle.graphics.specs.declared.Graphics.{Graphics}
 use Rattle.sheet.specs.Records.{entryRoom}
 use Rattle.close.specs.Closed.{headOf, Ended}
 use Rattle.reading.specs.State.{begun}
-use Rattle.reading.specs.Reading.{Answer, accepted, refused, readOn, reading}
-use Rattle.progress.specs.Lent.{Lent, lentOf, roomOf, withEntries}
+use Rattle.reading.specs.Reading.{Answer, refused, readOn, reading}
+use Rattle.progress.specs.Lent.{Lent, roomOf, withEntries}
 use Rattle.progress.specs.declared.Progress.{Progress}
 use Rattle.reader.specs.declared.Answer as code
 use Rattle.reader.specs.declared.Answer.the-variants as answer

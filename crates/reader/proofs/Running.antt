@@ -14,7 +14,6 @@ use Rattle.command.specs.Choose.{pick}
 use Rattle.command.specs.declared.Span.{Span}
 use Rattle.command.specs.declared.Command.{Command}
 use Rattle.command.specs.declared.Command.the-variants as cmd
-use Rattle.commands.specs.Commands.{Sequence}
 use Rattle.commands.specs.Turns.{turnOf, tailFault}
 use Rattle.commands.specs.declared.Placed.{Placed}
 use Rattle.commands.specs.declared.Refusal.{Refusal}
@@ -22,7 +21,7 @@ use Rattle.commands.specs.declared.Turn.{Turn}
 use Rattle.commands.specs.declared.Turn.the-variants as turn
 use Rattle.commands.proofs.Walk.{walk, walk-fault, walk-last, walk-more, more-onward}
 use Rattle.rules.specs.Rules.{fileAttributeFault, endFault}
-use Rattle.reading.specs.State.{Room, State, begun}
+use Rattle.reading.specs.State.{Room, State}
 use Rattle.reading.specs.Apertures.{isAmong}
 use Rattle.reading.specs.Steps.{part, fileAttributeStep, stepOf}
 use Rattle.reading.specs.Reading.{Answer, accepted, refused, stepAt, readOn}
@@ -31,7 +30,7 @@ use Rattle.names.specs.Twice.{twiceIn}
 use Rattle.names.specs.declared.Setting.{Setting}
 use Rattle.names.specs.declared.Setting.the-variants as setting
 use Rattle.names.proofs.Onward.{again-other, again-new, again-here}
-use Rattle.progress.specs.Lent.{Lent, roomOf}
+use Rattle.progress.specs.Lent.{Lent}
 use Rattle.progress.specs.Knows.{Knows, Follows}
 use Rattle.progress.specs.declared.Progress.{Progress}
 use Rattle.progress.specs.declared.Stepped.{Stepped}

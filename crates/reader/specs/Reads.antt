@@ -2,7 +2,7 @@
 use Prim.Native.Nat.{ℕ}
 use mathlib.Core.Path.{_≡_}
 use mathlib.Core.List.{List}
-use lib.IntN.{ℤ, pos}
+use lib.IntN.{pos}
 use lib.ListN.{length, replicate}
 use Rattle.reading.specs.Reading.{Answer, accepted, refused}
 use Rattle.progress.specs.Lent.{Lent}

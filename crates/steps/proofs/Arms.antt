@@ -1,7 +1,7 @@
 -- Each arm of the step: what its function promises is what the step of the definition comes to.
 -- Assumes nothing.
 use Prim.Native.Nat.{ℕ}
-use mathlib.Core.Path.{_≡_, refl, sym, ap, _∙_, subst}
+use mathlib.Core.Path.{_≡_, refl, sym, subst}
 use mathlib.Core.Bool.{Bool, true}
 use mathlib.Core.List.{List}
 use lib.IntN.{ℤ}
@@ -14,24 +14,9 @@ use Rattle.command.specs.declared.Command.{Command}
 use Rattle.command.specs.declared.Command.the-variants as cmd
 use Rattle.commands.specs.declared.Placed.{Placed}
 use Rattle.bounds.specs.Bounded.{Bounded, Goes, Draws, Defines, Models, Repeats}
-use Rattle.reading.specs.State.{Room, State}
+use Rattle.reading.specs.State.{State}
 use Rattle.reading.specs.Apertures.{isAmong}
-use Rattle.reading.specs.Steps.{
-  Step,
-  part,
-  drawStep,
-  flashStep,
-  selectStep,
-  apertureStep,
-  macroStep,
-  blockStartStep,
-  repeatStartStep,
-  blockEndStep,
-  repeatEndStep,
-  fileAttributeStep,
-  stepOf,
-}
-use Rattle.reading.specs.Reading.{stepAt}
+use Rattle.reading.specs.Steps.{part, drawStep, flashStep, selectStep, apertureStep, macroStep, blockStartStep, repeatStartStep, blockEndStep, repeatEndStep, fileAttributeStep, stepOf}
 use Rattle.progress.specs.Lent.{Lent, lentOf, roomOf, withEntries, withApertures, withMacros, withNumbers}
 use Rattle.progress.specs.Knows.{Knows, Known, Follows, StepsTo}
 use Rattle.progress.specs.declared.Progress.{Progress}

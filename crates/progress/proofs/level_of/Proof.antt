@@ -1,10 +1,10 @@
+-- `progress::level_of` meets its contract, case by case of the height.
+-- Assumes nothing.
 use mathlib.Core.Path.{sym}
 use Rattle.progress.specs.Levels.{levelOf}
 use Rattle.progress.proofs.Levels.{block-level, repeat-level, top-level}
 use Rattle.progress.proofs.level_of.Statement.{statement}
 use Rattle.progress.proofs.level_of.Tie as tie
-use Rattle.progress.proofs.level_of.Reads as reads
-use Rattle.progress.proofs.level_of.Lts as lts
 
 returns : tie.Need-returns
 unfolding levelOf
