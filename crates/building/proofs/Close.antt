@@ -6,11 +6,9 @@ use mathlib.Core.Bool.{Bool, true, false, false≢true}
 use mathlib.Core.List.{List, [], _∷_, _++_, append-nil}
 use native.Mathlib.Nat.{add-zero, le-refl, mul-pos, mul-le-mul-right, le-div-iff-mul-le}
 use native.Mathlib.Omega.{arith}
-use lib.Dec.{eqb, leb}
-use lib.IntN.{pos}
+use lib.Dec.{eqb}
 use borrow.Author.Tests.{eq-eqb, ne-eqb, eqb-true, eqb-false, le-leb}
 use Rattle.base.specs.And.{_and_}
-use Rattle.base.specs.Run.{sums}
 use Rattle.base.proofs.And.{and-i}
 use Rattle.ints.proofs.Bounded.{pos-bits}
 use Rattle.place.specs.declared.Item.{Item}

@@ -9,7 +9,6 @@ use native.Mathlib.Nat.{zero-add, le-refl, eq-or-lt-of-le}
 use native.Mathlib.Omega.{arith}
 use lib.Dec.{eqb}
 use borrow.Author.Tests.{eqb-true}
-use Rattle.base.specs.Run.{sums}
 use Rattle.base.proofs.Run.{sums-snoc}
 use Rattle.place.specs.declared.Item.{Item}
 use Rattle.place.specs.Mark.{Around, top, within, block, repeat}

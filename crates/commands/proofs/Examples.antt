@@ -21,7 +21,7 @@ use Rattle.words.specs.Words.{codeOf, wordOf}
 use Rattle.settings.specs.Header.{formatOf}
 use Rattle.attributes.specs.Attributes.{deletionOf}
 use Rattle.recognise.specs.Commands.{oneBlock, dataOf, extendedOf, commandOf}
-use Rattle.commands.specs.Commands.{Sequence, commandsFrom, commandsOf}
+use Rattle.commands.specs.Commands.{commandsFrom, commandsOf}
 use Rattle.commands.specs.Leads.{leadOf}
 use Rattle.commands.specs.Turns.{refusal, led, turned, turnOf, tailFault}
 use Rattle.commands.specs.declared.Placed.{Placed}

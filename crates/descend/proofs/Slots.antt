@@ -6,7 +6,7 @@ use mathlib.Core.List.{List, _++_, append-assoc, append-nil}
 use native.Mathlib.Nat.{zero-add, add-zero}
 use native.Mathlib.Numerals.{add-one}
 use native.Mathlib.Omega.{arith}
-use lib.ListN.{length, getD, take, drop, replicate, length-replicate, replicate-append-replicate, List·getD-eq-default}
+use lib.ListN.{length, getD, drop, replicate, length-replicate, replicate-append-replicate, List·getD-eq-default}
 use lib.Seq.{take-at, drop-at, drop-append-add}
 use Rattle.base.specs.Run.{run}
 use Rattle.base.proofs.Run.{run-snoc, length-copies}

@@ -15,7 +15,7 @@ use Rattle.reckon.specs.declared.Reckoned.{Reckoned}
 use Rattle.reckon.specs.declared.Reckoned.the-variants.{Refused, Value}
 use Rattle.tokens.specs.Tokens.{tokens, lexed}
 use Rattle.tokens.specs.declared.Token.{Token}
-use Rattle.expression.specs.Grammar.{Reading, refused, reads, after, kept, joined, negated, isClose, closed, head, tail}
+use Rattle.expression.specs.Grammar.{Reading, refused, reads, after, kept, joined, negated, isClose, closed}
 use Rattle.tokens.proofs.Tokens.{tokens-next, tokens-end}
 use Rattle.expression.specs.Value.{whole}
 use Rattle.expression.specs.Reading.{Follows, After, Joins, Negates, told, nextOf, workedOf}

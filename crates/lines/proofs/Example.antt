@@ -1,7 +1,7 @@
 -- The second line of document 01's listing, by computation.
 -- Assumes nothing.
 use mathlib.Core.Path.{_≡_, refl}
-use mathlib.Core.List.{List, [], _∷_}
+use mathlib.Core.List.{[], _∷_}
 use Rattle.base.specs.Run.{run}
 use Rattle.text.specs.Text.{text}
 use Rattle.lines.specs.Line.{decimalFrom, decimalOf, signedOf, kindOf, polarityOf, fieldOf, lineOf}

@@ -9,7 +9,6 @@ use native.Mathlib.Omega.{arith}
 use lib.IntN.{ℤ}
 use lib.ListN.{length, drop, set, length-set}
 use lib.Seq.{slice}
-use Rattle.reckon.specs.declared.Reckoned.{Reckoned}
 use Rattle.reckon.specs.declared.Reckoned.the-variants.{Value}
 use lib.Dec.{eqb}
 use Rattle.text.specs.First.{place}

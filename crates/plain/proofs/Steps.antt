@@ -10,7 +10,7 @@ use Rattle.command.specs.declared.Command.the-variants as command
 use Rattle.changes.specs.After.{after}
 use Rattle.marks.specs.Marks.{marksOf}
 use Rattle.reading.specs.State.{Room, State}
-use Rattle.reading.specs.Steps.{Step, does, passed, withGraphics, stepOf}
+use Rattle.reading.specs.Steps.{does, passed, withGraphics, stepOf}
 use Rattle.plain.specs.Plain.{isPlain, faultOf}
 
 -- what leaves no mark and uses no entry

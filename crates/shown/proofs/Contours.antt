@@ -13,7 +13,7 @@ use Rattle.place.specs.declared.Item.{Item}
 use Rattle.place.specs.Mark.{Mark, contour, edge, Sheet, withCount, written}
 use Rattle.place.proofs.Marks.{written-contour}
 use Rattle.place.specs.Placing.{ItemWithin}
-use Rattle.sheet.specs.Records.{entryOf, roleOf, entryRoom, entryWords, stored}
+use Rattle.sheet.specs.Records.{entryOf, roleOf, entryRoom, entryWords}
 use Rattle.sheet.specs.Meaning.{drawn}
 use Rattle.sheet.specs.Valid.{far, okPoints, okWords, okRole, okEntry}
 use Rattle.sheet.specs.declared.Entry.{Entry}

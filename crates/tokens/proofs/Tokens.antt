@@ -5,7 +5,6 @@ use mathlib.Core.Path.{_≡_, refl}
 use mathlib.Core.Bool.{Bool, true, false, cond, not}
 use mathlib.Core.List.{List, [], _∷_}
 use native.Mathlib.Omega.{arith}
-use lib.Dec.{ltb}
 use lib.ListN.{length, take, drop, getD, drop-of-length-le}
 use lib.Seq.{slice, drop-drop}
 use borrow.Author.Tests.{lt-ltb}
@@ -17,7 +16,6 @@ use Rattle.text.proofs.First.{first-from, in-from}
 use Rattle.tokens.proofs.Pieces.{slice-take}
 use Rattle.tokens.specs.Words.{numeral, joins, onto, words}
 use Rattle.tokens.specs.Tokens.{tokens, wordEnd, lexed}
-use Rattle.tokens.specs.declared.Token.{Token}
 
 -- the end of the run of digits and points with which these bytes begin, which stand from `at` on
 abbrev run : List ℕ → ℕ → ℕ

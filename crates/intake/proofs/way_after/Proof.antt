@@ -2,7 +2,7 @@
 use mathlib.Core.Path.{sym}
 use borrow.Author.Needs.{needs}
 use Rattle.base.proofs.Tests.{tests}
-use Rattle.intake.specs.Ways.{within, opening, after, wayAfter}
+use Rattle.intake.specs.Ways.{wayAfter}
 use Rattle.intake.proofs.way_after.Statement.{statement}
 use Rattle.intake.proofs.way_after.Tie as tie
 

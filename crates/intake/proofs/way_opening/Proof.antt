@@ -2,7 +2,7 @@
 use mathlib.Core.Path.{sym}
 use borrow.Author.Needs.{needs}
 use Rattle.base.proofs.Tests.{tests}
-use Rattle.intake.specs.Ways.{within, opening}
+use Rattle.intake.specs.Ways.{opening}
 use Rattle.intake.proofs.way_opening.Statement.{statement}
 use Rattle.intake.proofs.way_opening.Tie as tie
 

@@ -2,7 +2,7 @@
 -- Assumes nothing.
 use mathlib.Core.Path.{refl, sym, _∙_, ap}
 use Rattle.command.proofs.Choose.{row-holds, row-fails}
-use Rattle.recognise.specs.Commands.{extendedOf, dataOf, oneBlock}
+use Rattle.recognise.specs.Commands.{extendedOf, dataOf}
 use borrow.Author.Needs.{needs}
 use Rattle.recognise.proofs.extended_of.Statement.{statement}
 use Rattle.recognise.proofs.extended_of.Tie as tie
