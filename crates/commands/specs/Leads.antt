@@ -1,4 +1,4 @@
--- How a command leads on: 4, the end of the file's commands, or the next command.
+-- How a command leads on: 4, the end of the file's commands, or the next command (01, What is read; decisions 41 and 42).
 use Rattle.command.specs.declared.Command.{Command}
 use Rattle.command.specs.declared.Command.the-variants as cmd
 use Rattle.commands.specs.declared.Lead.{Lead}

@@ -1,4 +1,4 @@
--- What stands next in a file: a command, or a fault by 2, 3 or 4.
+-- What stands next in a file: a command, or a fault by 2, 3 or 4 (01, Numbers the reader answers; decisions 1 to 14).
 use Prim.Native.Nat.{ℕ}
 use mathlib.Core.List.{List}
 use lib.Seq.{slice}

@@ -1,4 +1,4 @@
--- One command over the graphics state: its number, and the state behind it.
+-- "One command changes one graphics state" (01, State): its number, and the state behind it (decision 273).
 use Prim.Native.Nat.{ℕ}
 use mathlib.Core.Bool.{cond}
 use lib.Dec.{eqb}

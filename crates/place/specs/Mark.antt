@@ -1,4 +1,4 @@
--- What commands leave on the sheet, and the sheet's items with every block and repeat written out.
+-- What commands leave on the sheet, and the sheet's items with every block and repeat written out (01, Items; decisions 102 to 105).
 use Prim.Native.Nat.{ℕ, suc}
 use mathlib.Core.Bool.{cond}
 use mathlib.Core.List.{List, [], _∷_, _++_, map}
@@ -21,7 +21,7 @@ pub data Mark : Type 0 where
   begin : Opening → Mark
   finish : Mark
 
--- a contour's count is that of the edges that follow it
+-- "a region contour (with its edge count)": the count is that of the edges that follow it
 unfoldable pub edges : List Mark → ℕ
 edges [] = 0
 edges (edge t ∷ ms) = suc (edges ms)

@@ -1,4 +1,4 @@
--- What is lent, as it stands between two commands: the file, and the words of the rooms.
+-- What is lent, as it stands between two commands: "the file and room for entries, apertures, macros and numbers" (01, What is read).
 use Prim.Native.Nat.{ℕ}
 use mathlib.Core.List.{List}
 use lib.IntN.{ℤ}

@@ -1,4 +1,4 @@
--- What a command says of the attribute that is asked, TA or TO and its name.
+-- What a command says of the attribute that is asked, TA or TO and its name (01, State; decisions 107 to 112).
 use Prim.Native.Nat.{ℕ, _+_, _-_}
 use Prim.Native.Char.{code}
 use mathlib.Core.Bool.{Bool, true, false, not}

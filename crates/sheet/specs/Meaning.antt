@@ -1,4 +1,4 @@
--- What a store means: the items that its entries put out.
+-- What a store means: the items that its entries put out (01, Items; docs/SHEET.md).
 use Prim.Native.Nat.{ℕ, zero, suc}
 use mathlib.Core.Bool.{Bool, cond}
 use mathlib.Core.List.{List, [], _∷_, map}

@@ -1,4 +1,5 @@
--- Small files that are refused, by computation: each rule has its number and its place (01, Numbers the reader answers, and "Run only").
+-- Small files by computation: six that are refused, each with its number and its place (01, Numbers the reader answers, and "Run only"),
+-- and one that is accepted, of which reading knows the format and the unit and nothing else.
 -- Assumes nothing.
 use mathlib.Core.Path.{_≡_, refl}
 use mathlib.Core.List.{[], _∷_, map}
@@ -6,7 +7,7 @@ use Rattle.base.specs.And.{_and_}
 use Rattle.base.specs.Or.{_or_}
 use Rattle.text.specs.Text.{text}
 use Rattle.reading.specs.State.{Room}
-use Rattle.reading.specs.Reading.{refused}
+use Rattle.reading.specs.Reading.{accepted, refused}
 use Rattle.base.specs.Bytes.{sameBytes}
 use Rattle.ints.specs.Ints.{signed, isNeg}
 use Rattle.digits.specs.Digits.{isDigit, allDigits, isNumber, valueOf}
@@ -51,9 +52,10 @@ use Rattle.reading.specs.Steps.{passed, withGraphics, withLevel, withOpe
 unfoldable pub room : Room
 room = record { entries = 1; apertures = 1; macros = 1; numbers = 1 }
 
-pub refusals :
+pub small-files :
     map (λ s. reading-Reading.reading room (text s))
-    ("" ∷ "D9*M02*" ∷ "M02*" ∷ "D10*M02*" ∷ "%FSLAX26Y26*%%MOMM*%G36*M02*" ∷ "%FSLAX26Y26*%%MOMM*%M02*A" ∷ [])
-    ≡ refused 3 0 ∷ refused 4 0 ∷ refused 6 0 ∷ refused 8 0 ∷ refused 7 24 ∷ refused 18 24 ∷ []
+    ("" ∷ "D9*M02*" ∷ "M02*" ∷ "D10*M02*" ∷ "%FSLAX26Y26*%%MOMM*%G36*M02*" ∷ "%FSLAX26Y26*%%MOMM*%M02*A" ∷ "%FSLAX26Y26*%%MOIN*%M02*" ∷ [])
+    ≡ refused 3 0 ∷ refused 4 0 ∷ refused 6 0 ∷ refused 8 0 ∷ refused 7 24 ∷ refused 18 24
+    ∷ accepted (withGraphics (withFormat (record { digits = 2; unit = 2 }) graphics-Graphics.start) begun) ∷ []
 unfolding room _and_ sameBytes _or_ signed isNeg isDigit allDigits isNumber valueOf naturalOf hasMinus afterSign dropLeadingZeros before dropTrailingZeros firstIn beforeByte afterByte letter nameStart nameByte nameBytes isName among fits printable breaksAfter mayBreak permitted badIn textFrom endOf commandFrom commandAt nextCommand tailOf pick judged inRange anySize sizedAs commentOf selectOf wordOf formatOf unitOf oneBlock dataOf extendedOf commandOf commandsFrom commandsOf leadOf led turnOf tailFault origin unset noAperture noRegion withFormat withPoint withAperture withMode withQuadrants withTransform withRegion angleOf angleAfter orientation along target goingTo emptyRegion startsContour drawing ended withDigits withUnit withClear withMirror withRotation withScale after isMissing unready placeless brushless circular hasOffset arcless drawMisfits flashMisfits centreOf badCentre unclosed askew tooTall drawItems drawFault moveFault flashItems flashFault regionEndFault isAbove isCount isStep isRepeat regionFault formatFault unitFault scaleFault selectFault apertureFault macroFault blockStartFault closingFault repeatStartFault fileAttributeFault endFault drawMarks flashMarks marksOf isTaken selected apertureFrom apertureWith isAmong namesOf blocksOf isStandard valuesOf outcomeOf defined opening closing readOn outermost begun passed withGraphics withLevel withOpened withApertures withMacros withNames withNumbers drawStep flashHeight flashStep selectStep apertureStep macroStep blockStartStep repeatStartStep blockEnds repeatEnds blockEndStep repeatEndStep fileAttributeStep stepOf scan-Scan.kindOf words-Words.codeOf commands-Turns.turned graphics-Graphics.start fits-Fits.offsetOf marks-Marks.repeatOf reading-Apertures.blockOf reading-Reading.reading
-refusals = refl
+small-files = refl
