@@ -34,7 +34,13 @@ fn batch_line(name: &str, file: &[u8], room: Room) -> String {
 }
 
 /// FNV-1a, 64 bits.
-struct Fnv(u64);
+pub struct Fnv(pub u64);
+
+impl Fnv {
+    pub fn new() -> Fnv {
+        Fnv(0xcbf2_9ce4_8422_2325)
+    }
+}
 
 impl Write for Fnv {
     fn write(&mut self, bytes: &[u8]) -> io::Result<usize> {
@@ -50,7 +56,7 @@ impl Write for Fnv {
 }
 
 fn hash_of_items(sheet: &Sheet) -> u64 {
-    let mut hash = Fnv(0xcbf2_9ce4_8422_2325);
+    let mut hash = Fnv::new();
     listing::write_first_items(&mut hash, sheet, HASHED_ITEMS).expect("a hash takes all bytes");
     hash.0
 }

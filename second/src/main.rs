@@ -13,6 +13,7 @@ mod question;
 mod rules;
 mod scan;
 mod sheet;
+mod short;
 mod signature;
 mod state;
 mod templates;
@@ -38,6 +39,7 @@ on folders and files:
   make SEED COUNT DIR                          writes generated files
   census DIR [--room E,A,M,N]                  how many files are answered with each number
   check-cases DIR                              runs the cases of the folder
+  short N                                      every string of up to N bytes: how many, and a hash of the answers
   compare FILE FILE                            two outputs of batch, line by line";
 
 fn main() -> ExitCode {
@@ -101,6 +103,12 @@ fn run(words: &[String], out: &mut dyn Write) -> io::Result<bool> {
                 return Ok(false);
             };
             generator::make(seed, count, Path::new(folder))?;
+        }
+        ("short", [longest]) => {
+            let Ok(longest) = longest.parse() else {
+                return Ok(false);
+            };
+            short::short(longest, out)?;
         }
         ("check-cases", [folder]) => compare::check_cases(Path::new(folder), out)?,
         ("compare", [first, second]) => {
