@@ -2,6 +2,7 @@
 use descend::Total;
 use libc::STDIN_FILENO;
 use libc::STDOUT_FILENO;
+use reader::Answer;
 ghost use Prim.Native.Nat.{_+_, _≤_, _^_, _<_};
 
 // A word and a number behind it, tab-parted.
@@ -85,10 +86,9 @@ fn read(file: &[u8]) {
         &mut macros,
         &mut numbers,
     );
-    if a.number == 0 {
-        list(&head, &entries, &apertures);
-    } else {
-        refuse(a.number, a.place);
+    match a {
+        Answer::Accepted(_) => list(&head, &entries, &apertures),
+        Answer::Refused { number, place } => refuse(number, place as u64),
     }
 }
 
