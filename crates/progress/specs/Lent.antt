@@ -14,6 +14,9 @@ pub record Lent : Type 0 where
   pub macros : List ℕ
   pub numbers : List ℤ
 
+unfoldable pub lentOf : List ℕ → List ℕ → List ℕ → List ℕ → List ℤ → Lent
+lentOf file e a m n = record { file = file; entries = e; apertures = a; macros = m; numbers = n }
+
 -- room is counted in whole records, and in numbers
 unfoldable pub roomOf : Lent → Room
 roomOf w = record {

@@ -1,0 +1,9 @@
+pub mod Turns
+pub mod After
+pub mod Running
+pub mod Fill
+pub mod Settling
+pub mod Begun
+pub mod Runs
+pub mod Sheeting
+pub mod Outcome

@@ -1,0 +1,37 @@
+-- What the call for a reading comes to: the answer of the definition (crates/reading), and the lent words behind it.
+use Prim.Native.Nat.{ℕ}
+use mathlib.Core.Path.{_≡_}
+use mathlib.Core.List.{List}
+use lib.IntN.{ℤ, pos}
+use lib.ListN.{length, replicate}
+use Rattle.reading.specs.Reading.{Answer, accepted, refused}
+use Rattle.progress.specs.Lent.{Lent}
+use Rattle.reader.specs.Leaves.{Leaves}
+use Rattle.reader.specs.declared.Answer as code
+use Rattle.reader.specs.declared.Answer.the-variants as answer
+
+-- document 01's number
+unfoldable pub numberOf : code.Answer → ℕ
+numberOf (answer.Accepted unit) = 0
+numberOf (answer.Refused number place) = number
+
+-- "A reading refusal zeroes every lent store to its full length"; w is what was lent, w′ what it is at the end
+pub record Zeroed (w w′ : Lent) (head : List ℕ) : Type 0 where
+  pub head-is : head ≡ replicate 8 0
+  pub entries-are : w′ .entries ≡ replicate (length (w .entries)) 0
+  pub apertures-are : w′ .apertures ≡ replicate (length (w .apertures)) 0
+  pub macros-are : w′ .macros ≡ replicate (length (w .macros)) 0
+  pub numbers-are : w′ .numbers ≡ replicate (length (w .numbers)) (pos 0)
+
+-- the rooms are as long as before
+pub record AsLong (w w′ : Lent) : Type 0 where
+  pub entries-long : length (w′ .entries) ≡ length (w .entries)
+  pub apertures-long : length (w′ .apertures) ≡ length (w .apertures)
+  pub macros-long : length (w′ .macros) ≡ length (w .macros)
+  pub numbers-long : length (w′ .numbers) ≡ length (w .numbers)
+
+-- "An accepted reading also gives the unit, mm or inch", 1 or 2
+unfoldable pub Reads : Answer → Lent → Lent → List ℕ → code.Answer → Type 0
+Reads (accepted s) w w′ head r =
+    (r ≡ answer.Accepted (s .graphics .format .unit)) × AsLong w w′ × Leaves (w .file) head (w′ .entries) (w′ .apertures) (w′ .macros) (w′ .numbers) s
+Reads (refused number place) w w′ head r = (r ≡ answer.Refused number place) × Zeroed w w′ head

@@ -1,0 +1,33 @@
+-- What a step of the reader promises: whatever reading knows, the step is that of the definition.
+use Prim.Native.Nat.{ℕ, _≤_}
+use mathlib.Core.Path.{_≡_}
+use mathlib.Core.Bool.{Bool}
+use mathlib.Core.List.{List}
+use lib.ListN.{length}
+use lib.Seq.{slice}
+use Rattle.command.specs.declared.Span.{Span}
+use Rattle.command.specs.declared.Command.the-variants.{FileAttribute}
+use Rattle.commands.specs.declared.Placed.{Placed}
+use Rattle.bounds.specs.Bounded.{Bounded}
+use Rattle.reading.specs.State.{State}
+use Rattle.reading.specs.Apertures.{isAmong}
+use Rattle.reading.specs.Steps.{part}
+use Rattle.reading.specs.Reading.{stepAt}
+use Rattle.progress.specs.Lent.{Lent, roomOf}
+use Rattle.progress.specs.Knows.{Knows, Follows}
+use Rattle.progress.specs.declared.Progress.{Progress}
+use Rattle.progress.specs.declared.Stepped.{Stepped}
+
+-- a command as the scanner and the recogniser leave it
+pub record Sound (file : List ℕ) (c : Placed) : Type 0 where
+  pub ordered : c .from ≤ c .end
+  pub inside : c .end ≤ length file
+  pub bounded : Bounded (slice (c .from) (c .end) file) (c .command)
+
+-- `again` says of a TF whether its name was set before
+unfoldable pub Again : List ℕ → Placed → Bool → State → Type 0
+Again file c again s = (name value : Span) → c .command ≡ FileAttribute name value → again ≡ isAmong (part (slice (c .from) (c .end) file) name) (s .names)
+
+-- w before the step, w′ behind it
+abbrev pub Reads : Lent → Lent → Progress → Placed → Bool → Stepped → Type 0
+Reads w w′ p c again r = (s : State) → Knows w p s → Again (w .file) c again s → Follows (Knows w′) (stepAt (roomOf w) (w .file) c s) r
