@@ -27,8 +27,8 @@ while IFS= read -r line; do
     [ -d "crates/$name" ] || { fault "crates.txt lists $name, which is not there"; continue; }
     [ -f "crates/$name/src/lib.rt" ] || continue
     grep -q '^ *pub fn\|^ *fn\|extern "C" fn' "crates/$name/src/lib.rt" || continue
-    edits=$(find "crates/$name/must-fail" -name '*.edit' 2>/dev/null | wc -l)
-    case " attribute signature digest descend " in *" $name "*) least=2 ;; *) least=1 ;; esac
+    edits=$(find "crates/$name/must-fail" "wrong/$name" -name '*.edit' 2>/dev/null | wc -l)
+    case " attribute signature digest descend reader lists lent host " in *" $name "*) least=2 ;; *) least=1 ;; esac
     [ "$edits" -ge "$least" ] || fault "$name has $edits must-fail edits, and $least at least are asked"
 done <crates.txt
 
