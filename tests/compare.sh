@@ -46,14 +46,23 @@ by_batch() { # WHAT LIST [--room E,A,M,N]
     ./run imager batch "$@" <"$list" >"$room/imager"
     "$second" batch "$@" <"$list" >"$room/second"
     "$second" compare "$room/imager" "$room/second" >"$room/told"
+    cut -f 2 "$room/imager" >>"$room/answers"
     head -n -1 "$room/told" | head -n 10
     tell "$what${*:+, $*}" "$(tail -n 1 "$room/told")"
 }
 
 tell "tests/listing, by the second reader" "$("$second" check-cases tests/listing | tail -n 1)"
 
-[ ! -f ../shared/cases/cases.tgz ] || tar xzf ../shared/cases/cases.tgz -C "$room"
-[ ! -f ../shared/corpus/kicad-layers.tgz ] || tar xzf ../shared/corpus/kicad-layers.tgz -C "$room/layers"
+# What stands beside the repository goes into the room, where it is there.
+beside() { # ARCHIVE FOLDER
+    if [ -f "$1" ]; then
+        tar xzf "$1" -C "$2" || exit 1
+    else
+        echo "compare: no $1, none tried"
+    fi
+}
+beside ../shared/cases/cases.tgz "$room"
+beside ../shared/corpus/kicad-layers.tgz "$room/layers"
 find "$room/cases" -name '*.gbr' | sort >"$room/all_cases"
 find "$room/layers" -name '*.gbr' | sort >"$room/all_layers"
 "$second" make 7 4000 "$room/generated"
@@ -74,5 +83,9 @@ if [ -f host/imager.c ]; then
     by_batch "generated" "$room/all_generated"
     by_batch "generated" "$room/all_generated" --room 3,2,1,4
     by_batch "generated" "$room/all_generated" --room 8,3,1,10
+    # Files of 16,777,217 bytes are tried elsewhere (1).
+    for number in 2 3 4 5 6 7 8 9 10 11 12 13 14 15 16 17 18 19; do
+        grep -q "^refused $number " "$room/answers" || tell "refused with $number" "no file, 1 differ"
+    done
 fi
 [ "$faults" -eq 0 ]
