@@ -1,6 +1,6 @@
 #!/usr/bin/env bash
 # The listing of every file under tests/listing is what stands beside it, written by the second reader (`second list`); and so are those of
-# files made here: both sides of the listing's limit and of its room for numbers, and a file of as many entries as fit.
+# files made here: both sides of the listing's limit and of its room for numbers, and files of as many entries as fit.
 set -u
 cd "$(dirname "$0")/.." || exit 2
 mapfile -t listing < <(./run --say listing)
@@ -50,19 +50,34 @@ expect_line "131,072 numbers" "$room/file" "items 0"
 { cat "$room/full"; printf '%%ADD18C,1*%%M02*'; } >"$room/file"
 expect_line "131,073 numbers" "$room/file" "refused 17 $(wc -c <"$room/full")"
 
-# No command that leaves an entry is shorter than D03: as many of them as fit are all listed.
+# No command that leaves an entry is shorter than four bytes: as many flashes as fit, and as many contours of one edge, are all listed.
+line() { # K KIND APERTURE COUNT PLACE
+    printf '%d\t%s\t%d\tdark\t0\t0\t1000000\t0\t0\t0\t0\t0\t0\t%d\t%d\n' "$@"
+}
 printf '%%FSLAX36Y36*%%%%MOMM*%%%%ADD10C,0*%%D10*X0Y0D02*' >"$room/file"
-before=$(wc -c <"$room/file")
-most=$(((65536 - before) / 4 - 1))
+at=$(wc -c <"$room/file")
+most=$(((65536 - at) / 4 - 1))
 yes 'D03*' | head -n "$most" | tr -d '\n' >>"$room/file"
 printf 'M02*' >>"$room/file"
 {
     printf 'items\t%d\n' "$most"
+    for ((k = 0; k < most; k++)); do line "$k" flash 10 0 $((at + 4 * k)); done
+} >"$room/want"
+expect "$most flashes" "$room/file" "$room/want"
+
+printf '%%FSLAX36Y36*%%%%MOMM*%%G01*G36*X0Y0D02*' >"$room/file"
+at=$(wc -c <"$room/file")
+most=$(((65536 - at) / 8 - 1))
+yes 'D01*D02*' | head -n "$most" | tr -d '\n' >>"$room/file"
+printf 'G37*M02*' >>"$room/file"
+{
+    printf 'items\t%d\n' $((2 * most))
     for ((k = 0; k < most; k++)); do
-        printf '%d\tflash\t10\tdark\t0\t0\t1000000\t0\t0\t0\t0\t0\t0\t0\t%d\n' "$k" $((before + 4 * k))
+        line $((2 * k)) contour 0 1 $((at + 8 * k))
+        line $((2 * k + 1)) edge-line 0 0 $((at + 8 * k))
     done
 } >"$room/want"
-expect "$most entries" "$room/file" "$room/want"
+expect "$most contours" "$room/file" "$room/want"
 
 echo "listing: $tried files, $faults differ"
 [ "$faults" -eq 0 ]
