@@ -4,6 +4,8 @@
 set -u
 cd "$(dirname "$0")/.." || exit 2
 second=$PWD/target/second/release/second
+mapfile -t verify < <(./run --say verify)
+[ ${#verify[@]} -gt 0 ] || exit 1
 room=$(mktemp -d)
 trap 'rm -rf "$room"' EXIT
 faults=0
@@ -11,7 +13,7 @@ faults=0
 # verify must write WANT, tab-parted, for FILE
 expect() { # NAME FILE WANT
     local got
-    got=$(./run verify <"$2" | tr '\t' ' ')
+    got=$("${verify[@]}" <"$2" | tr '\t' ' ')
     [ "$got" = "$3" ] || { echo "verify: $1: '$got', not '$3'"; faults=$((faults + 1)); }
     if [ -x "$second" ] && [ "${3#refused 1 }" = "$3" ]; then
         got=$("$second" signature <"$2" | tr '\t' ' ')

@@ -1,0 +1,91 @@
+#!/usr/bin/env bash
+# The proved reader against the second one. Through the listing: the cases and the real layers that stand beside the repository, where they
+# do, and generated files. Through the C host's batch: all of these whatever their size, more generated files, and small rooms.
+set -u
+cd "$(dirname "$0")/.." || exit 2
+export CARGO_NET_OFFLINE=true
+made=$PWD/target/second
+cargo build --release --quiet --manifest-path second/Cargo.toml --target-dir "$made" || exit 1
+second=$made/release/second
+mapfile -t listing < <(./run --say listing)
+[ ${#listing[@]} -gt 0 ] || exit 1
+room=$(mktemp -d)
+trap 'rm -rf "$room"' EXIT
+mkdir "$room/cases" "$room/layers" "$room/generated"
+faults=0
+
+# Counts a part whose last line, or only one, must say that none differ.
+tell() { # WHAT LAST-LINE
+    echo "compare: $1: $2"
+    case $2 in *", 0 differ") ;; *) faults=$((faults + 1)) ;; esac
+}
+
+# The listing of each file named on standard input, against FILE.expected, or else the second reader's.
+by_listing() { # WHAT
+    local file want agree=0 differ=0
+    while read -r file; do
+        want=${file%.gbr}.expected
+        if [ ! -f "$want" ]; then
+            want=$room/want
+            "$second" list <"$file" >"$want"
+        fi
+        if "${listing[@]}" <"$file" | cmp -s - "$want"; then
+            agree=$((agree + 1))
+        else
+            differ=$((differ + 1))
+            echo "compare: the listing of $(basename "$file") is not what $(basename "$want") has"
+        fi
+    done
+    tell "$1, listed" "$agree agree, $differ differ"
+}
+
+# Both batches of the files named in LIST.
+by_batch() { # WHAT LIST [--room E,A,M,N]
+    local what=$1 list=$2
+    shift 2
+    ./run imager batch "$@" <"$list" >"$room/imager"
+    "$second" batch "$@" <"$list" >"$room/second"
+    "$second" compare "$room/imager" "$room/second" >"$room/told"
+    cut -f 2 "$room/imager" >>"$room/answers"
+    head -n -1 "$room/told" | head -n 10
+    tell "$what${*:+, $*}" "$(tail -n 1 "$room/told")"
+}
+
+tell "tests/listing, by the second reader" "$("$second" check-cases tests/listing | tail -n 1)"
+
+# What stands beside the repository goes into the room, where it is there.
+beside() { # ARCHIVE FOLDER
+    if [ -f "$1" ]; then
+        tar xzf "$1" -C "$2" || exit 1
+    else
+        echo "compare: no $1, none tried"
+    fi
+}
+beside ../shared/cases/cases.tgz "$room"
+beside ../shared/corpus/kicad-layers.tgz "$room/layers"
+find "$room/cases" -name '*.gbr' | sort >"$room/all_cases"
+find "$room/layers" -name '*.gbr' | sort >"$room/all_layers"
+"$second" make 7 4000 "$room/generated"
+find "$room/generated" -name '*.gbr' | sort >"$room/all_generated"
+
+# Every real layer keeps the rules.
+tell "layers, by the second reader" "$("$second" batch <"$room/all_layers" | awk -F '[\t ]' '$2 == "sheet" { n++ } END { print n + 0 " accepted, " NR - n " differ" }')"
+
+# A case without an expected listing is one of questions; most of those have more items than a listing could print.
+while read -r file; do [ ! -f "${file%.gbr}.expected" ] || echo "$file"; done <"$room/all_cases" | by_listing "cases"
+find "$room/layers" -name '*.gbr' -size -65537c | sort | by_listing "layers"
+# Generated files of up to 2,000 items.
+head -n 1000 "$room/all_generated" | "$second" batch | awk -F '[\t ]' '$2 == "refused" || $4 <= 2000 { print $1 }' | by_listing "generated"
+
+if [ -f host/imager.c ]; then
+    by_batch "cases" "$room/all_cases"
+    by_batch "layers" "$room/all_layers"
+    by_batch "generated" "$room/all_generated"
+    by_batch "generated" "$room/all_generated" --room 3,2,1,4
+    by_batch "generated" "$room/all_generated" --room 8,3,1,10
+    # Files of 16,777,217 bytes are tried elsewhere (1).
+    for number in 2 3 4 5 6 7 8 9 10 11 12 13 14 15 16 17 18 19; do
+        grep -q "^refused $number " "$room/answers" || tell "refused with $number" "no file, 1 differ"
+    done
+fi
+[ "$faults" -eq 0 ]
