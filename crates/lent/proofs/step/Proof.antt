@@ -43,6 +43,9 @@ use denote.Exit.{yes}
 use Rattle.command.specs.declared.Command.{Command}
 use Rattle.command.proofs.Command as E
 use Rattle.command.proofs.Command.Laws as E′
+use Rattle.fits.specs.declared.Level.{Level}
+use Rattle.fits.proofs.Level as Lv
+use Rattle.fits.proofs.Level.Laws as Lv′
 use Rattle.graphics.specs.declared.Graphics.{Graphics}
 use Rattle.graphics.proofs.Graphics as T
 use Rattle.graphics.proofs.Graphics.Laws as T′
@@ -60,14 +63,17 @@ use Rattle.lent.proofs.step.Statement as stated
 use Rattle.lent.proofs.step.Code as code
 
 abbrev Arg : Type 0
-Arg = RefT Graphics × (Command × (ℕ × Unit {0}))
+Arg = RefT Graphics × (Level × (Command × (ℕ × Unit {0})))
 
 abbrev stayed : Stays (step.ended .signature .params) (step.ended .kept)
-stayed = (stay-ref (0 ∷ []) tt (plain (λ _. T.the-row)), (stay-none (λ _. E.the-row) yes, (stay-none (λ _. u64) yes, tt)))
+stayed = (stay-ref (0 ∷ []) tt (plain (λ _. T.the-row)), (stay-none (λ _. Lv.the-row) yes, (stay-none (λ _. E.the-row) yes, (stay-none (λ _. u64) yes, tt))))
 
--- the machine values of a state, of a command and of an answer
+-- the machine values of a state, of a level, of a command and of an answer
 abbrev mach : Graphics → Val
 mach h = only (LL.vals T.the-type T′.the-laws h)
+
+abbrev lev : Level → Val
+lev l = only (LL.vals Lv.the-type Lv′.the-laws l)
 
 abbrev cmd : Command → Val
 cmd c = only (EL.vals E.the-type E′.the-laws c)
@@ -81,61 +87,61 @@ module _ {M : Type 1} (𝓤 : URA M) (H : Heap 𝓤) (A : Atoms 𝓤) (at-mem : 
   Next = tripleOf 𝓤 H A next.signature (next.spec 𝓤 H A at-mem run)
 
   -- of the callee's `ensured`, the clause alone: it has no `&mut`
-  next-of : (h : Graphics) (c : Command) (found : ℕ) (r : Stepped) → ent 𝓤 (ensured 𝓤 H A next.ended (next.clauses 𝓤 H A at-mem run) tt (h, (c, (found, tt))) tt r) (fact 𝓤 (r ≡ steppedOf h c found))
-  next-of h c found r = exE 𝓤 _ (λ ws. snd∗ 𝓤 (sem 𝓤 H A (lasts next.ended tt (h, (c, (found, tt))) ws)) (fact 𝓤 (r ≡ steppedOf h c found)))
+  next-of : (h : Graphics) (l : Level) (c : Command) (found : ℕ) (r : Stepped) → ent 𝓤 (ensured 𝓤 H A next.ended (next.clauses 𝓤 H A at-mem run) tt (h, (l, (c, (found, tt)))) tt r) (fact 𝓤 (r ≡ steppedOf h l c found))
+  next-of h l c found r = exE 𝓤 _ (λ ws. snd∗ 𝓤 (sem 𝓤 H A (lasts next.ended tt (h, (l, (c, (found, tt)))) ws)) (fact 𝓤 (r ≡ steppedOf h l c found)))
 
-module _ {M : Type 1} (𝓤 : URA M) (H : Heap 𝓤) (A : Atoms 𝓤) (W : Given 𝓤 H A) (at-mem : Memory → SProp 𝓤) (run : Routine → Fun 𝓤) (κ : Lft) (q : Share) (b o : ℕ) (γ : GName) (h : Graphics) (c : Command) (gc : Is E.the-row c (cmd c ∷ [])) (found : ℕ) (found-fits : found < 2 ^ 64) where
+module _ {M : Type 1} (𝓤 : URA M) (H : Heap 𝓤) (A : Atoms 𝓤) (W : Given 𝓤 H A) (at-mem : Memory → SProp 𝓤) (run : Routine → Fun 𝓤) (κ : Lft) (q : Share) (b o : ℕ) (γ : GName) (h : Graphics) (l : Level) (gl : Is Lv.the-row l (lev l ∷ [])) (c : Command) (gc : Is E.the-row c (cmd c ∷ [])) (found : ℕ) (found-fits : found < 2 ^ 64) where
   abbrev x : Arg
-  x = (record { ptr = (b, o); name = γ; now = h }, (c, (found, tt)))
+  x = (record { ptr = (b, o); name = γ; now = h }, (l, (c, (found, tt))))
 
-  abbrev at : List Val × (List Val × (List Val × Unit {0}))
-  at = (vptr b o ∷ [], (cmd c ∷ [], (vint w64 found ∷ [], tt)))
+  abbrev at : List Val × (List Val × (List Val × (List Val × Unit {0})))
+  at = (vptr b o ∷ [], (lev l ∷ [], (cmd c ∷ [], (vint w64 found ∷ [], tt))))
 
   abbrev Post : Val → SProp 𝓤
   Post = walkOf 𝓤 H A step.ended stayed (step.clauses 𝓤 H A at-mem run) .post (((κ, tt), (q, tt), tt, x, at), tt)
 
-  exits : (r : Stepped) → r ≡ steppedOf h c found → Is u64 (r .number) (vint w64 (r .number) ∷ []) → ent 𝓤 (sep 𝓤 (A .obs γ (T.the-row .coded .code (r .graphics))) (sep 𝓤 (A .bor κ (Body (mem (T.the-row)) b o γ)) (A .lft κ q))) (Post (vint w64 (r .number)))
+  exits : (r : Stepped) → r ≡ steppedOf h l c found → Is u64 (r .number) (vint w64 (r .number) ∷ []) → ent 𝓤 (sep 𝓤 (A .obs γ (T.the-row .coded .code (r .graphics))) (sep 𝓤 (A .bor κ (Body (mem (T.the-row)) b o γ)) (A .lft κ q))) (Post (vint w64 (r .number)))
   exits r e gn =
       qed W (‵ (fobs γ (T.the-row .coded .code (r .graphics))) ∷ ‵ (fbor κ (Body (mem (T.the-row)) b o γ)) ∷ ‵ (flft κ q) ∷ []) ∵
-      suffices ! _ (ends-at 𝓤 H A step.ended stayed (step.clauses 𝓤 H A at-mem run) W (((κ, tt), (q, tt), tt, x, at), tt) (vint w64 (r .number)) (r .number) (r .graphics, (tt, (tt, tt))) (tt, (tt, (tt, tt)))) $
+      suffices ! _ (ends-at 𝓤 H A step.ended stayed (step.clauses 𝓤 H A at-mem run) W (((κ, tt), (q, tt), tt, x, at), tt) (vint w64 (r .number)) (r .number) (r .graphics, (tt, (tt, (tt, tt)))) (tt, (tt, (tt, (tt, tt))))) $
       says ! (ap (λ (t : Stepped). t .number) e, ap (λ (t : Stepped). t .graphics) e) $ nothing ! $ move ! (3 ∷ 0 ∷ []) $ join ! $
-      frame ! $ feqI ! (List Val) (vptr b o ∷ []) (vptr b o ∷ []) refl $ fjoin3 ! $ nothing ! $ owned ! u64 (Is u64) (uint-makes 𝓤 H A W w64) found _ (refl, found-fits) $ fjoin ! $ owned ! E.the-row (Is E.the-row) (EL.makes E.the-type E′.the-plain 𝓤 H A) c _ gc $ fjoin ! $ move ! (1 ∷ 0 ∷ []) $ fjoin ! $
+      frame ! $ feqI ! (List Val) (vptr b o ∷ []) (vptr b o ∷ []) refl $ fjoin3 ! $ nothing ! $ owned ! u64 (Is u64) (uint-makes 𝓤 H A W w64) found _ (refl, found-fits) $ fjoin ! $ owned ! E.the-row (Is E.the-row) (EL.makes E.the-type E′.the-plain 𝓤 H A) c _ gc $ fjoin ! $ owned ! Lv.the-row (Is Lv.the-row) (LL.makes Lv.the-type Lv′.the-plain 𝓤 H A) l _ gl $ fjoin ! $ move ! (1 ∷ 0 ∷ []) $ fjoin ! $
       owned ! u64 (Is u64) (uint-makes 𝓤 H A W w64) (r .number) _ gn $ move ! (1 ∷ 0 ∷ []) $ done !
 
   -- what `next`'s triple binds outside, and that it may be called
   abbrev to-next : Next 𝓤 H A at-mem run .Ghost
-  to-next = ((tt, tt, tt, (h, (c, (found, tt))), (mach h ∷ [], (cmd c ∷ [], (vint w64 found ∷ [], tt)))), tt)
+  to-next = ((tt, tt, tt, (h, (l, (c, (found, tt)))), (mach h ∷ [], (lev l ∷ [], (cmd c ∷ [], (vint w64 found ∷ [], tt))))), tt)
 
   goes-next : Is T.the-row h (mach h ∷ []) → ent 𝓤 (emp 𝓤) (Next 𝓤 H A at-mem run .pre to-next)
   goes-next g =
-      qed W [] ∵ nothing ! $ owned ! u64 (Is u64) (uint-makes 𝓤 H A W w64) found _ (refl, found-fits) $ fjoin ! $ owned ! E.the-row (Is E.the-row) (EL.makes E.the-type E′.the-plain 𝓤 H A) c _ gc $ fjoin ! $ owned ! T.the-row (Is T.the-row) (LL.makes T.the-type T′.the-plain 𝓤 H A) h _ g $ fjoin ! $ nothing ! $ join ! $ frame ! $ done !
+      qed W [] ∵ nothing ! $ owned ! u64 (Is u64) (uint-makes 𝓤 H A W w64) found _ (refl, found-fits) $ fjoin ! $ owned ! E.the-row (Is E.the-row) (EL.makes E.the-type E′.the-plain 𝓤 H A) c _ gc $ fjoin ! $ owned ! Lv.the-row (Is Lv.the-row) (LL.makes Lv.the-type Lv′.the-plain 𝓤 H A) l _ gl $ fjoin ! $ owned ! T.the-row (Is T.the-row) (LL.makes T.the-type T′.the-plain 𝓤 H A) h _ g $ fjoin ! $ nothing ! $ join ! $ frame ! $ done !
 
   module _ (C : Calls 𝓤 H) (Λ : Loops 𝓤 H) (fm : FmC 𝓤 H (W .laws) C) (known : Triple 𝓤 (C #lent·next) (Next 𝓤 H A at-mem run)) where
-    walk : ent 𝓤 (onEntry 𝓤 H A step.signature (κ, tt) (q, tt) x at) (WpFn 𝓤 H C Λ code.function (vptr b o ∷ cmd c ∷ vint w64 found ∷ []) Post)
+    walk : ent 𝓤 (onEntry 𝓤 H A step.signature (κ, tt) (q, tt) x at) (WpFn 𝓤 H C Λ code.function (vptr b o ∷ lev l ∷ cmd c ∷ vint w64 found ∷ []) Post)
     walk =
-        qed W ((‵ (flft κ q) ⊛ ‵ ftrue) ∷ ‵ (owns (MutRef (named 0) κ (T.the-row) ∷ E.the-row ∷ u64 ∷ []) x at) ∷ []) ∵ split ! $ move ! (2 ∷ []) $ fsplit ! $ fsplit3 ! $ drop ! $ move ! (0 ∷ 1 ∷ 3 ∷ []) $
-        -- [obs; the borrow; the token; c's and found's; true]
-        enter ! C Λ code.function (vptr b o ∷ cmd c ∷ vint w64 found ∷ []) _ $
-        alloc1 ! (λ l₀. alloc1 ! (λ l₁. alloc1 ! (λ l₂. alloc1 ! (λ l₃. alloc1 ! (λ l₄. alloc1 ! (λ l₅. alloc0 ! $ params1 ! $ pass1 ! (init ! 8 refl (tt, tt)) $ pass1 ! (init ! 6 refl (EL.lawful E.the-type E′.the-laws 𝓤 H A W tt .typed c _ gc .0)) $ pass1 ! (init ! 4 refl (tt, record { fits = found-fits })) $ pass0 ! $
-        move ! (12 ∷ 13 ∷ 14 ∷ []) $ opens ! tt (T.the-row) {h = h} b o (λ vs. spelt ! (T.the-row) (Is (T.the-row)) (shows 𝓤 H A (T.the-row)) (LL.vals T.the-type T′.the-laws) (LL.tells T.the-type T′.the-laws) fullShare h vs b o $
+        qed W ((‵ (flft κ q) ⊛ ‵ ftrue) ∷ ‵ (owns (MutRef (named 0) κ (T.the-row) ∷ Lv.the-row ∷ E.the-row ∷ u64 ∷ []) x at) ∷ []) ∵ split ! $ move ! (2 ∷ []) $ fsplit ! $ fsplit3 ! $ drop ! $ move ! (0 ∷ 1 ∷ 3 ∷ []) $
+        -- [obs; the borrow; the token; l's, c's and found's; true]
+        enter ! C Λ code.function (vptr b o ∷ lev l ∷ cmd c ∷ vint w64 found ∷ []) _ $
+        alloc1 ! (λ l₀. alloc1 ! (λ l₁. alloc1 ! (λ l₂. alloc1 ! (λ l₃. alloc1 ! (λ l₄. alloc1 ! (λ l₅. alloc1 ! (λ l₆. alloc0 ! $ params1 ! $ pass1 ! (init ! 10 refl (tt, tt)) $ pass1 ! (init ! 8 refl (LL.lawful Lv.the-type Lv′.the-laws 𝓤 H A W .typed l _ gl .0)) $ pass1 ! (init ! 6 refl (EL.lawful E.the-type E′.the-laws 𝓤 H A W tt .typed c _ gc .0)) $ pass1 ! (init ! 4 refl (tt, record { fits = found-fits })) $ pass0 ! $
+        move ! (14 ∷ 15 ∷ 16 ∷ []) $ opens ! tt (T.the-row) {h = h} b o (λ vs. spelt ! (T.the-row) (Is (T.the-row)) (shows 𝓤 H A (T.the-row)) (LL.vals T.the-type T′.the-laws) (LL.tells T.the-type T′.the-laws) fullShare h vs b o $
         move ! (1 ∷ []) $ peeks ! (T.the-row) (Is (T.the-row)) (shows 𝓤 H A (T.the-row)) h (mach h ∷ []) (λ g. move ! (1 ∷ 0 ∷ []) $
-        -- [the struct's cell; what h owns; the open borrow; obs; auth; _5; …; _4; …; _3; …; _2; …; _1; …; room for _0; …]
-        assigns ! (of-opd ! (load ! (from ! (hop ! (look ! 13 refl) (stop !))) (look-raw ! 0 refl))) (from ! (stop !)) (init ! 5 refl (LL.lawful T.the-type T′.the-laws 𝓤 H A W .typed h _ g .0)) $
+        -- [the struct's cell; what h owns; the open borrow; obs; auth; _6; …; _5; …; _4; …; _3; …; _2; …; _1; …; room for _0; …]
+        assigns ! (of-opd ! (load ! (from ! (hop ! (look ! 15 refl) (stop !))) (look-raw ! 0 refl))) (from ! (stop !)) (init ! 5 refl (LL.lawful T.the-type T′.the-laws 𝓤 H A W .typed h _ g .0)) $
         use0 W (raw (Next 𝓤 H A at-mem run .pre to-next)) (goes-next g) $
-        calls-at ! fm (Next 𝓤 H A at-mem run) known to-next (and-then ! (load ! (from ! (stop !)) (look ! 6 refl)) (and-then ! (load ! (from ! (stop !)) (look ! 12 refl)) (and-then ! (load ! (from ! (stop !)) (look ! 10 refl)) (no-more !)))) (λ w.
-        use1 W (later (some (λ (r : Stepped). (‵ ftrue ⊛ ‵ (S.the-row .own r (w ∷ []))) ⊛ raw (ensured 𝓤 H A next.ended (next.clauses 𝓤 H A at-mem run) tt (h, (c, (found, tt))) tt r)))) (id⊢ 𝓤 _) $ await ! tt $ pick ! (λ r.
-        split ! $ move ! (1 ∷ []) $ use1 W (raw (fact 𝓤 (r ≡ steppedOf h c found))) (next-of 𝓤 H A at-mem run h c found r) $ heard ! (r ≡ steppedOf h c found) (λ e. split ! $ drop ! $
+        calls-at ! fm (Next 𝓤 H A at-mem run) known to-next (and-then ! (load ! (from ! (stop !)) (look ! 6 refl)) (and-then ! (load ! (from ! (stop !)) (look ! 14 refl)) (and-then ! (load ! (from ! (stop !)) (look ! 12 refl)) (and-then ! (load ! (from ! (stop !)) (look ! 10 refl)) (no-more !))))) (λ w.
+        use1 W (later (some (λ (r : Stepped). (‵ ftrue ⊛ ‵ (S.the-row .own r (w ∷ []))) ⊛ raw (ensured 𝓤 H A next.ended (next.clauses 𝓤 H A at-mem run) tt (h, (l, (c, (found, tt)))) tt r)))) (id⊢ 𝓤 _) $ await ! tt $ pick ! (λ r.
+        split ! $ move ! (1 ∷ []) $ use1 W (raw (fact 𝓤 (r ≡ steppedOf h l c found))) (next-of 𝓤 H A at-mem run h l c found r) $ heard ! (r ≡ steppedOf h l c found) (λ e. split ! $ drop ! $
         peeks ! S.the-row (Is S.the-row) (shows 𝓤 H A S.the-row) r (w ∷ []) (λ is.
-        -- [what the answer owns; the struct's cell; what h owns; the open borrow; obs; auth; _5; …; _4; …; _3; …; _2; …; _1; …; room for _0; …]
+        -- [what the answer owns; the struct's cell; what h owns; the open borrow; obs; auth; _6; …; _5; …; _4; …; _3; …; _2; …; _1; …; room for _0; …]
         land ! (from ! (stop !)) (init ! 8 refl (LL.lawful S.the-type S′.the-laws 𝓤 H A W .typed r _ is .0)) $
-        rewrite ! 8 (λ (v : Val). ‵ (fat fullShare S′.mir l₄ 0 v)) (ap only (LL.tells S.the-type S′.the-laws r _ is)) refl $
-        assigns ! (of-opd ! (load ! (from ! (fld ! refl (stop !))) (look-in ! 8 (sub ! 1 refl (whole !))))) (from ! (hop ! (look ! 14 refl) (stop !))) (store-raw ! 1 refl (LL.lawful T.the-type T′.the-laws 𝓤 H A W .typed (r .graphics) _ (parts r w is .1 .0) .0)) $
-        assigns ! (of-opd ! (load ! (from ! (fld ! refl (stop !))) (look-in ! 8 (sub ! 0 refl (whole !))))) (from ! (stop !)) (init ! 16 refl (tt, record { fits = parts r w is .0 .1 })) $
+        rewrite ! 8 (λ (v : Val). ‵ (fat fullShare S′.mir l₅ 0 v)) (ap only (LL.tells S.the-type S′.the-laws r _ is)) refl $
+        assigns ! (of-opd ! (load ! (from ! (fld ! refl (stop !))) (look-in ! 8 (sub ! 1 refl (whole !))))) (from ! (hop ! (look ! 16 refl) (stop !))) (store-raw ! 1 refl (LL.lawful T.the-type T′.the-laws 𝓤 H A W .typed (r .graphics) _ (parts r w is .1 .0) .0)) $
+        assigns ! (of-opd ! (load ! (from ! (fld ! refl (stop !))) (look-in ! 8 (sub ! 0 refl (whole !))))) (from ! (stop !)) (init ! 18 refl (tt, record { fits = parts r w is .0 .1 })) $
         drop ! $ owned ! T.the-row (Is T.the-row) (LL.makes T.the-type T′.the-plain 𝓤 H A) (r .graphics) _ (parts r w is .1 .0) $ move ! (1 ∷ 0 ∷ 3 ∷ 4 ∷ 5 ∷ []) $ closes ! tt (T.the-row) (r .graphics) (mach (r .graphics) ∷ []) b o $
-        -- [obs; the borrow; the token; what h owns; _5; …; _4; …; _3; …; _2; …; _1; …; _0; …]
-        returns ! (look ! 14 refl) $ forget ! 4 refl $ forget ! 6 refl $ forget ! 8 refl $ forget ! 10 refl $ forget ! 12 refl $ forget ! 14 refl $
-        move ! (14 ∷ 15 ∷ []) $ free1 ! $ move ! (12 ∷ 13 ∷ []) $ free1 ! $ move ! (10 ∷ 11 ∷ []) $ free1 ! $ move ! (8 ∷ 9 ∷ []) $ free1 ! $ move ! (6 ∷ 7 ∷ []) $ free1 ! $ move ! (4 ∷ 5 ∷ []) $ free1 ! $ free0 ! $
-        keep ! (0 ∷ 1 ∷ 2 ∷ []) $ by ! (exits r e (parts r w is .0))))))))))))))
+        -- [obs; the borrow; the token; what h owns; _6; …; _5; …; _4; …; _3; …; _2; …; _1; …; _0; …]
+        returns ! (look ! 16 refl) $ forget ! 4 refl $ forget ! 6 refl $ forget ! 8 refl $ forget ! 10 refl $ forget ! 12 refl $ forget ! 14 refl $ forget ! 16 refl $
+        move ! (16 ∷ 17 ∷ []) $ free1 ! $ move ! (14 ∷ 15 ∷ []) $ free1 ! $ move ! (12 ∷ 13 ∷ []) $ free1 ! $ move ! (10 ∷ 11 ∷ []) $ free1 ! $ move ! (8 ∷ 9 ∷ []) $ free1 ! $ move ! (6 ∷ 7 ∷ []) $ free1 ! $ move ! (4 ∷ 5 ∷ []) $ free1 ! $ free0 ! $
+        keep ! (0 ∷ 1 ∷ 2 ∷ []) $ by ! (exits r e (parts r w is .0)))))))))))))))
       where
         -- what whoever holds an answer knows of its two fields
         parts : (r : Stepped) (w : Val) → Is S.the-row r (w ∷ []) → Is u64 (r .number) (vint w64 (r .number) ∷ []) × (Is T.the-row (r .graphics) (mach (r .graphics) ∷ []) × Unit {0})
@@ -143,11 +149,11 @@ module _ {M : Type 1} (𝓤 : URA M) (H : Heap 𝓤) (A : Atoms 𝓤) (W : Given
 
 module _ {M : Type 1} (𝓤 : URA M) (H : Heap 𝓤) (A : Atoms 𝓤) (W : Given 𝓤 H A) (at-mem : Memory → SProp 𝓤) (run : Routine → Fun 𝓤) where
   step-walks : (C : Calls 𝓤 H) (Λ : Loops 𝓤 H) → FmC 𝓤 H (W .laws) C → Triple 𝓤 (C #lent·next) (Next 𝓤 H A at-mem run) → Walks 𝓤 H A step.ended stayed (WpFn 𝓤 H C Λ code.function) (step.clauses 𝓤 H A at-mem run)
-  step-walks C Λ fm known = walked 𝓤 H A step.ended stayed (step.clauses 𝓤 H A at-mem run) (WpFn 𝓤 H C Λ code.function) (λ κs. (ptr-vals, (EL.vals E.the-type E′.the-laws, (uint-vals w64, tt)))) (λ κs. (mut-tells (named 0) (κs .0) (T.the-row), (EL.tells E.the-type E′.the-laws, (uint-tells w64, tt))))
-      (λ κs qs bounds a g are. via 𝓤 _ (fst∗ 𝓤 _ (emp 𝓤)) (walk 𝓤 H A W at-mem run (κs .0) (qs .0) (a .0 .ptr .0) (a .0 .ptr .1) (a .0 .name) (a .0 .now) (a .1 .0) (are .1 .0) (a .1 .1 .0) (are .1 .1 .0 .1) C Λ fm known))
+  step-walks C Λ fm known = walked 𝓤 H A step.ended stayed (step.clauses 𝓤 H A at-mem run) (WpFn 𝓤 H C Λ code.function) (λ κs. (ptr-vals, (LL.vals Lv.the-type Lv′.the-laws, (EL.vals E.the-type E′.the-laws, (uint-vals w64, tt))))) (λ κs. (mut-tells (named 0) (κs .0) (T.the-row), (LL.tells Lv.the-type Lv′.the-laws, (EL.tells E.the-type E′.the-laws, (uint-tells w64, tt)))))
+      (λ κs qs bounds a g are. via 𝓤 _ (fst∗ 𝓤 _ (emp 𝓤)) (walk 𝓤 H A W at-mem run (κs .0) (qs .0) (a .0 .ptr .0) (a .0 .ptr .1) (a .0 .name) (a .0 .now) (a .1 .0) (are .1 .0) (a .1 .1 .0) (are .1 .1 .0) (a .1 .1 .1 .0) (are .1 .1 .1 .0 .1) C Λ fm known))
 
   goes : AllGo 𝓤 H A W 1 (step.signature .params) (step.ended .kept) stayed
-  goes = (goes-ref 𝓤 H A W 1 0 tt (plain (λ _. T.the-row)), (goes-none 𝓤 H A W 1 (λ _. E.the-row) yes (λ κs x f. refl), (goes-none 𝓤 H A W 1 (λ _. u64) yes (λ κs x f. refl), tt)))
+  goes = (goes-ref 𝓤 H A W 1 0 tt (plain (λ _. T.the-row)), (goes-none 𝓤 H A W 1 (λ _. Lv.the-row) yes (λ κs x f. refl), (goes-none 𝓤 H A W 1 (λ _. E.the-row) yes (λ κs x f. refl), (goes-none 𝓤 H A W 1 (λ _. u64) yes (λ κs x f. refl), tt))))
 
 step-meets : {M : Type 1} (𝓤 : URA M) (H : Heap 𝓤) (A : Atoms 𝓤) → Given 𝓤 H A → (at-mem : Memory → SProp 𝓤) (run : Routine → Fun 𝓤) (𝓣 : Tables 𝓤 H) → Triple 𝓤 (𝓣 .C #lent·next) (Next 𝓤 H A at-mem run)
     → Meets 𝓤 H A step.signature (WpFn 𝓤 H (𝓣 .C) (𝓣 .Λ) code.function) (step.spec 𝓤 H A at-mem run)
