@@ -1,0 +1,39 @@
+-- Laws of what the calls for a host answer.
+-- Assumes nothing.
+use Prim.Native.Nat.{ℕ, zero, suc, _-_, _≤_, _<_, min}
+use native.Mathlib.Nat.{sub-zero, zero-sub, suc-sub-suc}
+use native.Mathlib.Omega.{arith}
+use mathlib.Core.Path.{_≡_, refl, sym, _∙_, ap}
+use mathlib.Core.Bool.{true, false}
+use mathlib.Core.List.{List, [], _∷_, _++_}
+use lib.Dec.{ltb}
+use lib.ListN.{length, take, drop, replicate, length-take}
+use borrow.Author.Tests.{lt-ltb, le-ltb}
+use Rattle.descend.specs.declared.Fetch.{Fetch}
+use Rattle.descend.specs.Slots.{fetchNumber}
+use Rattle.host.specs.Calls.{runNumber, itemIn}
+
+pub run-short : (f : Fetch) (n : ℕ) → ltb n 14 ≡ true → 100 ≡ runNumber f n
+unfolding runNumber
+run-short f n h = simp h
+
+pub run-long : (f : Fetch) (n r : ℕ) → ltb n 14 ≡ false → r ≡ fetchNumber f → r ≡ runNumber f n
+unfolding runNumber
+run-long f n r h e = simp (h, e)
+
+zeros-behind : (k n : ℕ) → drop k (replicate {A = ℕ} n 0) ≡ replicate (n - k) 0
+zeros-behind zero n = ap (λ (m : ℕ). replicate {A = ℕ} m 0) (sym (sub-zero n))
+zeros-behind (suc k) zero = ap (λ (m : ℕ). replicate {A = ℕ} m 0) (sym (zero-sub (suc k)))
+zeros-behind (suc k) (suc n) = zeros-behind k n ∙ ap (λ (m : ℕ). replicate {A = ℕ} m 0) (sym (suc-sub-suc n k))
+
+-- a slice of fourteen of the lent words
+pub front : (l : List ℕ) → 14 ≤ length l → 14 ≡ length (take 14 l)
+front l h = let e : min 14 (length l) ≡ 14 = omega (arith, h) in sym (length-take 14 l ∙ e)
+
+pub item-short : (item l : List ℕ) (n : ℕ) → n < 14 → l ≡ replicate n 0 → l ≡ itemIn item n
+unfolding itemIn
+item-short item l n h e = e ∙ simp (lt-ltb n 14 h)
+
+pub item-long : (item w l : List ℕ) (n : ℕ) → 14 ≤ n → w ≡ item → l ≡ replicate n 0 → w ++ drop 14 l ≡ itemIn item n
+unfolding itemIn
+item-long item w l n h e z = rw (e, z) (ap (λ t. item ++ t) (zeros-behind 14 n) ∙ simp (le-ltb n 14 h))

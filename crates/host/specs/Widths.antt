@@ -1,0 +1,28 @@
+-- How wide the records are that a host lends room for (docs/SHEET.md): the constants of host/sheet.h are held to these.
+use Prim.Native.Nat.{ℕ, _/_}
+use mathlib.Core.Path.{_≡_}
+use mathlib.Core.List.{List}
+use lib.ListN.{length}
+use Rattle.place.specs.declared.Item.{Item}
+use Rattle.sheet.specs.declared.Entry.{Entry}
+use Rattle.sheet.specs.Records.{entryRoom, apertureRoom, entryWords}
+use Rattle.sheet.specs.declared.Aperture.{Aperture}
+use Rattle.tables.specs.Apertures.{apertureWords}
+use Rattle.tables.specs.declared.Macro.{Macro}
+use Rattle.tables.specs.Macros.{macroRoom, macroWords}
+use Rattle.descend.specs.Slots.{itemWords}
+
+pub record ItemsAre (r : ℕ) : Type 0 where
+  pub words : (t : Item) → length (itemWords t) ≡ r
+
+pub record EntriesAre (r : ℕ) : Type 0 where
+  pub words : (t : Entry) → length (entryWords t) ≡ r
+  pub room : (e : List ℕ) → entryRoom e ≡ length e / r
+
+pub record AperturesAre (r : ℕ) : Type 0 where
+  pub words : (t : Aperture) → length (apertureWords t) ≡ r
+  pub room : (a : List ℕ) → apertureRoom a ≡ length a / r
+
+pub record MacrosAre (r : ℕ) : Type 0 where
+  pub words : (t : Macro) → length (macroWords t) ≡ r
+  pub room : (m : List ℕ) → macroRoom m ≡ length m / r

@@ -1,0 +1,193 @@
+// The calls for a host program in C (host/sheet.h): numbers and slices alone. Each is one call of the crate that answers, with the
+// answer turned into document 01's number and its values stored where they are asked for.
+use descend::Fetch;
+use descend::Total;
+use reader::Answer;
+use sayings::Kind;
+ghost use mathlib.Core.Path.{_≡_};
+ghost use lib.ListN.{length};
+ghost use Rattle.sayings.specs.declared.Kind.the-variants.{Aperture, Object};
+ghost use Rattle.reading.specs.Reading.{reading};
+ghost use Rattle.progress.specs.Lent.{lentOf, roomOf};
+ghost use Rattle.attribute.specs.Attribute.{attributeOf};
+ghost use Rattle.descend.specs.Answers.{totalOf, totalNumber, totalValue};
+ghost use Rattle.descend.specs.Slots.{fetchOf, fetchNumber, fetched};
+ghost use Rattle.host.specs.Calls.{runNumber, itemIn};
+ghost use Rattle.host.specs.Reads.{ReadsInto};
+ghost use Rattle.host.specs.Widths.{ItemsAre, EntriesAre, AperturesAre, MacrosAre};
+
+// Reads a file into the lent words: a sheet, with its unit; or document 01's number and the place, and zeros in every word.
+#[no_mangle]
+pub extern "C" fn sheet_read(
+    file: &[u8],
+    head: &mut [u64; 8],
+    entries: &mut [u64],
+    apertures: &mut [u64],
+    macros: &mut [u64],
+    numbers: &mut [i64],
+    place: &mut u64,
+    unit: &mut u64,
+) -> u64
+    ensures { λ r. ⌜ ReadsInto (reading (roomOf (lentOf (now (file .entry)) (now (entries .entry)) (now (apertures .entry)) (now (macros .entry)) (now (numbers .entry)))) (now (file .entry)))
+        (lentOf (now (file .entry)) (now (entries .entry)) (now (apertures .entry)) (now (macros .entry)) (now (numbers .entry)))
+        (lentOf (now (file .entry)) (now (entries .exit)) (now (apertures .exit)) (now (macros .exit)) (now (numbers .exit))) (now (head .exit)) r (now (place .exit)) (now (unit .exit)) ⌝ }
+{
+    let a = reader::read(file, head, entries, apertures, macros, numbers);
+    match a {
+        Answer::Accepted(u) => {
+            *place = 0;
+            *unit = u;
+            0
+        }
+        Answer::Refused { number, place: at } => {
+            *place = at as u64;
+            *unit = 0;
+            number
+        }
+    }
+}
+
+// The number of items of a sheet, 0 where the store is none.
+#[no_mangle]
+pub extern "C" fn sheet_total(
+    head: &[u64; 8],
+    entries: &[u64],
+    apertures: &[u64],
+    total: &mut u64,
+) -> u64
+    ensures { λ r. ⌜ (r ≡ totalNumber (totalOf (now (head .entry)) (now (entries .entry)) (now (apertures .entry))))
+        × (now (total .exit) ≡ totalValue (totalOf (now (head .entry)) (now (entries .entry)) (now (apertures .entry)))) ⌝ }
+{
+    let t = descend::sheet_total(head, entries, apertures);
+    match t {
+        Total::Is(n) => {
+            *total = n;
+            0
+        }
+        Total::NotSheet => {
+            *total = 0;
+            21
+        }
+    }
+}
+
+// Document 01's number of a call for a run.
+fn fetch_number(f: Fetch) -> u64
+    ensures { λ r. ⌜ r ≡ fetchNumber f ⌝ }
+{
+    match f {
+        Fetch::Done => 0,
+        Fetch::Past => 20,
+        Fetch::NotSheet => 21,
+    }
+}
+
+// Items k, k + 1, .. of a sheet, fourteen words each, in as many slots as there is room for; 100 where there is room for none.
+#[no_mangle]
+pub extern "C" fn sheet_items(
+    head: &[u64; 8],
+    entries: &[u64],
+    apertures: &[u64],
+    k: u64,
+    items: &mut [u64],
+) -> u64
+    ensures { λ r. ⌜ (r ≡ runNumber (fetchOf (now (head .entry)) (now (entries .entry)) (now (apertures .entry)) k) (length (now (items .entry))))
+        × (now (items .exit) ≡ fetched (now (head .entry)) (now (entries .entry)) (now (apertures .entry)) k (length (now (items .entry)))) ⌝ }
+{
+    let short = items.len() < 14;
+    let f = descend::sheet_run(head, entries, apertures, k, items);
+    if short {
+        return 100;
+    }
+    fetch_number(f)
+}
+
+// Item k of a sheet in the first fourteen of the lent words, the others 0; 100 where there are fewer.
+#[no_mangle]
+pub extern "C" fn sheet_item(
+    head: &[u64; 8],
+    entries: &[u64],
+    apertures: &[u64],
+    k: u64,
+    item: &mut [u64],
+) -> u64
+    ensures { λ r. ⌜ (r ≡ runNumber (fetchOf (now (head .entry)) (now (entries .entry)) (now (apertures .entry)) k) (length (now (item .entry))))
+        × (now (item .exit) ≡ itemIn (fetched (now (head .entry)) (now (entries .entry)) (now (apertures .entry)) k 14) (length (now (item .entry)))) ⌝ }
+{
+    base::clear(item);
+    if item.len() < 14 {
+        return 100;
+    }
+    let f = descend::sheet_run(head, entries, apertures, k, &mut item[..14]);
+    fetch_number(f)
+}
+
+// The aperture attribute of this name at the command that begins at the place: where its value stands in the file, and its length.
+#[no_mangle]
+pub extern "C" fn sheet_aperture_attribute(
+    file: &[u8],
+    place: usize,
+    name: &[u8],
+    at: &mut u64,
+    size: &mut u64,
+) -> u64
+    ensures { λ r. ⌜ (r ≡ attributeOf (now (file .entry)) Aperture place (now (name .entry)) .number)
+        × (now (at .exit) ≡ attributeOf (now (file .entry)) Aperture place (now (name .entry)) .place)
+        × (now (size .exit) ≡ attributeOf (now (file .entry)) Aperture place (now (name .entry)) .length) ⌝ }
+{
+    let a = attribute::attribute(file, Kind::Aperture, place, name);
+    *at = a.place as u64;
+    *size = a.length as u64;
+    a.number
+}
+
+// The object attribute of this name there.
+#[no_mangle]
+pub extern "C" fn sheet_object_attribute(
+    file: &[u8],
+    place: usize,
+    name: &[u8],
+    at: &mut u64,
+    size: &mut u64,
+) -> u64
+    ensures { λ r. ⌜ (r ≡ attributeOf (now (file .entry)) Object place (now (name .entry)) .number)
+        × (now (at .exit) ≡ attributeOf (now (file .entry)) Object place (now (name .entry)) .place)
+        × (now (size .exit) ≡ attributeOf (now (file .entry)) Object place (now (name .entry)) .length) ⌝ }
+{
+    let a = attribute::attribute(file, Kind::Object, place, name);
+    *at = a.place as u64;
+    *size = a.length as u64;
+    a.number
+}
+
+// The words of an item in a run.
+#[no_mangle]
+pub extern "C" fn sheet_item_words() -> usize
+    ensures { λ r. ⌜ ItemsAre r ⌝ }
+{
+    14
+}
+
+// The words of an entry.
+#[no_mangle]
+pub extern "C" fn sheet_entry_words() -> usize
+    ensures { λ r. ⌜ EntriesAre r ⌝ }
+{
+    15
+}
+
+// The words of an aperture.
+#[no_mangle]
+pub extern "C" fn sheet_aperture_words() -> usize
+    ensures { λ r. ⌜ AperturesAre r ⌝ }
+{
+    8
+}
+
+// The words of a macro.
+#[no_mangle]
+pub extern "C" fn sheet_macro_words() -> usize
+    ensures { λ r. ⌜ MacrosAre r ⌝ }
+{
+    8
+}

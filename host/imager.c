@@ -1,0 +1,356 @@
+/* The sample host: asks the proved reader about a layer file, and prints what it answers.
+ *
+ *   imager list [--room E,A,M,N]        the listing's lines
+ *   imager sheet [--room E,A,M,N]       sheet, unit, total, entries, apertures, macros, numbers used
+ *   imager items K COUNT                the listing's lines of those items
+ *   imager numbers                      a line for each AD: its aperture, then the numbers kept
+ *   imager attribute TA|TO PLACE NAME   attribute, place, length of the value (`attr` answers with attr)
+ *   imager batch [--room E,A,M,N]       for each file named on standard input: name, sheet or refusal, hash of its first 2000 lines
+ *
+ * The file stands on standard input but for batch; fields are parted by tabs. A refusal prints refused, number and place; of an
+ * attribute, refused and number. */
+#include <errno.h>
+#include <inttypes.h>
+#include <stdio.h>
+#include <stdlib.h>
+#include <string.h>
+
+#include "sheet.h"
+
+enum { RUN = 65536, HASHED = 2000, LINE = 512 };
+
+/* Without --room, no more numbers than these: the header says why there is no room that is always enough. */
+static const size_t most_numbers = (size_t)1 << 24;
+
+struct bytes {
+    uint8_t *at;
+    size_t count;
+};
+
+/* How many entries, apertures, macros and numbers there is room for. */
+struct room {
+    size_t entries, apertures, macros, numbers;
+};
+
+/* What is lent to the reading, and what it answered. */
+struct store {
+    uint64_t head[SHEET_HEAD_WORDS];
+    uint64_t *entries, *apertures, *macros;
+    int64_t *numbers;
+    size_t entries_words, apertures_words, macros_words, numbers_count;
+    uint64_t number, place, unit;
+};
+
+static void fail(const char *what)
+{
+    fprintf(stderr, "imager: %s\n", what);
+    exit(1);
+}
+
+/* Room for so many of that size, never null, since a slice of length 0 has a pointer too. */
+static void *lend(size_t count, size_t size)
+{
+    void *p = calloc(count ? count : 1, size);
+    if (!p)
+        fail("out of memory");
+    return p;
+}
+
+/* A stream's bytes, up to one more than a file may have. */
+static struct bytes all_of(FILE *in)
+{
+    struct bytes b = {NULL, 0};
+    size_t room = 0, got = 1;
+    while (got != 0 && b.count <= SHEET_FILE_LIMIT) {
+        if (b.count == room) {
+            room = room ? 2 * room : 65536;
+            b.at = realloc(b.at, room);
+            if (!b.at)
+                fail("out of memory");
+        }
+        got = fread(b.at + b.count, 1, room - b.count, in);
+        b.count += got;
+    }
+    if (ferror(in))
+        fail("the file cannot be read");
+    if (b.count > SHEET_FILE_LIMIT)
+        b.count = SHEET_FILE_LIMIT + 1;
+    return b;
+}
+
+/* Room for any file of that length. */
+static struct room room_for(size_t n)
+{
+    struct room r = {0, 0, 0, 0};
+    if (n <= SHEET_FILE_LIMIT) {
+        r.entries = sheet_entries_for(n);
+        r.apertures = sheet_apertures_for(n);
+        r.macros = sheet_macros_for(n);
+        r.numbers = sheet_numbers_for(n) < most_numbers ? sheet_numbers_for(n) : most_numbers;
+    }
+    return r;
+}
+
+static struct store read_sheet(struct bytes file, const struct room *asked)
+{
+    struct room r = asked ? *asked : room_for(file.count);
+    struct store s;
+    s.entries_words = r.entries * SHEET_ENTRY_WORDS;
+    s.apertures_words = r.apertures * SHEET_APERTURE_WORDS;
+    s.macros_words = r.macros * SHEET_MACRO_WORDS;
+    s.numbers_count = r.numbers;
+    s.entries = lend(s.entries_words, sizeof *s.entries);
+    s.apertures = lend(s.apertures_words, sizeof *s.apertures);
+    s.macros = lend(s.macros_words, sizeof *s.macros);
+    s.numbers = lend(s.numbers_count, sizeof *s.numbers);
+    s.number = sheet_read(file.at, file.count, s.head, s.entries, s.entries_words, s.apertures, s.apertures_words, s.macros,
+                          s.macros_words, s.numbers, s.numbers_count, &s.place, &s.unit);
+    return s;
+}
+
+static void give_back(struct store *s)
+{
+    free(s->entries);
+    free(s->apertures);
+    free(s->macros);
+    free(s->numbers);
+}
+
+/* The items from k on, as many as `items` has slots for. */
+static uint64_t run_of(const struct store *s, uint64_t k, struct sheet_item *items, size_t slots)
+{
+    return sheet_items(s->head, s->entries, s->entries_words, s->apertures, s->apertures_words, k, &items->kind,
+                       slots * SHEET_ITEM_WORDS);
+}
+
+static int item_line(char *line, uint64_t k, const struct sheet_item *t)
+{
+    static const char *const kinds[] = {"none", "line",    "cw",        "ccw",     "flash",
+                                        "contour", "edge-line", "edge-cw", "edge-ccw"};
+    return snprintf(line, LINE,
+                    "%" PRIu64 "\t%s\t%" PRIu64 "\t%s\t%" PRIu64 "\t%" PRIu64 "\t%" PRIu64 "\t%" PRId64 "\t%" PRId64 "\t%" PRId64
+                    "\t%" PRId64 "\t%" PRId64 "\t%" PRId64 "\t%" PRIu64 "\t%" PRIu64 "\n",
+                    k, kinds[t->kind <= 8 ? t->kind : 0], t->aperture, t->clear ? "clear" : "dark", t->flip, t->angle, t->scale,
+                    t->start_x, t->start_y, t->end_x, t->end_y, t->centre_x, t->centre_y, t->count, t->place);
+}
+
+/* Hands the lines of items k up to `end` to a taker, run by run. */
+static void each_line(const struct store *s, uint64_t k, uint64_t end, void (*take)(void *, const char *, size_t), void *with)
+{
+    size_t slots = end - k < RUN ? (size_t)(end - k) : RUN;
+    struct sheet_item *items = lend(slots, sizeof *items);
+    char line[LINE];
+    while (k < end) {
+        size_t m = end - k < slots ? (size_t)(end - k) : slots;
+        if (run_of(s, k, items, m) != SHEET_ACCEPTED)
+            fail("a run of items was refused");
+        for (size_t i = 0; i < m; i++)
+            take(with, line, (size_t)item_line(line, k + i, &items[i]));
+        k += m;
+    }
+    free(items);
+}
+
+static void print_line(void *with, const char *line, size_t count)
+{
+    fwrite(line, 1, count, with);
+}
+
+/* FNV-1a, 64 bits. */
+static void hash_line(void *with, const char *line, size_t count)
+{
+    uint64_t *hash = with;
+    for (size_t i = 0; i < count; i++)
+        *hash = (*hash ^ (uint8_t)line[i]) * UINT64_C(0x100000001b3);
+}
+
+static void print_refusal(const struct store *s, char part)
+{
+    printf("refused%c%" PRIu64 "%c%" PRIu64, part, s->number, part, s->place);
+}
+
+static void print_sheet(const struct store *s, char part)
+{
+    const uint64_t *h = s->head;
+    if (s->number != SHEET_ACCEPTED) {
+        print_refusal(s, part);
+        return;
+    }
+    printf("sheet%c%s%c%" PRIu64 "%c%" PRIu64 "%c%" PRIu64 "%c%" PRIu64 "%c%" PRIu64, part, s->unit == SHEET_MM ? "mm" : "inch", part,
+           h[SHEET_HEAD_TOTAL], part, h[SHEET_HEAD_ENTRIES], part, h[SHEET_HEAD_APERTURES], part, h[SHEET_HEAD_MACROS], part,
+           h[SHEET_HEAD_NUMBERS]);
+}
+
+/* A refusal's line, for the modes that have nothing else to say then. */
+static int refused(const struct store *s)
+{
+    if (s->number == SHEET_ACCEPTED)
+        return 0;
+    print_refusal(s, '\t');
+    putchar('\n');
+    return 1;
+}
+
+static void list(const struct store *s)
+{
+    if (refused(s))
+        return;
+    printf("items\t%" PRIu64 "\n", s->head[SHEET_HEAD_TOTAL]);
+    each_line(s, 0, s->head[SHEET_HEAD_TOTAL], print_line, stdout);
+}
+
+static void sheet(const struct store *s)
+{
+    print_sheet(s, '\t');
+    putchar('\n');
+}
+
+static void items(const struct store *s, uint64_t k, uint64_t count)
+{
+    uint64_t total;
+    if (refused(s))
+        return;
+    if (sheet_total(s->head, s->entries, s->entries_words, s->apertures, s->apertures_words, &total) != SHEET_ACCEPTED)
+        fail("the store is no sheet");
+    if (k >= total) {
+        printf("refused\t%d\t0\n", SHEET_PAST);
+        return;
+    }
+    each_line(s, k, count < total - k ? k + count : total, print_line, stdout);
+}
+
+static void numbers(const struct store *s)
+{
+    if (refused(s))
+        return;
+    for (uint64_t i = 0; i < s->head[SHEET_HEAD_APERTURES]; i++) {
+        const uint64_t *a = s->apertures + i * SHEET_APERTURE_WORDS;
+        if (a[1] == 6) /* a block keeps no numbers */
+            continue;
+        printf("%" PRIu64, a[0]);
+        for (uint64_t j = 0; j < a[3]; j++)
+            printf("\t%" PRId64, s->numbers[a[2] + j]);
+        putchar('\n');
+    }
+}
+
+static void attribute(struct bytes file, const char *mode, int of_aperture, size_t place, const char *name)
+{
+    uint64_t at, count, number;
+    if (of_aperture)
+        number = sheet_aperture_attribute(file.at, file.count, place, (const uint8_t *)name, strlen(name), &at, &count);
+    else
+        number = sheet_object_attribute(file.at, file.count, place, (const uint8_t *)name, strlen(name), &at, &count);
+    if (number == SHEET_ACCEPTED)
+        printf("%s\t%" PRIu64 "\t%" PRIu64 "\n", mode, at, count);
+    else
+        printf("refused\t%" PRIu64 "\n", number);
+}
+
+/* A file's line of the batch. */
+static void batch_line(const char *name, const struct room *room)
+{
+    FILE *in = fopen(name, "rb");
+    uint64_t hash = UINT64_C(0xcbf29ce484222325);
+    if (!in)
+        fail(strerror(errno));
+    struct bytes file = all_of(in);
+    fclose(in);
+    struct store s = read_sheet(file, room);
+    printf("%s\t", name);
+    print_sheet(&s, ' ');
+    if (s.number == SHEET_ACCEPTED) {
+        uint64_t total = s.head[SHEET_HEAD_TOTAL];
+        each_line(&s, 0, total < HASHED ? total : HASHED, hash_line, &hash);
+        printf("\t%016" PRIx64 "\n", hash);
+    } else {
+        printf("\t-\n");
+    }
+    give_back(&s);
+    free(file.at);
+}
+
+static void batch(const struct room *room)
+{
+    char *name = NULL;
+    size_t size = 0;
+    ssize_t n;
+    while ((n = getline(&name, &size, stdin)) >= 0) {
+        if (n > 0 && name[n - 1] == '\n')
+            name[n - 1] = 0;
+        if (name[0])
+            batch_line(name, room);
+    }
+    free(name);
+}
+
+static int usage(void)
+{
+    fputs("usage: imager list|sheet|batch [--room E,A,M,N], items K COUNT, numbers, attribute TA|TO PLACE NAME\n", stderr);
+    return 2;
+}
+
+/* A number of digits alone, up to what a word holds. */
+static int whole(const char *text, uint64_t *value)
+{
+    char *end;
+    errno = 0;
+    *value = strtoull(text, &end, 10);
+    return text[0] >= '0' && text[0] <= '9' && *end == 0 && errno == 0;
+}
+
+static int is(const char *word, const char *other)
+{
+    return strcmp(word, other) == 0;
+}
+
+/* The modes that may be given a room. */
+static int with_room(const char *mode, int words, char **word)
+{
+    struct room r, *room = NULL;
+    if (words != 0) {
+        if (words != 2 || !is(word[0], "--room") ||
+            sscanf(word[1], "%zu,%zu,%zu,%zu", &r.entries, &r.apertures, &r.macros, &r.numbers) != 4)
+            return usage();
+        room = &r;
+    }
+    if (is(mode, "batch")) {
+        batch(room);
+        return 0;
+    }
+    struct bytes file = all_of(stdin);
+    struct store s = read_sheet(file, room);
+    if (is(mode, "list"))
+        list(&s);
+    else
+        sheet(&s);
+    give_back(&s);
+    free(file.at);
+    return 0;
+}
+
+int main(int argc, char **argv)
+{
+    const char *mode = argc > 1 ? argv[1] : "";
+    uint64_t k = 0, count = 0;
+    if (is(mode, "list") || is(mode, "sheet") || is(mode, "batch"))
+        return with_room(mode, argc - 2, argv + 2);
+    if ((is(mode, "attribute") || is(mode, "attr")) && argc == 5 && (is(argv[2], "TA") || is(argv[2], "TO")) && whole(argv[3], &k)) {
+        struct bytes file = all_of(stdin);
+        attribute(file, mode, is(argv[2], "TA"), (size_t)k, argv[4]);
+        free(file.at);
+        return 0;
+    }
+    int asks_items = is(mode, "items") && argc == 4 && whole(argv[2], &k) && whole(argv[3], &count);
+    if (!asks_items && !(is(mode, "numbers") && argc == 2))
+        return usage();
+    struct bytes file = all_of(stdin);
+    struct store s = read_sheet(file, NULL);
+    if (asks_items)
+        items(&s, k, count);
+    else
+        numbers(&s);
+    give_back(&s);
+    free(file.at);
+    return 0;
+}

@@ -1,0 +1,188 @@
+/* The calls for a host program: a Gerber layer file read into room that the host lends, and what is on it.
+ *
+ * Link with libhost.a (`rt staticlib host`; x86-64 Linux). Every call is proved to meet the contract that stands with it in
+ * crates/host/src/lib.rt; this page says the same in words. The words are those of docs/SHEET.md and of document 01.
+ *
+ * For all calls
+ *   - Nothing is allocated, nothing is kept between calls, no call prints. What a call needs, the host lends.
+ *   - A slice is two arguments, a pointer and then a length: bytes of `const uint8_t *`, words of `uint64_t *` or `int64_t *`. The
+ *     pointer is not null and is aligned as its type asks, for a length of 0 too.
+ *   - Nothing that is lent to be written overlaps anything else that is lent to the same call, and nobody else writes to any of it
+ *     meanwhile. That is all that a call trusts its host in: any bytes, any words and any lengths are answered.
+ *   - A call answers a number: 0, or why not (enum sheet_number). It sets everything that it was lent to be written, whatever it
+ *     answers.
+ *
+ *   uint64_t head[SHEET_HEAD_WORDS], place, unit, item[SHEET_ITEM_WORDS];
+ *   size_t e = sheet_entries_for(n) * SHEET_ENTRY_WORDS, a = sheet_apertures_for(n) * SHEET_APERTURE_WORDS;
+ *   size_t m = sheet_macros_for(n) * SHEET_MACRO_WORDS, v = numbers;
+ *   .. lend entries of e words, apertures of a, macros of m, numbers of v ..
+ *   if (sheet_read(file, n, head, entries, e, apertures, a, macros, m, values, v, &place, &unit) == SHEET_ACCEPTED)
+ *       sheet_item(head, entries, e, apertures, a, 40000, item, SHEET_ITEM_WORDS);
+ */
+#ifndef SHEET_H
+#define SHEET_H
+
+#include <stddef.h>
+#include <stdint.h>
+
+#ifdef __cplusplus
+extern "C" {
+#endif
+
+/* Document 01, "Numbers the reader answers"; the last is the host calls' own. */
+enum sheet_number {
+    SHEET_ACCEPTED = 0,         /* accepted */
+    SHEET_TOO_LONG = 1,         /* file longer than 16,777,216 bytes; place 0 */
+    SHEET_BYTE = 2,             /* a byte outside 32 to 126, not a permitted CR or LF; place of that byte */
+    SHEET_ENDS = 3,             /* file ends inside a command or before M02; place is the length */
+    SHEET_FORM = 4,             /* command unknown or not of its form */
+    SHEET_RANGE = 5,            /* number too long or outside its range */
+    SHEET_FORMAT = 6,           /* FS or MO given twice, or missing at an operation or at M02 */
+    SHEET_NOT_HERE = 7,         /* command not allowed here, or something open at M02 */
+    SHEET_NAME = 8,             /* aperture or macro unknown, or its number or name taken */
+    SHEET_EXPRESSION = 9,       /* macro expression: zero divisor, or any operation's result of 10^12 millionths or more in size */
+    SHEET_PARAMETER = 10,       /* parameter outside its rule */
+    SHEET_STATE = 11,           /* operation does not fit the state */
+    SHEET_CENTRE = 12,          /* nonsensical arc centre */
+    SHEET_CONTOUR = 13,         /* contour not closed */
+    SHEET_BLOCK = 14,           /* block flashed at a scale other than 1 or an angle not a multiple of 90 degrees */
+    SHEET_DEEP = 15,            /* too deep */
+    SHEET_ITEMS = 16,           /* a D01 or D03 takes the open block or, SR copies counted, the sheet past 10^12 items */
+    SHEET_ROOM = 17,            /* room used up */
+    SHEET_AFTER_END = 18,       /* any byte but CR or LF after M02, where 2 is not given; place of that byte */
+    SHEET_FILE_ATTRIBUTE = 19,  /* file attribute name set twice */
+    SHEET_PAST = 20,            /* item asked at or past the total */
+    SHEET_NOT_SHEET = 21,       /* lent store is not a sheet */
+    SHEET_NO_COMMAND = 22,      /* no command begins at the place asked */
+    SHEET_NOT_HELD = 23,        /* attribute name not held there */
+    SHEET_SHORT = 100           /* the words lent for items do not hold one item; before all else (decision 281) */
+};
+
+enum sheet_unit { SHEET_NO_UNIT = 0, SHEET_MM = 1, SHEET_INCH = 2 };
+
+enum sheet_kind {
+    SHEET_ZERO_ITEM = 0,
+    SHEET_LINE = 1,
+    SHEET_CW = 2,
+    SHEET_CCW = 3,
+    SHEET_FLASH = 4,
+    SHEET_CONTOUR_START = 5,
+    SHEET_EDGE_LINE = 6,
+    SHEET_EDGE_CW = 7,
+    SHEET_EDGE_CCW = 8
+};
+
+/* The widths of what is lent, in words of 64 bits. The functions answer the widths that the proved code has; tests/host.sh holds
+ * the constants to them. */
+#define SHEET_HEAD_WORDS 8
+#define SHEET_ENTRY_WORDS 15
+#define SHEET_APERTURE_WORDS 8
+#define SHEET_MACRO_WORDS 8
+#define SHEET_ITEM_WORDS 14
+#define SHEET_FILE_LIMIT 16777216
+
+size_t sheet_entry_words(void);
+size_t sheet_aperture_words(void);
+size_t sheet_macro_words(void);
+size_t sheet_item_words(void);
+
+/* Words of the head, of use to a host after an accepted reading. */
+enum sheet_head_word {
+    SHEET_HEAD_UNIT = 1,
+    SHEET_HEAD_ENTRIES = 2,     /* entries, apertures, macros and numbers used */
+    SHEET_HEAD_APERTURES = 3,
+    SHEET_HEAD_MACROS = 4,
+    SHEET_HEAD_NUMBERS = 5,
+    SHEET_HEAD_TOTAL = 7        /* items of the sheet */
+};
+
+/* An item, as its fourteen words: a slot of the words lent to sheet_items or sheet_item can be read as one of these. Coordinates are
+ * in millionths of the unit, angles in millionths of a degree, the scale in millionths; unused fields are 0. */
+struct sheet_item {
+    uint64_t kind;              /* enum sheet_kind */
+    uint64_t aperture;          /* its number; 0 for a contour and its edges */
+    uint64_t clear;             /* 1 if clear, 0 if dark */
+    uint64_t flip;              /* 1 if flipped */
+    uint64_t angle;
+    uint64_t scale;
+    int64_t start_x, start_y;
+    int64_t end_x, end_y;
+    int64_t centre_x, centre_y;
+    uint64_t count;             /* a contour's edges */
+    uint64_t place;             /* of the creating command in the file */
+};
+
+#ifdef __cplusplus
+static_assert(sizeof(struct sheet_item) == SHEET_ITEM_WORDS * sizeof(uint64_t), "an item is fourteen words");
+#else
+_Static_assert(sizeof(struct sheet_item) == SHEET_ITEM_WORDS * sizeof(uint64_t), "an item is fourteen words");
+#endif
+
+/* How many records to lend for a file of n bytes, so that reading never answers 17 for them.
+ *
+ * Entries: n / 4. No command has fewer than 4 bytes (`D03*`). A D01 or D03, an SR opening and an AB opening take one entry each. The
+ * D01 that starts a contour takes two, and the command that ends a contour (`D02*`, `G37*`) none; while one contour is open its second
+ * entry is covered by the FS (13 bytes), without which no D01 is reached. The entries are also where the names of TF are looked up
+ * before the file is read (decision 255), eight words each; a TF has 6 bytes at least, so that n / 4 entries hold them all, and fewer
+ * cost time and nothing else.
+ * Apertures: n / 8. An AB opening has 8 bytes at least (`%ABD10*%`), an AD 9 (`%ADD10a*%`).
+ * Macros: n / 8. An AM has 8 bytes at least (`%AMa*0*%`).
+ * Numbers: n / 2 + n * n / 72, and here a host may well lend fewer, and be answered 17. Each parameter of a standard template has a
+ * separator and a digit: n / 2 numbers in all. An AD of a macro takes one number for each primitive and each of its parameters, each
+ * of which has 2 bytes at least in the macro's text, and has itself 9 bytes: a macro of x bytes and as many AD as then fit are at
+ * most (x / 2) * ((n - x) / 9) numbers, at most n * n / 72. Layers seen so far use fewer than n / 8. */
+static inline size_t sheet_entries_for(size_t n) { return n / 4; }
+static inline size_t sheet_apertures_for(size_t n) { return n / 8; }
+static inline size_t sheet_macros_for(size_t n) { return n / 8; }
+static inline size_t sheet_numbers_for(size_t n) { return n / 2 + n * n / 72; }
+
+/* The reading.
+ *   file, file_bytes              the file
+ *   head                          SHEET_HEAD_WORDS words
+ *   entries, entries_words        room for entries_words / SHEET_ENTRY_WORDS entries
+ *   apertures, apertures_words    room for apertures_words / SHEET_APERTURE_WORDS apertures
+ *   macros, macros_words          room for macros_words / SHEET_MACRO_WORDS macros
+ *   numbers, numbers_count        room for so many numbers
+ *   place, unit                   one word each
+ * Answers 0 (then unit is 1 mm or 2 inch, place 0, and head, entries and apertures are a sheet; words not used are 0) or 1 to 19 (then
+ * place says where, unit is 0, and every word lent is 0 to its full length). */
+uint64_t sheet_read(const uint8_t *file, size_t file_bytes, uint64_t *head, uint64_t *entries, size_t entries_words,
+                    uint64_t *apertures, size_t apertures_words, uint64_t *macros, size_t macros_words, int64_t *numbers,
+                    size_t numbers_count, uint64_t *place, uint64_t *unit);
+
+/* The number of items of a sheet. The store may be any words: it is looked at first, in one pass over its records, here and in the two
+ * calls below.
+ *   head                                                    SHEET_HEAD_WORDS words
+ *   entries, entries_words, apertures, apertures_words      as they were lent to sheet_read, or copies of them
+ *   total                                                   one word
+ * Answers 0 and the total, or 21 and 0. */
+uint64_t sheet_total(const uint64_t *head, const uint64_t *entries, size_t entries_words, const uint64_t *apertures,
+                     size_t apertures_words, uint64_t *total);
+
+/* Item k of a sheet, counted from 0.
+ *   item, item_words    SHEET_ITEM_WORDS words; more are set to 0
+ * Answers 0; or 100, 21, 20, in this order, and zeros. */
+uint64_t sheet_item(const uint64_t *head, const uint64_t *entries, size_t entries_words, const uint64_t *apertures,
+                    size_t apertures_words, uint64_t k, uint64_t *item, size_t item_words);
+
+/* Items k, k + 1, .. of a sheet: the cheap way to take many, since the store is looked at once.
+ *   items, items_words    room for items_words / SHEET_ITEM_WORDS items, slot after slot
+ * Answers 0 (slots past the total, and words behind the last whole slot, are 0); or 100, 21, 20, in this order, and zeros. */
+uint64_t sheet_items(const uint64_t *head, const uint64_t *entries, size_t entries_words, const uint64_t *apertures,
+                     size_t apertures_words, uint64_t k, uint64_t *items, size_t items_words);
+
+/* The value of an attribute at the command that begins at a place of the file: TA (taken at AD or AB opening) or TO.
+ *   file, file_bytes        the file, any bytes
+ *   place                   where a command begins, as the place of an item
+ *   name, name_bytes        the attribute's name, with its leading point if it has one
+ *   value_at, value_bytes   one word each: where the value lies in the file, and its length; 0 and 0 without one
+ * Answers 0; or 1 to 4, 18, 22 or 23, and zeros. */
+uint64_t sheet_aperture_attribute(const uint8_t *file, size_t file_bytes, size_t place, const uint8_t *name, size_t name_bytes,
+                                  uint64_t *value_at, uint64_t *value_bytes);
+uint64_t sheet_object_attribute(const uint8_t *file, size_t file_bytes, size_t place, const uint8_t *name, size_t name_bytes,
+                                uint64_t *value_at, uint64_t *value_bytes);
+
+#ifdef __cplusplus
+}
+#endif
+#endif

@@ -1,0 +1,419 @@
+/* The calls for a host, tried from C: widths, every number, zeros to the full length, damaged stores, items in any order, rooms. */
+#include <inttypes.h>
+#include <stddef.h>
+#include <stdio.h>
+#include <stdlib.h>
+#include <string.h>
+#include <sys/mman.h>
+#include <unistd.h>
+
+#include "../host/sheet.h"
+
+static unsigned faults;
+static unsigned tried;
+
+static void expect(int holds, const char *what, uint64_t of)
+{
+    tried++;
+    if (holds)
+        return;
+    faults++;
+    if (faults <= 20)
+        printf("host: %s (%" PRIu64 ")\n", what, of);
+}
+
+/* Words that end where the next page cannot be touched, so that a word past the end ends the program. */
+static uint64_t *fenced(size_t words)
+{
+    size_t page = (size_t)sysconf(_SC_PAGESIZE), bytes = words * sizeof(uint64_t);
+    size_t pages = (bytes + page - 1) / page + 1;
+    uint8_t *p = mmap(NULL, (pages + 1) * page, PROT_READ | PROT_WRITE, MAP_PRIVATE | MAP_ANONYMOUS, -1, 0);
+    if (p == MAP_FAILED || mprotect(p + pages * page, page, PROT_NONE) != 0) {
+        printf("host: no memory\n");
+        exit(1);
+    }
+    return (uint64_t *)(void *)(p + pages * page - bytes);
+}
+
+/* Rooms with guard words in front, since behind them is a fence. */
+enum { ENTRIES = 64, APERTURES = 32, MACROS = 16, NUMBERS = 200, GUARDS = 4, SLOTS = 3000 };
+static const uint64_t garbage = UINT64_C(0xa5a5a5a5a5a5a5a5), guard = UINT64_C(0x5aff00ff00ff005a);
+
+struct lent {
+    uint64_t *head, *entries, *apertures, *macros, *numbers;
+    size_t e, a, m, n;
+    uint64_t number, place, unit;
+};
+
+static uint64_t *guarded(size_t words)
+{
+    uint64_t *p = fenced(words + GUARDS);
+    for (size_t i = 0; i < GUARDS; i++)
+        p[i] = guard;
+    return p + GUARDS;
+}
+
+static int guards_hold(const uint64_t *p)
+{
+    for (size_t i = 1; i <= GUARDS; i++)
+        if (p[-(ptrdiff_t)i] != guard)
+            return 0;
+    return 1;
+}
+
+static struct lent rooms(size_t e, size_t a, size_t m, size_t n)
+{
+    struct lent l = {guarded(SHEET_HEAD_WORDS), guarded(e), guarded(a), guarded(m), guarded(n), e, a, m, n, 0, 0, 0};
+    return l;
+}
+
+static void soil(uint64_t *p, size_t words)
+{
+    for (size_t i = 0; i < words; i++)
+        p[i] = garbage;
+}
+
+/* A reading with so many words of each room. The rooms end at their fences, so the words lent are their last ones. */
+static void read_with(struct lent *l, const uint8_t *file, size_t bytes)
+{
+    soil(l->head, SHEET_HEAD_WORDS);
+    soil(l->entries, l->e);
+    soil(l->apertures, l->a);
+    soil(l->macros, l->m);
+    soil(l->numbers, l->n);
+    l->place = l->unit = garbage;
+    l->number = sheet_read(file, bytes, l->head, l->entries, l->e, l->apertures, l->a, l->macros, l->m, (int64_t *)(void *)l->numbers,
+                           l->n, &l->place, &l->unit);
+    expect(guards_hold(l->head) && guards_hold(l->entries) && guards_hold(l->apertures) && guards_hold(l->macros) &&
+               guards_hold(l->numbers),
+           "a guard word was written", l->number);
+}
+
+static int zeros(const uint64_t *p, size_t from, size_t to)
+{
+    for (size_t i = from; i < to; i++)
+        if (p[i] != 0)
+            return 0;
+    return 1;
+}
+
+static int all_zeros(const struct lent *l)
+{
+    return zeros(l->head, 0, SHEET_HEAD_WORDS) && zeros(l->entries, 0, l->e) && zeros(l->apertures, 0, l->a) &&
+           zeros(l->macros, 0, l->m) && zeros(l->numbers, 0, l->n);
+}
+
+static uint64_t items_at(const struct lent *l, uint64_t k, uint64_t *out, size_t words)
+{
+    return sheet_items(l->head, l->entries, l->e, l->apertures, l->a, k, out, words);
+}
+
+static uint64_t item_at(const struct lent *l, uint64_t k, uint64_t *out, size_t words)
+{
+    return sheet_item(l->head, l->entries, l->e, l->apertures, l->a, k, out, words);
+}
+
+static uint64_t total_of(const struct lent *l, uint64_t *total)
+{
+    return sheet_total(l->head, l->entries, l->e, l->apertures, l->a, total);
+}
+
+/* Every number of a reading: the file, the number, the place. */
+#define FS "%FSLAX36Y36*%"
+#define MO "%MOMM*%"
+#define PEN FS MO "%ADD10C,1*%D10*G01*"
+struct refusal {
+    const char *file;
+    uint64_t number, place;
+};
+static const struct refusal refusals[] = {
+    {"G04 \x80*M02*", 2, 4},
+    {"", 3, 0},
+    {FS MO, 3, 20},
+    {"G01", 3, 3},
+    {"D9*", 4, 0},
+    {FS MO "G74*M02*", 4, 20},
+    {FS MO "D2147483648*M02*", 5, 20},
+    {FS FS MO "M02*", 6, 13},
+    {"G01*M02*", 6, 4},
+    {FS MO "G37*M02*", 7, 20},
+    {FS MO "D10*M02*", 8, 20},
+    {FS MO "%AMa*1,1,1/0,0,0*%%ADD10a*%M02*", 9, 40},
+    {FS MO "%ADD10R,0X1*%M02*", 10, 20},
+    {FS MO "X0Y0D03*M02*", 11, 20},
+    {PEN "G75*G02*X0Y0D02*X2Y0I0J0D01*M02*", 12, 55},
+    {FS MO "G01*G36*X0Y0D02*X1Y0D01*G37*M02*", 13, 44},
+    {FS MO "%ABD10*%%AB*%D10*%LS2*%X0Y0D03*M02*", 14, 44},
+    {FS MO "%ABD10*%%ABD11*%%ABD12*%%ABD13*%%ABD14*%%ABD15*%%ABD16*%%ABD17*%%ABD18*%M02*", 15, 84},
+    {FS MO "M02*\nG04*", 18, 25},
+    {FS MO "%TFa*%%TFa*%M02*", 19, 26},
+};
+
+static void every_refusal(void)
+{
+    struct lent l = rooms(ENTRIES * 15 + 7, APERTURES * 8 + 3, MACROS * 8 + 5, NUMBERS);
+    for (size_t i = 0; i < sizeof refusals / sizeof refusals[0]; i++) {
+        const struct refusal *r = &refusals[i];
+        read_with(&l, (const uint8_t *)r->file, strlen(r->file));
+        expect(l.number == r->number, "another number is due", r->number);
+        expect(l.place == r->place, "another place is due", r->number);
+        expect(l.unit == SHEET_NO_UNIT && all_zeros(&l), "a refusal leaves something", r->number);
+    }
+    uint8_t *large = malloc(SHEET_FILE_LIMIT + 1);
+    if (!large)
+        exit(1);
+    memset(large, '\n', SHEET_FILE_LIMIT + 1);
+    read_with(&l, large, SHEET_FILE_LIMIT + 1);
+    expect(l.number == SHEET_TOO_LONG && l.place == 0 && l.unit == 0 && all_zeros(&l), "a byte too many is 1 at 0", l.number);
+    read_with(&l, large, SHEET_FILE_LIMIT);
+    expect(l.number == SHEET_ENDS && l.place == SHEET_FILE_LIMIT && all_zeros(&l), "the greatest length is read", l.number);
+    free(large);
+}
+
+/* Eight blocks, one of ten flashes in another ten times and so on, are past 10^12 items with the last flash. */
+static void too_many_items(void)
+{
+    struct lent l = rooms(200 * 15, 40 * 8, 0, 10);
+    char file[8192] = FS MO "%ADD10C,1*%";
+    char last[32];
+    for (int b = 11; b <= 18; b++) {
+        sprintf(file + strlen(file), "%%ABD%d*%%D%d*", b, b - 1);
+        for (int i = 0; i < 10; i++)
+            strcat(file, "X0Y0D03*");
+        strcat(file, "%AB*%");
+    }
+    strcat(file, "%SRX100Y100I0J0*%D18*X0Y0D03*");
+    size_t place = strlen(file);
+    sprintf(last, "D10*X0Y0D03*%%SR*%%M02*");
+    strcat(file, last);
+    read_with(&l, (const uint8_t *)file, strlen(file));
+    expect(l.number == SHEET_ITEMS && l.place == place + 4 && all_zeros(&l), "10^12 items and one more are 16", l.place);
+}
+
+/* A layer with everything that a store can hold: blocks in blocks, flipped, turned and clear; a repeat; a contour; a macro; arcs. */
+static const char layer[] =
+    FS MO "%TF.A,1*%%TAa,v*%%AMm*1,1,$1,0,0*21,1,1,2,0,0,45*%%ADD10C,0.5*%%ADD20m,2*%%TD*%%ADD21R,1X2*%\n"
+    "G01*G75*%TOo,w*%%ABD11*%D10*X0Y0D02*X1000000Y0D01*X0Y2000000D03*G02*X5Y5I7J0D01*G01*%AB*%\n"
+    "%ABD12*%D11*X10Y20D03*%LMX*%%LPC*%X30Y40D03*%LMN*%%LPD*%%LR90*%X50Y60D03*%LR0*%\n"
+    "G36*X0Y0D02*X9Y0D01*X9Y9D01*X0Y0D01*G37*%AB*%\n"
+    "D12*%LMXY*%X100Y200D03*%LMN*%%SRX3Y2I3.0J0.5*%D20*%LR30*%X1Y1D03*%LR0*%D12*%LPC*%X7Y8D03*%LPD*%\n"
+    "G36*X0Y0D02*G03*X0Y0I4J0D01*G37*G01*%SR*%\nD10*X1Y2D02*X3Y4D01*M02*\n";
+
+static struct lent read_layer(void)
+{
+    struct lent l = rooms(ENTRIES * 15, APERTURES * 8, MACROS * 8, NUMBERS);
+    read_with(&l, (const uint8_t *)layer, strlen(layer));
+    expect(l.number == SHEET_ACCEPTED && l.place == 0 && l.unit == SHEET_MM, "the layer is accepted", l.number * 1000 + l.place);
+    expect(zeros(l.entries, l.head[2] * 15, l.e) && zeros(l.apertures, l.head[3] * 8, l.a) && zeros(l.macros, l.head[4] * 8, l.m) &&
+               zeros(l.numbers, l.head[5], l.n),
+           "unused room is zero", 0);
+    return l;
+}
+
+/* Rooms exactly right, and each one too small: 17, whole records counted. */
+static void exact_rooms(const struct lent *known)
+{
+    const uint64_t *h = known->head;
+    size_t need[4] = {h[2] * 15, h[3] * 8, h[4] * 8, h[5]};
+    struct lent l = rooms(need[0], need[1], need[2], need[3]);
+    read_with(&l, (const uint8_t *)layer, strlen(layer));
+    expect(l.number == 0 && memcmp(l.head, h, 64) == 0, "the exact room is enough", l.number);
+    expect(memcmp(l.entries, known->entries, need[0] * 8) == 0, "in the exact room the entries are the same", 0);
+    for (int i = 0; i < 4; i++) {
+        size_t less[4] = {need[0], need[1], need[2], need[3]};
+        less[i]--;
+        l = rooms(less[0], less[1], less[2], less[3]);
+        read_with(&l, (const uint8_t *)layer, strlen(layer));
+        expect(l.number == SHEET_ROOM && all_zeros(&l), "a room one too small is 17", (uint64_t)i);
+    }
+}
+
+/* The items of a sheet one by one in a random order, and in runs, against one run of all. */
+static void any_order(const struct lent *l)
+{
+    uint64_t total = garbage, one[SHEET_ITEM_WORDS + 2], state = 88172645463325252u;
+    uint64_t *all = guarded(SLOTS * SHEET_ITEM_WORDS), *some = guarded(100 * SHEET_ITEM_WORDS);
+    expect(total_of(l, &total) == 0 && total == l->head[7] && total > 40 && total < SLOTS, "the total is the head's", total);
+    expect(items_at(l, 0, all, total * SHEET_ITEM_WORDS) == 0, "all items are answered", 0);
+    for (int i = 0; i < 2000; i++) {
+        state ^= state << 13, state ^= state >> 7, state ^= state << 17;
+        uint64_t k = state % total, n = state / total % 90 + 1;
+        soil(one, SHEET_ITEM_WORDS + 2);
+        expect(item_at(l, k, one, SHEET_ITEM_WORDS + 2) == 0 && zeros(one, 14, 16), "an item, and zeros behind it", k);
+        expect(memcmp(one, all + k * 14, 112) == 0, "an item is that of the run", k);
+        uint64_t here = n < total - k ? n : total - k;
+        soil(some, 100 * SHEET_ITEM_WORDS);
+        expect(items_at(l, k, some, n * 14 + 5) == 0 && memcmp(some, all + k * 14, here * 112) == 0, "a run is that of the whole", k);
+        expect(zeros(some, here * 14, n * 14 + 5) && some[n * 14 + 5] == garbage, "past the total a run is zeros", k);
+    }
+    soil(one, 16);
+    expect(item_at(l, total, one, 14) == SHEET_PAST && zeros(one, 0, 14) && one[14] == garbage, "an item past the total", total);
+    expect(items_at(l, UINT64_MAX, some, 28) == SHEET_PAST && zeros(some, 0, 28), "a run past the total", total);
+    soil(one, 16);
+    expect(item_at(l, 0, one, 13) == SHEET_SHORT && zeros(one, 0, 13) && one[13] == garbage, "words too short for an item", 13);
+    expect(item_at(l, 0, one, 0) == SHEET_SHORT && one[13] == garbage, "no words for an item", 0);
+    soil(one, 16);
+    expect(items_at(l, 0, one, 13) == SHEET_SHORT && zeros(one, 0, 13) && one[13] == garbage, "words too short for a run", 13);
+}
+
+/* The items that a store's own words put out, as docs/SHEET.md has it: each container entry by entry, copies written out. */
+struct put {
+    struct sheet_item items[SLOTS];
+    size_t count;
+};
+struct pose {
+    int flip, clear;
+    uint64_t angle;
+    int64_t x, y;
+};
+
+static void turn(int64_t *x, int64_t *y, int used, struct pose p)
+{
+    int64_t a = p.flip ? -*x : *x, b = *y, t;
+    if (!used)
+        return;
+    for (uint64_t q = 0; q < p.angle / 90000000; q++)
+        t = a, a = -b, b = t;
+    *x = a + p.x, *y = b + p.y;
+}
+
+static struct sheet_item placed(struct sheet_item t, struct pose p)
+{
+    int arc = t.kind == 2 || t.kind == 3 || t.kind == 7 || t.kind == 8, region = t.kind >= 5;
+    turn(&t.start_x, &t.start_y, t.kind != 4, p);
+    turn(&t.end_x, &t.end_y, t.kind != 5, p);
+    turn(&t.centre_x, &t.centre_y, arc, p);
+    if (p.flip && arc)
+        t.kind = t.kind == 2 ? 3 : t.kind == 3 ? 2 : t.kind == 7 ? 8 : 7;
+    t.clear ^= (uint64_t)p.clear;
+    if (!region) {
+        t.angle = (p.flip ? p.angle + 360000000 - t.angle : p.angle + t.angle) % 360000000;
+        t.flip ^= (uint64_t)p.flip;
+    }
+    return t;
+}
+
+static void put_out(struct put *out, const struct lent *l, uint64_t first, uint64_t count)
+{
+    for (uint64_t i = first; i < first + count; i++) {
+        const uint64_t *w = l->entries + i * 15;
+        size_t from = out->count;
+        if (w[0] <= 8 && out->count < SLOTS) {
+            struct sheet_item t = {w[0], w[2], w[3], w[4], w[5], w[6], (int64_t)w[7], (int64_t)w[8], (int64_t)w[9], (int64_t)w[10],
+                                   (int64_t)w[11], (int64_t)w[12], w[13], w[14]};
+            out->items[out->count++] = t;
+        } else if (w[0] == 9) {
+            const uint64_t *a = l->apertures + w[2] * 8;
+            struct pose p = {(int)w[4], (int)w[3], w[5], (int64_t)w[9], (int64_t)w[10]};
+            put_out(out, l, a[2], a[3]);
+            for (size_t j = from; j < out->count; j++)
+                out->items[j] = placed(out->items[j], p);
+        } else if (w[0] == 10) {
+            for (uint64_t x = 0; x < w[7]; x++)
+                for (uint64_t y = 0; y < w[8] && out->count < SLOTS; y++) {
+                    struct pose p = {0, 0, 0, (int64_t)(x * w[11]), (int64_t)(y * w[12])};
+                    size_t body = out->count;
+                    put_out(out, l, w[2], w[6]);
+                    for (size_t j = body; j < out->count; j++)
+                        out->items[j] = placed(out->items[j], p);
+                }
+        }
+    }
+}
+
+/* A store as it stands: 21 and zeros in all calls, or its own expansion in all. */
+static int answered(const struct lent *l, uint64_t *run, struct put *out)
+{
+    uint64_t total = garbage, number = total_of(l, &total), one[14];
+    size_t words = SLOTS * SHEET_ITEM_WORDS;
+    soil(run, words);
+    soil(one, 14);
+    if (number == SHEET_NOT_SHEET) {
+        expect(total == 0, "a total of no sheet is 0", total);
+        expect(items_at(l, 0, run, words) == SHEET_NOT_SHEET && zeros(run, 0, words), "a run of no sheet is zeros", 0);
+        expect(item_at(l, 0, one, 14) == SHEET_NOT_SHEET && zeros(one, 0, 14), "an item of no sheet is zeros", 0);
+        return 0;
+    }
+    expect(number == 0, "a store is a sheet or is 21", number);
+    expect(items_at(l, 0, run, words) == (total ? 0 : SHEET_PAST), "a sheet has its items", total);
+    out->count = 0;
+    put_out(out, l, l->head[2] - l->head[6], l->head[6]);
+    expect(out->count == (total < SLOTS ? total : SLOTS), "the total is that of the expansion", total);
+    expect(memcmp(run, out->items, out->count * 112) == 0, "the items are those of the expansion", total);
+    expect(item_at(l, total, one, 14) == SHEET_PAST && zeros(one, 0, 14), "past the total", total);
+    if (total != 0)
+        expect(item_at(l, total - 1, one, 14) == 0 && one[0] >= 1 && one[0] <= 8, "the last item", total);
+    return 1;
+}
+
+static void damaged(struct lent *l)
+{
+    static struct put out;
+    uint64_t *run = guarded(SLOTS * SHEET_ITEM_WORDS);
+    uint64_t *stores[3] = {l->head, l->entries, l->apertures};
+    size_t words[3] = {8, l->head[2] * 15, l->head[3] * 8};
+    unsigned sheets = 0, none = 0;
+    expect(answered(l, run, &out), "the layer's store is a sheet", 0);
+    for (int s = 0; s < 3; s++)
+        for (size_t i = 0; i < words[s]; i++) {
+            uint64_t was = stores[s][i];
+            uint64_t now[] = {~was, was ^ 1, was + 1, was - 1, was ^ UINT64_C(0x8000000000000000), 0, 9, 10, UINT64_C(2000000000001)};
+            for (size_t j = 0; j < sizeof now / sizeof now[0]; j++) {
+                stores[s][i] = now[j];
+                if (answered(l, run, &out))
+                    sheets++;
+                else
+                    none++;
+            }
+            stores[s][i] = was;
+        }
+    struct lent short_store = *l;
+    short_store.e = l->head[2] * 15 - 1;
+    expect(!answered(&short_store, run, &out), "entries past the room are no sheet", 0);
+    printf("host: %u damaged stores are sheets of their own, %u are none\n", sheets, none);
+}
+
+static void ask(int of_aperture, const char *file, size_t place, const char *name, uint64_t number, uint64_t at, uint64_t bytes)
+{
+    uint64_t a = garbage, b = garbage, n;
+    const uint8_t *f = (const uint8_t *)file, *t = (const uint8_t *)name;
+    if (of_aperture)
+        n = sheet_aperture_attribute(f, strlen(file), place, t, strlen(name), &a, &b);
+    else
+        n = sheet_object_attribute(f, strlen(file), place, t, strlen(name), &a, &b);
+    expect(n == number && a == at && b == bytes, "an attribute's answer", number);
+}
+
+static void attributes(void)
+{
+    size_t ad = (size_t)(strstr(layer, "%ADD10") - layer), ta = (size_t)(strstr(layer, "a,v*") - layer) + 2;
+    size_t other = (size_t)(strstr(layer, "%ADD21") - layer), to = (size_t)(strstr(layer, "o,w*") - layer) + 2;
+    size_t d01 = (size_t)(strstr(layer, "X1000000Y0D01*") - layer);
+    ask(1, layer, ad, "a", 0, ta, 1);
+    ask(1, layer, other, "a", SHEET_NOT_HELD, 0, 0);
+    ask(1, layer, ad, "b", SHEET_NOT_HELD, 0, 0);
+    ask(0, layer, d01, "o", 0, to, 1);
+    ask(0, layer, d01 + 1, "o", SHEET_NO_COMMAND, 0, 0);
+    ask(0, layer, SIZE_MAX, "o", SHEET_NO_COMMAND, 0, 0);
+    ask(0, "G04 \x80*M02*", 0, "o", SHEET_BYTE, 0, 0);
+    ask(0, "", 0, "", SHEET_ENDS, 0, 0);
+    ask(0, "D9*M02*", 0, "o", SHEET_FORM, 0, 0);
+    ask(0, "M02*x", 0, "o", SHEET_AFTER_END, 0, 0);
+}
+
+int main(void)
+{
+    expect(sheet_entry_words() == SHEET_ENTRY_WORDS, "the width of an entry", sheet_entry_words());
+    expect(sheet_aperture_words() == SHEET_APERTURE_WORDS, "the width of an aperture", sheet_aperture_words());
+    expect(sheet_macro_words() == SHEET_MACRO_WORDS, "the width of a macro", sheet_macro_words());
+    expect(sheet_item_words() == SHEET_ITEM_WORDS, "the width of an item", sheet_item_words());
+    every_refusal();
+    too_many_items();
+    struct lent l = read_layer();
+    exact_rooms(&l);
+    any_order(&l);
+    damaged(&l);
+    attributes();
+    printf("host: %u tried, %u faults\n", tried, faults);
+    return faults != 0;
+}
