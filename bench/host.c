@@ -8,10 +8,11 @@
 
 enum { ROUNDS = 5, LIMIT = 16000000, RUN = 1024 };
 
+/* Processor time, so that other work on the machine counts for less. */
 static double now(void)
 {
     struct timespec t;
-    clock_gettime(CLOCK_MONOTONIC, &t);
+    clock_gettime(CLOCK_PROCESS_CPUTIME_ID, &t);
     return (double)t.tv_sec + 1e-9 * (double)t.tv_nsec;
 }
 
@@ -228,7 +229,7 @@ static void readings(const char *name, struct text t)
     give_back(&wide);
     double exact = reading(t, &s);
     double naive = naive_reading(t, &s), class = classifying(t);
-    printf("| %s | %.1f | %" PRIu64 " | %.0f | %.0f | %.0f | %.2f | %.2f | %.0f | %.1f |\n", name, mb, s.head[2], mb / exact, mb / with_room,
+    printf("| %s | %.3g | %" PRIu64 " | %.3g | %.3g | %.3g | %.2g | %.2g | %.3g | %.2g |\n", name, mb, s.head[2], mb / exact, mb / with_room,
            mb / naive, exact / naive, with_room / naive, mb / class, exact / class);
     give_back(&s);
     fflush(stdout);
@@ -246,7 +247,7 @@ static void items(const char *name, struct text t, int singles)
         uint64_t *out = lend(sizes[i] * SHEET_ITEM_WORDS);
         run[i] = 1e9;
         for (int j = 0; j < ROUNDS; j++) {
-            uint64_t last = total < 400000 ? total : 400000;
+            uint64_t last = total < 40 * sizes[i] ? total : 40 * sizes[i];
             double from = now();
             for (uint64_t k = 0; k < last; k += sizes[i])
                 sink += sheet_items(s.head, s.entries, s.e, s.apertures, s.a, k, out, sizes[i] * SHEET_ITEM_WORDS) + out[13];
