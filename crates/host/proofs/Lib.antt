@@ -1,2 +1,3 @@
-pub mod Calls
 pub mod Apart
+pub mod Calls
+pub mod One

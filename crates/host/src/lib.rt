@@ -10,8 +10,8 @@ ghost use Rattle.sayings.specs.declared.Kind.the-variants.{Aperture, Object};
 ghost use Rattle.reading.specs.Reading.{reading};
 ghost use Rattle.progress.specs.Lent.{lentOf, roomOf};
 ghost use Rattle.attribute.specs.Attribute.{attributeOf};
-ghost use Rattle.descend.specs.Answers.{totalOf, totalNumber, totalValue};
-ghost use Rattle.descend.specs.Slots.{fetchOf, fetchNumber, fetched};
+ghost use Rattle.descend.specs.Answers.{totalOf, totalNumber, totalValue, answerOf, answerItem};
+ghost use Rattle.descend.specs.Slots.{itemWords, fetchOf, fetchNumber, fetched};
 ghost use Rattle.host.specs.Calls.{runNumber, itemIn};
 ghost use Rattle.host.specs.Reads.{ReadsInto};
 ghost use Rattle.host.specs.Widths.{ItemsAre, EntriesAre, AperturesAre, MacrosAre};
@@ -112,7 +112,7 @@ pub extern "C" fn sheet_item(
     item: &mut [u64],
 ) -> u64
     ensures { λ r. ⌜ (r ≡ runNumber (fetchOf (now (head .entry)) (now (entries .entry)) (now (apertures .entry)) k) (length (now (item .entry))))
-        × (now (item .exit) ≡ itemIn (fetched (now (head .entry)) (now (entries .entry)) (now (apertures .entry)) k 14) (length (now (item .entry)))) ⌝ }
+        × (now (item .exit) ≡ itemIn (itemWords (answerItem (answerOf (now (head .entry)) (now (entries .entry)) (now (apertures .entry)) k))) (length (now (item .entry)))) ⌝ }
 {
     base::clear(item);
     if item.len() < 14 {

@@ -2,6 +2,7 @@
 use mathlib.Core.Path.{_∙_, sym, ap}
 use borrow.Author.Tests.{lt-ltb, le-ltb}
 use Rattle.descend.specs.Slots.{fetchNumber, fetched}
+use Rattle.host.proofs.One.{one-item}
 use Rattle.host.proofs.Calls.{front, run-short, run-long, item-short, item-long}
 use borrow.Author.Needs.{needs}
 use Rattle.host.proofs.sheet_item.Statement.{statement}
@@ -37,7 +38,7 @@ returns-2 : tie.Need-returns-2
 returns-2 c =
     let h = rw (c .before .before .before .before .before .before .before .before .clear .kept .0) at (c .before .before .before .before .before .if1 .left) in (
       run-long _ _ _ (le-ltb _ _ h) (c .fetch-number .ensures ∙ ap fetchNumber (c .before .before .before .sheet-run .ensures .0)),
-      item-long _ _ _ _ h (c .before .before .before .sheet-run .ensures .1 ∙ ap (fetched _ _ _ _) (sym (front (c .before .before .before .before .before .before .before .before .clear .last .0) (c .before .before .before .before .before .if1 .left)))) (c .before .before .before .before .before .before .before .before .clear .ensures),
+      item-long _ _ _ _ h (c .before .before .before .sheet-run .ensures .1 ∙ ap (fetched _ _ _ _) (sym (front (c .before .before .before .before .before .before .before .before .clear .last .0) (c .before .before .before .before .before .if1 .left))) ∙ one-item _ _ _ _) (c .before .before .before .before .before .before .before .before .clear .ensures),
     )
 
 pub sheet-item-spec : {M : Type 1} → statement M
