@@ -53,13 +53,13 @@ static void operation(struct text *t, const char *code)
     add(t, line, (size_t)sprintf(line, "X%dY%dD%s*\n", chance(200000000), chance(200000000), code));
 }
 
-static struct text flat(void)
+static struct text flat(size_t bytes)
 {
     struct text t = {0};
     say(&t, start);
     say(&t, "D10*\n");
     operation(&t, "02");
-    while (t.count < LIMIT)
+    while (t.count < bytes)
         operation(&t, chance(10) ? "01" : "02");
     say(&t, "M02*\n");
     return t;
@@ -112,9 +112,9 @@ static struct text selects(int count, int apertures)
     char line[64];
     say(&t, "%FSLAX46Y46*%\n%MOMM*%\n");
     for (int i = 0; i < apertures; i++)
-        add(&t, line, (size_t)sprintf(line, "%%ADD%dC,0.1*%%\n", 10 + i));
+        add(&t, line, (size_t)sprintf(line, "%%ADD%dC,0.1*%%\n", 10000 + i));
     for (int i = 0; i < count; i++)
-        add(&t, line, (size_t)sprintf(line, "D%d*\n", 10 + chance(apertures)));
+        add(&t, line, (size_t)sprintf(line, "D%d*\n", 10000 + chance(apertures)));
     say(&t, "M02*\n");
     return t;
 }
@@ -125,7 +125,7 @@ static struct text names(int count)
     char line[64];
     say(&t, "%FSLAX46Y46*%\n%MOMM*%\n");
     for (int i = 0; i < count; i++)
-        add(&t, line, (size_t)sprintf(line, "%%TFname%d,v*%%\n", i));
+        add(&t, line, (size_t)sprintf(line, "%%TFname%06d,v*%%\n", i));
     say(&t, "M02*\n");
     return t;
 }
@@ -270,7 +270,7 @@ static void items(const char *name, struct text t, int singles)
     fflush(stdout);
 }
 
-/* A file and one with everything doubled: what the doubling costs. */
+/* A file and one of twice its bytes, every number of the same width in both: what the doubling costs. */
 static void doubling(const char *name, struct text once, struct text twice)
 {
     struct store s = header_room(once.count), d = header_room(twice.count);
@@ -283,7 +283,7 @@ static void doubling(const char *name, struct text once, struct text twice)
 
 int main(int argc, char **argv)
 {
-    struct text file = flat();
+    struct text file = flat(LIMIT);
     printf("Reading, MB/s; \"lean\" with the room that the file uses, \"safe\" with the room that the header gives for any file:\n\n"
            "| file | MB | entries | lean | safe | naive C | lean / naive, time | safe / naive, time | classify | lean / classify, time |\n"
            "|---|---|---|---|---|---|---|---|---|---|\n");
@@ -302,7 +302,9 @@ int main(int argc, char **argv)
     items("flat", file, 50);
     printf("\nWhat doubling costs, ms and ratio:\n\n"
            "| file | once | doubled | ratio | naive C, once | doubled | ratio |\n|---|---|---|---|---|---|---|\n");
-    doubling("100,000 selects over 5,000 apertures", selects(100000, 5000), selects(200000, 10000));
+    doubling("8 MB of draws", flat(LIMIT / 2), flat(LIMIT));
+    doubling("100,000 selects over 5,000 apertures, then 200,000 over the same", selects(100000, 5000), selects(200000, 5000));
+    doubling("100,000 selects over 5,000 apertures, then 200,000 over 10,000", selects(100000, 5000), selects(200000, 10000));
     doubling("100,000 TF", names(100000), names(200000));
     printf("\nMemory: %d bytes an entry, %d an aperture, %d a macro, 8 a number; %zu an item of a run.\n", SHEET_ENTRY_WORDS * 8,
            SHEET_APERTURE_WORDS * 8, SHEET_MACRO_WORDS * 8, sizeof(struct sheet_item));
