@@ -171,7 +171,8 @@ uint64_t sheet_item(const uint64_t *head, const uint64_t *entries, size_t entrie
 uint64_t sheet_items(const uint64_t *head, const uint64_t *entries, size_t entries_words, const uint64_t *apertures,
                      size_t apertures_words, uint64_t k, uint64_t *items, size_t items_words);
 
-/* The value of an attribute at the command that begins at a place of the file: TA (taken at AD or AB opening) or TO.
+/* The value of an attribute at the command that begins at a place of the file: TA (taken at AD, at an AB opening and at a contour's
+ * first D01) or TO.
  *   file, file_bytes        the file, any bytes
  *   place                   where a command begins, as the place of an item
  *   name, name_bytes        the attribute's name, with its leading point if it has one

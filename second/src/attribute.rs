@@ -1,12 +1,12 @@
 //! Attributes: document 01, "Attributes" in "State".
 
-use crate::command::{self, Attribute, Command};
+use crate::command::{self, Action, Attribute, Command};
 use crate::scan::{Raw, Refusal, Scanner};
 
 /// "The two kinds are held apart (house)."
 #[derive(Clone, Copy, PartialEq, Eq, Debug)]
 pub enum Held {
-    /// TA, taken at AD or AB opening.
+    /// TA, taken at AD or AB opening and at a contour's first D01.
     Aperture,
     /// TO, at any command.
     Object,
@@ -19,6 +19,14 @@ pub struct Answer {
     pub length: usize,
 }
 
+/// An open region: what was held at its G36 and not deleted since, and whether its contour has a
+/// D01 already (02, request [3]; decisions 317 to 319).
+#[derive(Clone, Copy)]
+struct Region {
+    carried: Option<Answer>,
+    begun: bool,
+}
+
 /// The attribute of that name held at the command that begins at the place, or a number: "1 to 4
 /// and 18 as reading does, then 22, then 23". The other rules of the reading are passed over, and
 /// the first M02 ends the walk (decision 108).
@@ -26,14 +34,30 @@ pub fn attribute(file: &[u8], held: Held, place: usize, name: &[u8]) -> Result<A
     let number_of = |refusal: Refusal| refusal.number;
     let mut scanner = Scanner::new(file).map_err(number_of)?;
     let mut current = None;
+    let mut region: Option<Region> = None;
     let mut asked = None;
     loop {
         let raw = scanner.next().map_err(number_of)?;
         let command = command::parse(&raw).ok_or(4u32)?;
         if raw.place == place {
             // Commands strictly before it count, not itself (decision 110).
-            asked = Some(current.filter(|_| can_hold(held, &command)));
+            asked = Some(match region {
+                Some(r) if held == Held::Aperture && !r.begun && acts(&command, Action::Draw) => {
+                    r.carried
+                }
+                _ => current.filter(|_| can_hold(held, &command)),
+            });
         }
+        region = match (&command, region) {
+            (Command::RegionBegin, _) => Some(Region { carried: current, begun: false }),
+            (Command::RegionEnd, _) => None,
+            (Command::DeleteAttribute(deleted), Some(r)) if deleted.is_none_or(|d| d == name) => {
+                Some(Region { carried: None, ..r })
+            }
+            (c, Some(r)) if acts(c, Action::Draw) => Some(Region { begun: true, ..r }),
+            (c, Some(r)) if acts(c, Action::Move) => Some(Region { begun: false, ..r }),
+            (_, kept) => kept,
+        };
         match (&command, held) {
             (Command::ApertureAttribute(attribute), Held::Aperture)
             | (Command::ObjectAttribute(attribute), Held::Object)
@@ -52,6 +76,10 @@ pub fn attribute(file: &[u8], held: Held, place: usize, name: &[u8]) -> Result<A
         }
     }
     asked.ok_or(22u32)?.ok_or(23)
+}
+
+fn acts(command: &Command, action: Action) -> bool {
+    matches!(command, Command::Operation(operation) if operation.action == action)
 }
 
 /// 23 "also for TA at another command" (decision 111).

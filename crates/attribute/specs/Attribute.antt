@@ -1,14 +1,18 @@
 -- The attribute call (01, State: "the value of a TO name at a command is that of the last TO of the name before it with no TD of that name,
--- nor bare TD, between. TA likewise, taken at AD or AB opening"; decisions 106 to 112).
+-- nor bare TD, between. TA likewise, taken at AD or AB opening"; 02 [3]: "at a contour's first D01, an aperture attribute is the last TA of
+-- its name before G36, not deleted since, and 23 only if there is none"; decisions 106 to 112 and 317 to 319).
 use Prim.Native.Nat.{ℕ}
 use mathlib.Core.Bool.{true, false}
 use mathlib.Core.List.{List, [], _∷_}
 use lib.Dec.{eqb}
-use Rattle.command.specs.Choose.{pick}
+use Rattle.text.specs.Text.{_is_}
+use Rattle.command.specs.Choose.{pick, choose}
 use Rattle.commands.specs.Commands.{Sequence, commandsOf}
 use Rattle.commands.specs.declared.Placed.{Placed}
+use Rattle.sayings.specs.Regions.{regionAfter, beginsContour}
 use Rattle.sayings.specs.Sayings.{textOf, sayingOf, takenAt}
 use Rattle.attribute.specs.declared.Answer.{Answer}
+use Rattle.attribute.specs.declared.Heard.{Heard}
 use Rattle.sayings.specs.declared.Kind.{Kind}
 use Rattle.sayings.specs.declared.Saying.{Saying}
 use Rattle.sayings.specs.declared.Saying.the-variants.{Silent, Deletes, Sets}
@@ -33,10 +37,30 @@ later s Silent = s
 later s Deletes = Deletes
 later s (Sets place length) = Sets place length
 
--- the last command that says something of the name decides
-unfoldable pub lastSaying : List ℕ → Kind → List ℕ → List Placed → Saying
-lastSaying file kind name [] = Silent
-lastSaying file kind name (c ∷ cs) = later (sayingOf file kind name c) (lastSaying file kind name cs)
+-- a TD deletes what is kept, a TA sets nothing anew
+unfoldable pub kept : Saying → Saying → Saying
+kept s Silent = s
+kept s Deletes = Deletes
+kept s (Sets place length) = s
+
+-- no command yet: nothing said, no region open
+abbrev pub nothing : Heard
+nothing = record { said = Silent; carried = Silent; region = record { inside = false; drawn = false } }
+
+-- a command more. Said: the last command that says something of the name decides. Carried by a region: what is said where G36 stands, not
+-- deleted since
+unfoldable pub heardWith : List ℕ → Kind → List ℕ → Heard → Placed → Heard
+heardWith file kind name h c =
+    record {
+      said = later (h .said) (sayingOf file kind name c);
+      carried = pick (textOf file c is "G36") (h .said) (kept (h .carried) (sayingOf file kind name c));
+      region = regionAfter (h .region) (textOf file c);
+    }
+
+-- these commands more
+unfoldable pub heardIn : List ℕ → Kind → List ℕ → Heard → List Placed → Heard
+heardIn file kind name h [] = h
+heardIn file kind name h (c ∷ cs) = heardIn file kind name (heardWith file kind name h c) cs
 
 -- the name is held, with its value, or is not
 unfoldable pub held : Saying → Answer
@@ -44,21 +68,26 @@ held Silent = refused 23
 held Deletes = refused 23
 held (Sets place length) = record { number = 0; place = place; length = length }
 
--- at this command, s being what those before it say
-unfoldable pub answerAt : List ℕ → Kind → Placed → Saying → Answer
-answerAt file kind c s = pick (takenAt kind (textOf file c)) (held s) (refused 23)
+-- at this command, h being what is heard before it
+unfoldable pub answerAt : List ℕ → Kind → Placed → Heard → Answer
+answerAt file kind c h =
+    choose
+    ((takenAt kind (textOf file c), held (h .said))
+    ∷ (beginsContour (h .region) (textOf file c), held (h .carried))
+    ∷ [])
+    (refused 23)
 
 -- at the first of these commands, which begins where it is asked
-unfoldable pub answerFor : List ℕ → Kind → List Placed → Saying → Answer
-answerFor file kind [] s = refused 22
-answerFor file kind (c ∷ cs) s = answerAt file kind c s
+unfoldable pub answerFor : List ℕ → Kind → List Placed → Heard → Answer
+answerFor file kind [] h = refused 22
+answerFor file kind (c ∷ cs) h = answerAt file kind c h
 
 -- 1 to 4 and 18, then 22, then 23
 unfoldable pub answerIn : List ℕ → Kind → ℕ → List ℕ → Sequence → Answer
 answerIn file kind place name l =
     let cs : List Placed = l .commands in
     pick (eqb (l .fault .number) 0)
-    (answerFor file kind (fromOn place cs) (lastSaying file kind name (before place cs)))
+    (answerFor file kind (fromOn place cs) (heardIn file kind name nothing (before place cs)))
     (refused (l .fault .number))
 
 unfoldable pub attributeOf : List ℕ → Kind → ℕ → List ℕ → Answer

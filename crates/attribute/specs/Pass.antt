@@ -8,13 +8,13 @@ use Rattle.attribute.specs.Attribute.{refused, answerAt}
 use Rattle.attribute.specs.declared.Answer.{Answer}
 use Rattle.attribute.specs.declared.Found.{Found}
 use Rattle.attribute.specs.declared.Found.the-variants.{NotYet, Is}
+use Rattle.attribute.specs.declared.Heard.{Heard}
 use Rattle.sayings.specs.declared.Kind.{Kind}
-use Rattle.sayings.specs.declared.Saying.{Saying}
 
--- a command more, s being what those before it say
-unfoldable pub met : List ℕ → Kind → ℕ → Saying → Placed → Found → Found
-met file kind place s c (Is a) = Is a
-met file kind place s c NotYet = pick (eqb (c .place) place) (Is (answerAt file kind c s)) NotYet
+-- a command more, h being what is heard before it
+unfoldable pub met : List ℕ → Kind → ℕ → Heard → Placed → Found → Found
+met file kind place h c (Is a) = Is a
+met file kind place h c NotYet = pick (eqb (c .place) place) (Is (answerAt file kind c h)) NotYet
 
 -- no command more: 22 where none was asked
 unfoldable pub closing : Found → Answer

@@ -3,11 +3,12 @@ ghost use mathlib.Core.Path.{_≡_};
 ghost use lib.ListN.{length};
 ghost use Prim.Native.Nat.{suc};
 ghost use Rattle.commands.specs.Commands.{commandsFrom};
-ghost use Rattle.attribute.specs.Attribute.{refused, later, held, answerAt, answerIn, attributeOf};
+ghost use Rattle.attribute.specs.Attribute.{refused, later, kept, nothing, heardWith, held, answerAt, answerIn, attributeOf};
 ghost use Rattle.attribute.specs.Pass.{met, judged};
 use commands::Placed;
 use commands::Turn;
 use sayings::Kind;
+use sayings::Region;
 use sayings::Saying;
 
 // Document 01's number, 0 where the name is held, and the place and length of its value in the file.
@@ -15,6 +16,13 @@ pub struct Answer {
     pub number: u64,
     pub place: usize,
     pub length: usize,
+}
+
+// What the commands so far say of the name; what a region that is open carries of it; where the next command stands.
+pub struct Heard {
+    pub said: Saying,
+    pub carried: Saying,
+    pub region: Region,
 }
 
 // What is answered at the command asked, once it is met.
@@ -31,6 +39,52 @@ fn later(s: Saying, t: Saying) -> Saying
         Saying::Silent => s,
         Saying::Deletes => Saying::Deletes,
         Saying::Sets { place, length } => Saying::Sets { place, length },
+    }
+}
+
+// What a region carries on: a TD deletes it, a TA sets nothing anew.
+fn kept(s: Saying, t: Saying) -> Saying
+    ensures { λ r. ⌜ r ≡ kept s t ⌝ }
+{
+    match t {
+        Saying::Silent => s,
+        Saying::Deletes => t,
+        Saying::Sets {
+            place: _,
+            length: _,
+        } => s,
+    }
+}
+
+// What is heard before any command.
+fn nothing() -> Heard
+    ensures { λ r. ⌜ r ≡ nothing ⌝ }
+{
+    Heard {
+        said: Saying::Silent,
+        carried: Saying::Silent,
+        region: Region {
+            inside: false,
+            drawn: false,
+        },
+    }
+}
+
+// What is heard with a command more.
+fn heard_with(file: &[u8], kind: Kind, name: &[u8], h: Heard, c: Placed) -> Heard
+    ensures { λ r. ⌜ r ≡ heardWith (now (file .entry)) kind (now (name .entry)) h c ⌝ }
+{
+    let from = c.from;
+    let end = c.end;
+    let t = base::part(file, from, end);
+    let s = sayings::saying_of(file, kind, name, c);
+    let said = h.said;
+    let carried = h.carried;
+    let region = h.region;
+    Heard {
+        said: later(said, s),
+        carried: sayings::pick(text::is(t, b"G36"), said, kept(carried, s)),
+        region: sayings::region_after(region, t),
     }
 }
 
@@ -60,27 +114,34 @@ fn held(s: Saying) -> Answer
     }
 }
 
-// The answer at a command, s being what those before it say.
-fn answer_at(file: &[u8], kind: Kind, c: Placed, s: Saying) -> Answer
-    ensures { λ r. ⌜ r ≡ answerAt (now (file .entry)) kind c s ⌝ }
+// The answer at a command, h being what is heard before it.
+fn answer_at(file: &[u8], kind: Kind, c: Placed, h: Heard) -> Answer
+    ensures { λ r. ⌜ r ≡ answerAt (now (file .entry)) kind c h ⌝ }
 {
     let from = c.from;
     let end = c.end;
-    if sayings::taken_at(kind, base::part(file, from, end)) {
-        return held(s);
+    let said = h.said;
+    let carried = h.carried;
+    let region = h.region;
+    let t = base::part(file, from, end);
+    if sayings::taken_at(kind, t) {
+        return held(said);
+    }
+    if sayings::begins_contour(region, t) {
+        return held(carried);
     }
     refused(23)
 }
 
-// What is found with a command more, s being what those before it say.
-fn met(file: &[u8], kind: Kind, place: usize, s: Saying, c: Placed, found: Found) -> Found
-    ensures { λ r. ⌜ r ≡ met (now (file .entry)) kind place s c found ⌝ }
+// What is found with a command more, h being what is heard before it.
+fn met(file: &[u8], kind: Kind, place: usize, h: Heard, c: Placed, found: Found) -> Found
+    ensures { λ r. ⌜ r ≡ met (now (file .entry)) kind place h c found ⌝ }
 {
     match found {
         Found::Is(a) => Found::Is(a),
         Found::NotYet => {
             if c.place == place {
-                return Found::Is(answer_at(file, kind, c, s));
+                return Found::Is(answer_at(file, kind, c, h));
             }
             Found::NotYet
         }
@@ -106,7 +167,7 @@ fn pass(file: &[u8], kind: Kind, place: usize, name: &[u8]) -> Answer
 {
     let mut n: usize = 0;
     let mut at: usize = 0;
-    let mut s = Saying::Silent;
+    let mut heard = nothing();
     let mut found = Found::NotYet;
     loop {
         let t = commands::turn_at(n, file, at);
@@ -116,15 +177,15 @@ fn pass(file: &[u8], kind: Kind, place: usize, name: &[u8]) -> Answer
             }
             Turn::Last { command, next } => {
                 let f = commands::tail_fault(file, next);
-                return judged(f.number, met(file, kind, place, s, command, found));
+                return judged(f.number, met(file, kind, place, heard, command, found));
             }
             Turn::More {
                 command,
                 n: m,
                 next,
             } => {
-                found = met(file, kind, place, s, command, found);
-                s = later(s, sayings::saying_of(file, kind, name, command));
+                found = met(file, kind, place, heard, command, found);
+                heard = heard_with(file, kind, name, heard, command);
                 n = m;
                 at = next;
             }

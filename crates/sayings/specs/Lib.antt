@@ -1,2 +1,3 @@
 pub mod Deeds
+pub mod Regions
 pub mod Sayings

@@ -1,7 +1,8 @@
--- `attribute::answer_at` meets its contract: whether the attribute is taken there picks the row.
+-- `attribute::answer_at` meets its contract: whether the attribute is taken there, or a contour begins there, picks the row.
 -- Assumes nothing.
 use mathlib.Core.Path.{sym, _∙_, ap}
 use Rattle.command.proofs.Choose.{row-holds, row-fails}
+use Rattle.sayings.specs.Regions.{beginsContour}
 use Rattle.sayings.specs.Sayings.{takenAt}
 use Rattle.attribute.specs.Attribute.{answerAt}
 use borrow.Author.Needs.{needs}
@@ -21,14 +22,39 @@ returns : tie.Need-returns
 unfolding answerAt
 returns c = row-holds _ (ap (takenAt _) (sym (c .before .before .before .part .ensures)) ∙ sym (c .before .before .taken-at .ensures) ∙ c .before .if1 .taken) (c .held .ensures)
 
-refused-requires : tie.Need-refused-requires
-refused-requires c κs = search needs
+begins-contour-requires : tie.Need-begins-contour-requires
+begins-contour-requires c κs = search needs
+
+held-requires-2 : tie.Need-held-requires-2
+held-requires-2 c κs = search needs
 
 returns-2 : tie.Need-returns-2
 unfolding answerAt
-returns-2 c = row-fails _ (ap (takenAt _) (sym (c .before .before .before .part .ensures)) ∙ sym (c .before .before .taken-at .ensures) ∙ c .before .if1 .left) (c .refused .ensures)
+returns-2 c =
+    row-fails _ (ap (takenAt _) (sym (c .before .before .before .before .before .part .ensures)) ∙ sym (c .before .before .before .before .taken-at .ensures) ∙ c .before .before .before .if1 .left)
+    (row-holds _ (ap (beginsContour _) (sym (c .before .before .before .before .before .part .ensures)) ∙ sym (c .before .before .begins-contour .ensures) ∙ c .before .if2 .taken)
+    (c .held2 .ensures))
+
+refused-requires : tie.Need-refused-requires
+refused-requires c κs = search needs
+
+returns-3 : tie.Need-returns-3
+unfolding answerAt
+returns-3 c =
+    row-fails _ (ap (takenAt _) (sym (c .before .before .before .before .before .part .ensures)) ∙ sym (c .before .before .before .before .taken-at .ensures) ∙ c .before .before .before .if1 .left)
+    (row-fails _ (ap (beginsContour _) (sym (c .before .before .before .before .before .part .ensures)) ∙ sym (c .before .before .begins-contour .ensures) ∙ c .before .if2 .left)
+    (c .refused .ensures))
 
 pub answer-at-spec : {M : Type 1} → statement M
 answer-at-spec =
     tie.close
-    (tie.spec part-requires taken-at-requires held-requires returns refused-requires returns-2)
+    (tie.spec
+    part-requires
+    taken-at-requires
+    held-requires
+    returns
+    begins-contour-requires
+    held-requires-2
+    returns-2
+    refused-requires
+    returns-3)

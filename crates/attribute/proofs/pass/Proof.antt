@@ -1,4 +1,4 @@
--- `attribute::pass` meets its contract. The loop's invariant: what is found and said so far, with the commands from here on, comes to the answer.
+-- `attribute::pass` meets its contract. The loop's invariant: what is found and heard so far, with the commands from here on, comes to the answer.
 -- Assumes nothing.
 use borrow.Author.Needs.{needs}
 use Prim.Native.Nat.{_-_, _≤_}
@@ -12,13 +12,16 @@ use Rattle.attribute.proofs.pass.Statement.{statement}
 use Rattle.attribute.proofs.pass.Tie as tie
 
 abbrev Inv-loop : tie.InvT-loop
-Inv-loop file kind place name n₀ at₀ s₀ found₀ n at s found = (at ≤ length file) × (outcome file kind place name found s (walk n file at) ≡ answerIn file kind place name (walk 0 file 0))
+Inv-loop file kind place name n₀ at₀ heard₀ found₀ n at heard found = (at ≤ length file) × (outcome file kind place name found heard (walk n file at) ≡ answerIn file kind place name (walk 0 file 0))
 
 abbrev μ-loop : tie.MeasureT-loop
-μ-loop file kind place name n₀ at₀ s₀ found₀ n at s found = length file - at
+μ-loop file kind place name n₀ at₀ heard₀ found₀ n at heard found = length file - at
+
+nothing-requires : tie.Need-nothing-requires Inv-loop μ-loop
+nothing-requires c κs = search needs
 
 loop-holds : tie.Need-loop-holds Inv-loop μ-loop
-loop-holds c = (omega arith, pass-starts _ _ _ _ _)
+loop-holds c = (omega arith, rw (c .nothing .ensures) (pass-starts _ _ _ _ _))
 
 turn-at-requires : tie.Need-turn-at-requires Inv-loop μ-loop
 turn-at-requires c κs = search needs
@@ -33,7 +36,7 @@ returns : tie.Need-returns Inv-loop μ-loop
 returns c =
     let l = c .before .before .before .before .before .loop in
     let e = sym (c .before .before .before .before .turn-at .ensures) ∙ c .before .before .t .given .1 in
-    c .judged .ensures ∙ sym (pass-stops _ _ _ _ _ (l .s) _) ∙ sym (ap (outcome _ _ _ _ _ _) (walk-fault (l .n) _ (l .at) e)) ∙ l .inv .1
+    c .judged .ensures ∙ sym (pass-stops _ _ _ _ _ (l .heard) _) ∙ sym (ap (outcome _ _ _ _ _ _) (walk-fault (l .n) _ (l .at) e)) ∙ l .inv .1
 
 enum-known-t-2 : tie.Need-enum-known-t-2 Inv-loop μ-loop
 enum-known-t-2 c = search needs
@@ -52,7 +55,7 @@ returns-2 c =
     let l = c .before .before .before .before .before .before .before .loop in
     let e = sym (c .before .before .before .before .before .before .turn-at .ensures) ∙ c .before .before .before .before .t2 .given .1 in
     simp (c .judged2 .ensures, c .before .met .ensures, c .before .before .tail-fault .ensures)
-    (sym (pass-stops _ _ _ _ _ _ _) ∙ sym (pass-more _ _ _ _ (l .found) (l .s) _ _) ∙ sym (ap (outcome _ _ _ _ _ _) (walk-last (l .n) _ (l .at) e)) ∙ l .inv .1)
+    (sym (pass-stops _ _ _ _ _ _ _) ∙ sym (pass-more _ _ _ _ (l .found) (l .heard) _ _) ∙ sym (ap (outcome _ _ _ _ _ _) (walk-last (l .n) _ (l .at) e)) ∙ l .inv .1)
 
 enum-known-t-3 : tie.Need-enum-known-t-3 Inv-loop μ-loop
 enum-known-t-3 c = search needs
@@ -60,25 +63,22 @@ enum-known-t-3 c = search needs
 met-requires-2 : tie.Need-met-requires-2 Inv-loop μ-loop
 met-requires-2 c κs = search needs
 
-saying-of-requires : tie.Need-saying-of-requires Inv-loop μ-loop
-saying-of-requires c κs = search needs
-
-later-requires : tie.Need-later-requires Inv-loop μ-loop
-later-requires c κs = search needs
+heard-with-requires : tie.Need-heard-with-requires Inv-loop μ-loop
+heard-with-requires c κs = search needs
 
 loop-less : tie.Need-loop-less Inv-loop μ-loop
 loop-less c =
-    let l = c .before .before .before .before .before .before .before .loop in
-    let e = sym (c .before .before .before .before .before .before .turn-at .ensures) ∙ c .before .before .before .before .t3 .given .1 in
+    let l = c .before .before .before .before .before .before .loop in
+    let e = sym (c .before .before .before .before .before .turn-at .ensures) ∙ c .before .before .before .t3 .given .1 in
     omega (arith, more-onward (l .n) _ (l .at) (l .inv .0) e .0, more-onward (l .n) _ (l .at) (l .inv .0) e .1)
 
 loop-again : tie.Need-loop-again Inv-loop μ-loop
 loop-again c =
-    let l = c .before .before .before .before .before .before .before .loop in
-    let e = sym (c .before .before .before .before .before .before .turn-at .ensures) ∙ c .before .before .before .before .t3 .given .1 in (
+    let l = c .before .before .before .before .before .before .loop in
+    let e = sym (c .before .before .before .before .before .turn-at .ensures) ∙ c .before .before .before .t3 .given .1 in (
       more-onward (l .n) _ (l .at) (l .inv .0) e .1,
-      simp (c .later .ensures, c .before .saying-of .ensures, c .before .before .met2 .ensures)
-          (sym (pass-more _ _ _ _ (l .found) (l .s) _ _) ∙ sym (ap (outcome _ _ _ _ _ _) (walk-more (l .n) _ (l .at) (l .inv .0) e)) ∙ l .inv .1),
+      simp (c .heard-with .ensures, c .before .met2 .ensures)
+          (sym (pass-more _ _ _ _ (l .found) (l .heard) _ _) ∙ sym (ap (outcome _ _ _ _ _ _) (walk-more (l .n) _ (l .at) (l .inv .0) e)) ∙ l .inv .1),
     )
 
 pub pass-spec : {M : Type 1} → statement M
@@ -87,6 +87,7 @@ pass-spec =
     (tie.spec
     Inv-loop
     μ-loop
+    nothing-requires
     loop-holds
     turn-at-requires
     enum-known-t
@@ -99,7 +100,6 @@ pass-spec =
     returns-2
     enum-known-t-3
     met-requires-2
-    saying-of-requires
-    later-requires
+    heard-with-requires
     loop-less
     loop-again)
