@@ -35,79 +35,27 @@ start = record {
   region = noRegion;
 }
 
+-- a state by its parts
+abbrev pub state : Format → Current → Selected → ℕ → Bool → Transform → Region → Graphics
+state f p a m q t r = record { format = f; point = p; aperture = a; mode = m; quadrants = q; transform = t; region = r }
+
 unfoldable pub withFormat : Format → Graphics → Graphics
-withFormat v g = record {
-  format = v;
-  point = g .point;
-  aperture = g .aperture;
-  mode = g .mode;
-  quadrants = g .quadrants;
-  transform = g .transform;
-  region = g .region;
-}
+withFormat v g = state v (g .point) (g .aperture) (g .mode) (g .quadrants) (g .transform) (g .region)
 
 unfoldable pub withPoint : Current → Graphics → Graphics
-withPoint v g = record {
-  format = g .format;
-  point = v;
-  aperture = g .aperture;
-  mode = g .mode;
-  quadrants = g .quadrants;
-  transform = g .transform;
-  region = g .region;
-}
+withPoint v g = state (g .format) v (g .aperture) (g .mode) (g .quadrants) (g .transform) (g .region)
 
 unfoldable pub withAperture : Selected → Graphics → Graphics
-withAperture v g = record {
-  format = g .format;
-  point = g .point;
-  aperture = v;
-  mode = g .mode;
-  quadrants = g .quadrants;
-  transform = g .transform;
-  region = g .region;
-}
+withAperture v g = state (g .format) (g .point) v (g .mode) (g .quadrants) (g .transform) (g .region)
 
 unfoldable pub withMode : ℕ → Graphics → Graphics
-withMode v g = record {
-  format = g .format;
-  point = g .point;
-  aperture = g .aperture;
-  mode = v;
-  quadrants = g .quadrants;
-  transform = g .transform;
-  region = g .region;
-}
+withMode v g = state (g .format) (g .point) (g .aperture) v (g .quadrants) (g .transform) (g .region)
 
 unfoldable pub withQuadrants : Bool → Graphics → Graphics
-withQuadrants v g = record {
-  format = g .format;
-  point = g .point;
-  aperture = g .aperture;
-  mode = g .mode;
-  quadrants = v;
-  transform = g .transform;
-  region = g .region;
-}
+withQuadrants v g = state (g .format) (g .point) (g .aperture) (g .mode) v (g .transform) (g .region)
 
 unfoldable pub withTransform : Transform → Graphics → Graphics
-withTransform v g = record {
-  format = g .format;
-  point = g .point;
-  aperture = g .aperture;
-  mode = g .mode;
-  quadrants = g .quadrants;
-  transform = v;
-  region = g .region;
-}
+withTransform v g = state (g .format) (g .point) (g .aperture) (g .mode) (g .quadrants) v (g .region)
 
 unfoldable pub withRegion : Region → Graphics → Graphics
-withRegion v g = record {
-  format = g .format;
-  point = g .point;
-  aperture = g .aperture;
-  mode = g .mode;
-  quadrants = g .quadrants;
-  transform = g .transform;
-  region = v;
-}
+withRegion v g = state (g .format) (g .point) (g .aperture) (g .mode) (g .quadrants) (g .transform) v
