@@ -5,20 +5,18 @@ use Prim.Native.Nat.{ℕ, zero, suc, _+_, _-_, _≤_, _<_}
 use mathlib.Core.Path.{_≡_, refl, sym, ap, _∙_}
 use mathlib.Core.Bool.{true}
 use mathlib.Core.List.{List, _++_, map}
-use mathlib.Core.Logic.{⊎-elim}
-use native.Mathlib.Nat.{zero-add, not-suc-le-zero, eq-or-lt-of-le, le-of-suc-le-suc}
+use native.Mathlib.Nat.{zero-add, not-suc-le-zero}
 use native.Mathlib.Omega.{arith}
 use borrow.Author.Tests.{eq-eqb}
 use Rattle.base.specs.Run.{run, sums}
 use Rattle.base.proofs.And.{and-i}
-use Rattle.base.proofs.Run.{run-cong, run-snoc, sums-cong, sums-snoc}
+use Rattle.base.proofs.Run.{below-snoc, run-cong, run-snoc, sums-cong, sums-snoc}
 use Rattle.place.specs.declared.Item.{Item}
 use Rattle.place.specs.Placing.{placed}
 use Rattle.place.specs.Copies.{copies}
 use Rattle.sheet.specs.Records.{entryOf, roleOf}
 use Rattle.sheet.specs.Containers.{blockOf, bodyOf}
 use Rattle.sheet.specs.Meaning.{poseOf, repeatOf, puts, entryItems, items}
-use Rattle.sheet.specs.Every.{every}
 use Rattle.sheet.specs.Valid.{okEntry, sizeOf, sizeAt, okStep, okRun}
 use Rattle.sheet.specs.declared.Entry.{Entry}
 use Rattle.sheet.specs.declared.Container.{Container}
@@ -35,13 +33,6 @@ pub record OpenOk (a : List ℕ) (used h : ℕ) (f : ℕ → Entry) (n t : ℕ) 
   pub each-ok : (i : ℕ) → i < n → okEntry a used h (f i) ≡ true
   pub before-is : (i : ℕ) → i < n → f i .before ≡ sums (λ i. sizeOf a (f i)) 0 i
   pub items-are : sums (λ i. sizeOf a (f i)) 0 n ≡ t
-
--- a fact of every number below n, and of n
-below-snoc : (P : ℕ → Type 0) (n : ℕ) → ((i : ℕ) → i < n → P i) → P n → (i : ℕ) → i < suc n → P i
-below-snoc P n h z i l = ⊎-elim
-    (λ (q : suc i ≡ suc n). let e : i ≡ n = omega arith in rw e z)
-    (λ (m : suc i < suc n). h i (le-of-suc-le-suc m))
-    (eq-or-lt-of-le l)
 
 module _ (a : List ℕ) (used h : ℕ) (f : ℕ → Entry) where
   pub ok-none : OpenOk a used h f 0 0

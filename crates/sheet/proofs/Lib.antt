@@ -1,4 +1,3 @@
-pub mod Records
 pub mod Stored
 pub mod Every
 pub mod Conditions

@@ -2,7 +2,7 @@
 -- Assumes nothing.
 use lib.Signed.{mag}
 use Prim.Native.Nat.{_<_, _^_}
-use Rattle.operations.proofs.Stored.{stored}
+use Rattle.ints.proofs.Bounded.{in-bits}
 use Rattle.operations.specs.Operations.{offsetOf}
 use Rattle.operations.proofs.offset_of.Statement.{statement}
 use Rattle.operations.proofs.offset_of.Tie as tie
@@ -14,7 +14,7 @@ returns c =
     let k = c .struct-told .given .1 .1 in
     let i : mag (f .i .value) < 2 ^ 63 = search (k .0) in
     let j : mag (f .j .value) < 2 ^ 63 = search (k .1 .0) in
-    rw (stored (f .i .value) i, stored (f .j .value) j, c .before .if1 .taken)
+    rw (in-bits (f .i .value) i, in-bits (f .j .value) j, c .before .if1 .taken)
 
 returns-2 : tie.Need-returns-2
 unfolding offsetOf
