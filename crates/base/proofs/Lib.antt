@@ -3,3 +3,4 @@ pub mod Lists
 pub mod Moved
 pub mod Run
 pub mod Tests
+pub mod Trimmed

@@ -1,40 +1,32 @@
 -- Laws of lists that every crate cites: one element at a place, a part, zeros, two strings compared.
 -- Assumes nothing.
-use Prim.Native.Nat.{ℕ, _+_, _-_, _<_, _≤_}
+use Prim.Native.Nat.{ℕ, zero, suc, _+_, _-_, _<_, _≤_}
 use mathlib.Core.Path.{_≡_, refl}
 use mathlib.Core.Bool.{Bool, true, false}
 use mathlib.Core.List.{List, [], _∷_, _++_, append-nil}
+use native.Mathlib.Nat.{sub-zero, zero-sub, suc-sub-suc}
 use native.Mathlib.Numerals.{add-one}
 use native.Mathlib.Omega.{arith}
-use lib.Dec.{eqb, ltb}
-use lib.ListN.{length, take, drop, getD, replicate, length-drop, drop-of-length-le, List·getD-eq-default}
-use lib.Seq.{take-all, drop-cons, slice, slice-cons, slice-empty}
-use borrow.Author.Tests.{ltb-true, ltb-false, eqb-true, eq-eqb}
+use lib.Dec.{eqb}
+use lib.ListN.{length, take, drop, getD, replicate, length-drop, drop-of-length-le}
+use lib.Seq.{take-nil, take-all, drop-cons, slice}
+use borrow.Author.Tests.{eqb-true, eq-eqb}
 use Rattle.base.specs.Bytes.{sameBytes}
 
 -- what stands from `at` on is the element there and those from the next place on
 pub drop-next : (s : List ℕ) (at : ℕ) → at < length s → drop at s ≡ getD s at 0 ∷ drop (at + 1) s
 drop-next s at h = rw (add-one, drop-cons s at 0)
 
--- a part is its first element and the part behind it
-pub slice-next : (s : List ℕ) (i to : ℕ) → i < to → to ≤ length s → slice i to s ≡ getD s i 0 ∷ slice (i + 1) to s
-slice-next s i to h k = rw (add-one, slice-cons i to s 0 h k)
-
--- a part that ends where it begins is empty
-pub slice-none : (s : List ℕ) (i to : ℕ) → i ≤ to → to ≤ i → slice i to s ≡ []
-slice-none s i to h k = let e : i ≡ to = omega arith in rw e (slice-empty to s)
+-- a part, taken the other way round
+pub slice-take : (at n : ℕ) (s : List ℕ) → slice at n s ≡ take (n - at) (drop at s)
+slice-take zero n s = rw (sub-zero n)
+slice-take (suc at) n [] = rw (take-nil n, take-nil (n - suc at))
+slice-take (suc at) zero (b ∷ s) = rw (zero-sub (suc at))
+slice-take (suc at) (suc n) (b ∷ s) = rw (suc-sub-suc n at) (slice-take at n s)
 
 -- from a place on, as many as are left are all
 pub rest-whole : (s : List ℕ) (i : ℕ) → take (length s - i) (drop i s) ≡ drop i s
 rest-whole s i = take-all (length s - i) (drop i s) (omega (arith, length-drop i s))
-
--- where an element above 0 is read, there is one
-pub inside : (s : List ℕ) (i : ℕ) → 0 < getD s i 0 → i < length s
-inside s i h = go (ltb i (length s)) refl
-  where
-    go : (t : Bool) → ltb i (length s) ≡ t → i < length s
-    go true e = ltb-true i (length s) e
-    go false e = let z : getD s i 0 ≡ 0 = List·getD-eq-default s 0 (ltb-false i (length s) e) in omega arith
 
 -- a list filled with zeros up to its end is zeros
 pub filled : {A : Type 0} (z : A) (i : ℕ) (l : List A) → i ≤ length l → length l ≤ i → replicate i z ++ drop i l ≡ replicate (length l) z

@@ -5,6 +5,7 @@ ghost use lib.ListN.{length, getD, set, replicate, take, drop};
 ghost use lib.Seq.{slice};
 ghost use Rattle.base.specs.And.{_and_};
 ghost use Rattle.base.specs.Or.{_or_};
+ghost use Rattle.base.specs.Breaks.{isBreak};
 ghost use Rattle.base.specs.Bytes.{sameBytes};
 ghost use Rattle.base.specs.Moved.{Moved};
 
@@ -101,6 +102,13 @@ pub fn either(a: bool, b: bool) -> bool
     ensures { λ t. ⌜ t ≡ (a or b) ⌝ }
 {
     if a { true } else { b }
+}
+
+// CR or LF.
+pub fn is_break(b: u8) -> bool
+    ensures { λ r. ⌜ r ≡ isBreak b ⌝ }
+{
+    either(b == 13, b == 10)
 }
 
 // The bytes of s from `from` on are those of w.

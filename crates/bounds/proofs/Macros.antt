@@ -1,33 +1,20 @@
 -- AM: its name ends before its blocks do, and these before the end.
 -- Assumes nothing.
-use Prim.Native.Nat.{ℕ, suc, _-_, _≤_, _<_}
+use Prim.Native.Nat.{ℕ, _-_, _≤_, _<_}
 use Prim.Native.Char.{code}
-use mathlib.Core.Bool.{Bool, true, false, cond}
-use mathlib.Core.List.{List, [], _∷_}
+use mathlib.Core.List.{List}
 use native.Mathlib.Omega.{arith}
 use lib.Dec.{eqb}
 use lib.ListN.{length, take, length-take}
 use borrow.Author.Tests.{ltb-true}
+use Rattle.base.specs.Breaks.{isBreak}
+use Rattle.base.proofs.Trimmed.{trailing-short}
 use Rattle.text.specs.First.{place}
 use Rattle.text.proofs.First.{first-from}
-use Rattle.tokens.specs.LineEnds.{lineEnd, before, withoutTrailing}
+use Rattle.tokens.specs.LineEnds.{withoutTrailing}
 use Rattle.form.specs.Macro.{headed, macroOf}
 use Rattle.bounds.specs.Bounded.{Bounded}
 use Rattle.bounds.proofs.Tables.{picks, judges}
-
-before-short : (b : ℕ) (s : List ℕ) → length (before b s) ≤ suc (length s)
-unfolding before
-before-short b [] = go (lineEnd b)
-  where
-    go : (t : Bool) → length (cond t [] (b ∷ [])) ≤ 1
-    go true = omega arith
-    go false = omega arith
-before-short b (c ∷ s) = omega arith
-
-trailing-short : (s : List ℕ) → length (withoutTrailing s) ≤ length s
-unfolding withoutTrailing
-trailing-short [] = omega arith
-trailing-short (b ∷ s) = omega (arith, before-short b (withoutTrailing s), trailing-short s)
 
 module _ (s : List ℕ) where
   headed-bounded : (t u : List ℕ) (q : ℕ) → 2 ≤ q → q < length u → length u ≤ length s → Bounded s (headed t u q)
@@ -41,4 +28,4 @@ module _ (s : List ℕ) where
       let u : List ℕ = take (length t - 1) t in
       let q : ℕ = place (code "*") u 2 in
       picks s _ _ _ (λ e. headed-bounded t u q (first-from (λ x. eqb x (code "*")) u 2) (ltb-true q (length u) e)
-      (omega (arith, length-take (length t - 1) t, trailing-short s))) tt
+      (omega (arith, length-take (length t - 1) t, trailing-short isBreak s))) tt

@@ -15,7 +15,7 @@ use Rattle.text.proofs.First.{first-from}
 use Rattle.command.specs.Choose.{pick}
 use Rattle.command.specs.Numbers.{sizeOf}
 use Rattle.decimal.specs.declared.answers.Amount.{Amount}
-use Rattle.tokens.proofs.Pieces.{pieces-next, pieces-end}
+use Rattle.text.proofs.Pieces.{pieces-next, pieces-end}
 use Rattle.primitives.specs.Asked.{added}
 use Rattle.primitives.specs.declared.Asked.{Asked}
 use Rattle.macros.specs.Pen.{penned}

@@ -6,7 +6,7 @@ use mathlib.Core.List.{List}
 use native.Mathlib.Omega.{arith}
 use lib.ListN.{length, take, drop}
 use lib.Seq.{slice, length-slice, take-take, drop-drop}
-use Rattle.tokens.proofs.Pieces.{slice-take}
+use Rattle.base.proofs.Lists.{slice-take}
 
 module _ (file : List ℕ) (from end : ℕ) (ordered : from ≤ end) (inside : end ≤ length file) where
   pub text-end : (j : ℕ) → j ≤ length (slice from end file) → from + j ≤ end

@@ -10,7 +10,8 @@ use Rattle.base.specs.And.{_and_}
 use Rattle.base.proofs.Lists.{drop-next}
 use Rattle.digest.specs.declared.State.{State}
 use Rattle.digest.specs.Runs.{pushed, fed}
-use Rattle.digest.specs.Text.{isBreak, unbroken}
+use Rattle.base.specs.Breaks.{isBreak}
+use Rattle.digest.specs.Text.{unbroken}
 
 -- what is fed of a run, of a text or of any bytes
 abbrev pub taken : Bool → List ℕ → List ℕ

@@ -1,12 +1,8 @@
 -- A text without its line ends: document 02, request [2] ("CR and LF left out").
 use Prim.Native.Nat.{ℕ}
-use mathlib.Core.Bool.{Bool, true, false, cond}
+use mathlib.Core.Bool.{true, false}
 use mathlib.Core.List.{List, [], _∷_}
-use lib.Dec.{eqb}
-
--- CR or LF
-unfoldable pub isBreak : ℕ → Bool
-isBreak b = cond (eqb b 13) true (eqb b 10)
+use Rattle.base.specs.Breaks.{isBreak}
 
 unfoldable pub unbroken : List ℕ → List ℕ
 unbroken [] = []

@@ -10,7 +10,8 @@ ghost use Rattle.base.specs.And.{_and_};
 ghost use Rattle.digest.specs.Bytes.{bytesOf};
 ghost use Rattle.digest.specs.Md5.{blocks, output, md5};
 ghost use Rattle.digest.specs.Runs.{started, fed, finished};
-ghost use Rattle.digest.specs.Text.{isBreak, unbroken};
+ghost use Rattle.base.specs.Breaks.{isBreak};
+ghost use Rattle.digest.specs.Text.{unbroken};
 
 // Where a digest stands between two runs: the words after the whole blocks, the bytes of the block that is not full yet with zeros
 // after them, and how many bytes there were, modulo 2^64.
@@ -31,21 +32,11 @@ pub fn start() -> State
     }
 }
 
-// CR or LF.
-fn is_break(b: u8) -> bool
-    ensures { λ r. ⌜ r ≡ isBreak b ⌝ }
-{
-    if b == 13 {
-        return true;
-    }
-    b == 10
-}
-
 // The byte counts: any, but of a text neither CR nor LF.
 fn counts(text: bool, b: u8) -> bool
     ensures { λ r. ⌜ r ≡ not (text and isBreak b) ⌝ }
 {
-    !both(text, is_break(b))
+    !both(text, base::is_break(b))
 }
 
 // A run, byte by byte; of a text the bytes that count.

@@ -6,8 +6,8 @@ use mathlib.Core.List.{List}
 use lib.ListN.{length, drop}
 use lib.Seq.{slice}
 use Rattle.text.specs.First.{place}
-use Rattle.tokens.specs.Pieces.{pieces}
-use Rattle.tokens.proofs.Pieces.{pieces-next, pieces-end}
+use Rattle.text.specs.Pieces.{pieces}
+use Rattle.text.proofs.Pieces.{pieces-next, pieces-end}
 use Rattle.form.specs.Blocks.{joined, gathered}
 use Rattle.form.specs.declared.Form.{Form}
 

@@ -12,7 +12,7 @@ use Rattle.text.specs.Text.{byte}
 use Rattle.command.specs.Choose.{choose}
 use Rattle.command.specs.declared.Number.{Number}
 use Rattle.tokens.specs.LineEnds.{withoutLeading}
-use Rattle.tokens.specs.Pieces.{pieces}
+use Rattle.text.specs.Pieces.{pieces}
 use Rattle.tokens.specs.Tokens.{variableNumber}
 use Rattle.form.specs.Expression.{expressionForm}
 use Rattle.form.specs.declared.Form.{Form}

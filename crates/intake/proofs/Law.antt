@@ -12,7 +12,8 @@ use Rattle.text.proofs.First.{first-at, first-end}
 use Rattle.digest.specs.Runs.{started, fed, finished}
 use Rattle.digest.specs.Md5.{md5}
 use Rattle.digest.proofs.Cuts.{finished-md5}
-use Rattle.scan.specs.Permitted.{isBreak, printable}
+use Rattle.base.specs.Breaks.{isBreak}
+use Rattle.scan.specs.Permitted.{printable}
 use Rattle.scan.specs.Scan.{kindOf, textFrom, commandAt, skipped, nextCommand}
 use Rattle.scan.specs.Tail.{tailOf}
 use Rattle.scan.specs.declared.Kind.the-variants.{Word}

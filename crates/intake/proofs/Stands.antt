@@ -2,21 +2,18 @@
 -- Assumes nothing.
 use Prim.Native.Nat.{ℕ, _+_, _%_, _^_, _≤_, _<_}
 use mathlib.Core.Path.{_≡_, refl, ap, sym, _∙_}
-use mathlib.Core.Bool.{Bool, true, false, cond}
+use mathlib.Core.Bool.{true, false}
 use mathlib.Core.List.{List, [], _∷_, _++_}
 use native.Mathlib.Numerals.{add-one}
 use native.Mathlib.Omega.{arith}
-use lib.Dec.{eqb}
 use lib.ListN.{length, take, getD, length-take}
 use lib.Seq.{take-suc, slice, drop-append-le, slice-empty}
 use Rattle.base.specs.Or.{_or_}
-use Rattle.text.specs.Text.{among}
 use Rattle.digest.specs.Runs.{started, fed}
-use Rattle.digest.specs.Text as lines
 use Rattle.digest.specs.Text.{unbroken}
 use Rattle.digest.proofs.Runs.{fed-append}
 use Rattle.digest.proofs.Text.{unbroken-append}
-use Rattle.scan.specs.Permitted.{isBreak}
+use Rattle.base.specs.Breaks.{isBreak}
 use Rattle.signature.specs.declared.Held.{Held}
 use Rattle.signature.specs.Held.{nothing, noted, notedAll}
 use Rattle.signature.specs.Form.{isEnd}
@@ -28,16 +25,6 @@ use Rattle.intake.specs.declared.Way.{Way}
 use Rattle.intake.specs.declared.Way.the-variants.{Between}
 use Rattle.intake.specs.Ways.{wayAfter, begins, settled, opening}
 use Rattle.intake.specs.Runs.{piece, intake, grown, pushed}
-
--- the two ways to say CR or LF
-same-break : (b : ℕ) → lines.isBreak b ≡ isBreak b
-unfolding lines.isBreak among _or_
-same-break b = go (eqb b 13) (eqb b 10)
-  where
-    go : (x y : Bool) → cond x true y ≡ (x or (y or false))
-    go true y = refl
-    go false true = refl
-    go false false = refl
 
 noted-append : (h : Held) (a b : List ℕ) → notedAll h (a ++ b) ≡ notedAll (notedAll h a) b
 unfolding notedAll
@@ -103,5 +90,5 @@ module _ (file : List ℕ) (short : length file < 2 ^ 64) (from at i : ℕ) (ins
   pub skips : (q : Piece) → isBreak b ≡ true → pushed (between file from at i q) b ≡ between file from at (i + 1) q
   unfolding pushed begins wayAfter settled grown unbroken notedAll
   skips q e =
-      let none : unbroken (b ∷ []) ≡ [] = rw (unbroken, same-break b, e) in
+      let none : unbroken (b ∷ []) ≡ [] = rw (unbroken, e) in
       rw (e, digested, counted, none)

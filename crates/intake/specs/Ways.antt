@@ -3,7 +3,8 @@ use Prim.Native.Nat.{ℕ}
 use Prim.Native.Char.{code}
 use mathlib.Core.Bool.{Bool, false, cond, not}
 use lib.Dec.{eqb}
-use Rattle.scan.specs.Permitted.{printable, isBreak, mayBreak}
+use Rattle.base.specs.Breaks.{isBreak}
+use Rattle.scan.specs.Permitted.{printable, mayBreak}
 use Rattle.scan.specs.Scan.{ends}
 use Rattle.scan.specs.declared.Kind.{Kind}
 use Rattle.scan.specs.declared.Kind.the-variants.{Word, Extended, Macro}

@@ -7,7 +7,6 @@ use std::num::wrapping_add_usize;
 ghost use mathlib.Core.Path.{_≡_};
 ghost use mathlib.Core.Bool.{cond};
 ghost use Rattle.digest.specs.Runs.{finished};
-ghost use Rattle.scan.specs.Permitted.{isBreak};
 ghost use Rattle.signature.specs.Held.{nothing, textOf};
 ghost use Rattle.signature.specs.Signature.{judged};
 ghost use Rattle.intake.specs.Ways.{within, opening, after, wayAfter, begins, settled};
@@ -42,13 +41,6 @@ pub struct Intake {
     last: Piece,
 }
 
-// CR or LF.
-fn is_break(b: u8) -> bool
-    ensures { λ r. ⌜ r ≡ isBreak b ⌝ }
-{
-    text::one_of(b"\r\n", b)
-}
-
 // A byte of a command of this kind.
 fn way_within(kind: Kind, last: u8, b: u8, at: usize) -> Way
     ensures { λ r. ⌜ r ≡ within kind last b at ⌝ }
@@ -79,7 +71,7 @@ fn way_opening(b: u8, at: usize) -> Way
 fn way_over(b: u8, at: usize) -> Way
     ensures { λ r. ⌜ r ≡ after b at ⌝ }
 {
-    if is_break(b) {
+    if base::is_break(b) {
         return Way::Over;
     }
     if scan::is_printable(b) {
@@ -94,7 +86,7 @@ fn way_after(way: Way, b: u8, at: usize) -> Way
 {
     match way {
         Way::Between => {
-            if is_break(b) {
+            if base::is_break(b) {
                 return Way::Between;
             }
             way_opening(b, at)
@@ -127,7 +119,7 @@ fn does_begin(way: Way, b: u8) -> bool
     ensures { λ r. ⌜ r ≡ begins way b ⌝ }
 {
     match way {
-        Way::Between => !is_break(b),
+        Way::Between => !base::is_break(b),
         Way::Opened => false,
         Way::OpenedA => false,
         Way::Inside { kind, last } => false,

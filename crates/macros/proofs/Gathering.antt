@@ -14,7 +14,7 @@ use lib.Dec.{eqb}
 use Rattle.text.specs.First.{place}
 use Rattle.text.proofs.First.{first-from}
 use Rattle.tokens.specs.LineEnds.{withoutLeading}
-use Rattle.tokens.proofs.Pieces.{pieces-next, pieces-end}
+use Rattle.text.proofs.Pieces.{pieces-next, pieces-end}
 use Rattle.primitives.specs.Asked.{none, added, asked, amount}
 use Rattle.primitives.specs.declared.Asked.{Asked}
 use Rattle.macros.specs.Pen.{penned, pens, laid}

@@ -10,8 +10,8 @@ use lib.Seq.{slice}
 use Rattle.text.specs.First.{place}
 use Rattle.command.specs.Numbers.{sizeOf}
 use Rattle.expression.specs.Reading.{Fits}
-use Rattle.tokens.specs.Pieces.{pieces}
-use Rattle.tokens.proofs.Pieces.{pieces-next, pieces-end}
+use Rattle.text.specs.Pieces.{pieces}
+use Rattle.text.proofs.Pieces.{pieces-next, pieces-end}
 use Rattle.macros.specs.Given.{given}
 
 small-set : (l : List ℤ) (i j : ℕ) (z : ℤ) → natAbs z < 10 ^ 12 → ((k : ℕ) → natAbs (getD l k (pos 0)) < 10 ^ 12) → natAbs (getD (set l i z) j (pos 0)) < 10 ^ 12

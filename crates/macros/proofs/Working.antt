@@ -13,7 +13,7 @@ use borrow.Author.Tests.{eq-eqb, ne-eqb}
 use Rattle.text.specs.First.{place, before, after}
 use Rattle.command.specs.declared.Number.{Number}
 use Rattle.tokens.specs.Tokens.{variableNumber}
-use Rattle.tokens.proofs.Pieces.{pieces-next, pieces-end}
+use Rattle.text.proofs.Pieces.{pieces-next, pieces-end}
 use Rattle.expression.specs.Reading.{Fits}
 use Rattle.ints.specs.Ints.{signed}
 use Rattle.command.specs.Choose.{pick}

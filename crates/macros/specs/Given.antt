@@ -5,7 +5,7 @@ use mathlib.Core.List.{List, [], _∷_}
 use lib.IntN.{ℤ, pos}
 use lib.ListN.{set, replicate}
 use Rattle.command.specs.Numbers.{sizeOf}
-use Rattle.tokens.specs.Pieces.{pieces}
+use Rattle.text.specs.Pieces.{pieces}
 
 unfoldable pub given : ℕ → List ℤ → List (List ℕ) → List ℤ
 given i variables [] = variables

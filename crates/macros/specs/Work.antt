@@ -12,7 +12,7 @@ use Rattle.command.specs.Choose.{choose}
 use Rattle.reckon.specs.declared.Reckoned.{Reckoned}
 use Rattle.reckon.specs.declared.Reckoned.the-variants.{Refused, Value}
 use Rattle.tokens.specs.LineEnds.{withoutLeading}
-use Rattle.tokens.specs.Pieces.{pieces}
+use Rattle.text.specs.Pieces.{pieces}
 use Rattle.tokens.specs.Tokens.{variableNumber}
 use Rattle.expression.specs.Value.{valueOf}
 use Rattle.primitives.specs.Asked.{none, asked}

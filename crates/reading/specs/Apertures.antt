@@ -10,7 +10,7 @@ use Rattle.base.specs.And.{_and_}
 use Rattle.base.specs.Or.{_or_}
 use Rattle.base.specs.Bytes.{sameBytes}
 use Rattle.command.specs.Numbers.{sizeOf}
-use Rattle.tokens.specs.Pieces.{pieces}
+use Rattle.text.specs.Pieces.{pieces}
 use Rattle.primitives.specs.Asked.{none, asked}
 use Rattle.macros.specs.Given.{variablesOf}
 use Rattle.macros.specs.Work.{Effect, blocksIn, workedOut}

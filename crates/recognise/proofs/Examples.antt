@@ -13,7 +13,7 @@ use Rattle.digits.specs.Coordinate.{wholeOf, coordinateOf}
 use Rattle.digits.specs.Digits.{isDigit, allDigits, isNumber, valueOf as digitsValue}
 use Rattle.digits.specs.Natural.{naturalOf}
 use Rattle.digits.specs.Sign.{hasMinus, afterSign}
-use Rattle.digits.specs.Zeros.{dropLeadingZeros, before, dropTrailingZeros}
+use Rattle.base.specs.Trimmed.{dropLeading, keptBefore, dropTrailing}
 use Rattle.decimal.specs.Decimal.{isDecimal, inMillionths, amountOf, numeralOf, decimalOf}
 use Rattle.decimal.specs.Point.{beforePoint, afterPoint}
 use Rattle.text.specs.First.{firstIn}
@@ -35,7 +35,8 @@ use Rattle.settings.specs.Header.{formatOf}
 use Rattle.settings.specs.Transformations.{scaleOf, transformationOf}
 use Rattle.apertures.specs.Definitions.{definition, apertureOf}
 use Rattle.apertures.specs.Blocks.{blockOf}
-use Rattle.apertures.specs.Parameters.{onto, parted, texts, more, gathered, parametersOf}
+use Rattle.apertures.specs.Parameters.{more, gathered, parametersOf}
+use Rattle.text.specs.Pieces.{onto, parted, pieces}
 use Rattle.attributes.specs.Attributes.{valueOf, attributeOf, deletionOf}
 use Rattle.recognise.specs.Commands.{oneBlock, dataOf, extendedOf, commandOf}
 
@@ -75,5 +76,5 @@ known =
     ∷ []
 
 known-recognised : map (λ row. commandOf 3 (row .0) (text (row .1))) known ≡ map (λ row. row .2) known
-unfolding commandOf wordOf commentOf selectOf drawOf draw broken alone tooLong axisOf offsetOf fieldsOf fieldsIn fieldOf fieldEnd past given missing inCoordinate digitLimit wholeOf coordinateOf isDigit allDigits isNumber digitsValue hasMinus afterSign signed naturalOf inRange judged extendedOf dataOf oneBlock formatOf transformationOf scaleOf sizedAs decimalOf numeralOf amountOf inMillionths isDecimal dropLeadingZeros before dropTrailingZeros beforePoint afterPoint apertureOf definition parametersOf gathered more texts parted onto isName nameStart nameByte nameBytes letter blockOf attributeOf valueOf deletionOf pick firstIn among sameBytes _and_ _or_
+unfolding commandOf wordOf commentOf selectOf drawOf draw broken alone tooLong axisOf offsetOf fieldsOf fieldsIn fieldOf fieldEnd past given missing inCoordinate digitLimit wholeOf coordinateOf isDigit allDigits isNumber digitsValue hasMinus afterSign signed naturalOf inRange judged extendedOf dataOf oneBlock formatOf transformationOf scaleOf sizedAs decimalOf numeralOf amountOf inMillionths isDecimal dropLeading keptBefore dropTrailing beforePoint afterPoint apertureOf definition parametersOf gathered more pieces parted onto isName nameStart nameByte nameBytes letter blockOf attributeOf valueOf deletionOf pick firstIn among sameBytes _and_ _or_
 known-recognised = refl

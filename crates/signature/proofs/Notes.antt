@@ -11,7 +11,8 @@ use lib.ListN.{length, take, drop, getD, length-set, length-append}
 use lib.Seq.{take-all, take-at, take-suc-set}
 use borrow.Author.Tests.{lt-ltb, le-ltb, ltb-true, ltb-false}
 use Rattle.base.proofs.Lists.{drop-next}
-use Rattle.digest.specs.Text.{isBreak, unbroken}
+use Rattle.base.specs.Breaks.{isBreak}
+use Rattle.digest.specs.Text.{unbroken}
 use Rattle.signature.specs.declared.Held.{Held}
 use Rattle.signature.specs.Held.{nothing, noted, notedAll, textOf}
 

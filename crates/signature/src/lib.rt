@@ -5,7 +5,7 @@ use scan::Tail;
 ghost use mathlib.Core.Path.{_≡_};
 ghost use Rattle.digest.specs.Md5.{md5};
 ghost use Rattle.digest.specs.Runs.{finished};
-ghost use Rattle.digest.specs.Text.{isBreak, unbroken};
+ghost use Rattle.digest.specs.Text.{unbroken};
 ghost use Rattle.signature.specs.Form.{isEnd, isSignature};
 ghost use Rattle.signature.specs.Held.{nothing, noted, notedAll, textOf};
 ghost use Rattle.signature.specs.Signature.{refused, judged, bare, atEnd, signatureOf};
@@ -34,16 +34,6 @@ fn is_signature(s: &[u8]) -> bool
         ),
         text::is(base::from_on(s, 40), b"*%"),
     )
-}
-
-// CR or LF.
-fn is_break(b: u8) -> bool
-    ensures { λ r. ⌜ r ≡ isBreak b ⌝ }
-{
-    if b == 13 {
-        return true;
-    }
-    b == 10
 }
 
 // Nothing of a command yet.
@@ -81,7 +71,7 @@ pub fn hold(h: Held, t: &[u8]) -> Held
     while i < t.len() {
         let b = t[i];
         i += 1;
-        if is_break(b) {} else {
+        if base::is_break(b) {} else {
             g = note(g, b);
         }
     }

@@ -1,3 +1,1 @@
-pub mod LineEnds
-pub mod Pieces
 pub mod Tokens

@@ -10,10 +10,9 @@ use lib.Seq.{slice, drop-drop}
 use borrow.Author.Tests.{lt-ltb}
 use Rattle.base.specs.And.{_and_}
 use Rattle.base.specs.Or.{_or_}
-use Rattle.base.proofs.Lists.{drop-next}
+use Rattle.base.proofs.Lists.{drop-next, slice-take}
 use Rattle.text.specs.First.{firstIn, first}
 use Rattle.text.proofs.First.{first-from, in-from}
-use Rattle.tokens.proofs.Pieces.{slice-take}
 use Rattle.tokens.specs.Words.{numeral, joins, onto, words}
 use Rattle.tokens.specs.Tokens.{tokens, wordEnd, lexed}
 

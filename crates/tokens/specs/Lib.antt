@@ -1,4 +1,3 @@
 pub mod LineEnds
-pub mod Pieces
 pub mod Tokens
 pub mod Words

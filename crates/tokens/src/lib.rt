@@ -2,7 +2,7 @@
 ghost use mathlib.Core.Path.{_≡_};
 ghost use mathlib.Core.Bool.{not};
 ghost use Rattle.text.specs.First.{first};
-ghost use Rattle.tokens.specs.LineEnds.{lineEnd, withoutLeading, withoutTrailing};
+ghost use Rattle.tokens.specs.LineEnds.{withoutLeading, withoutTrailing};
 ghost use Rattle.tokens.specs.Tokens.{variableOf, variableNumber, tokenOf, lexed};
 ghost use Rattle.tokens.specs.Words.{numeral, joins};
 use command::Number;
@@ -29,20 +29,13 @@ pub struct Lexeme {
     pub next: usize,
 }
 
-// CR or LF.
-fn is_line_end(b: u8) -> bool
-    ensures { λ r. ⌜ r ≡ lineEnd b ⌝ }
-{
-    base::either(b == 13, b == 10)
-}
-
 // The text from its first byte on that is no line end.
 pub fn without_leading(t: &[u8]) -> &[u8]
     ensures { λ r. ⌜ now r ≡ withoutLeading (now (t .entry)) ⌝ }
 {
     let mut i: usize = 0;
     while i < t.len() {
-        if is_line_end(t[i]) {
+        if base::is_break(t[i]) {
             i += 1;
         } else {
             return base::from_on(t, i);
@@ -57,7 +50,7 @@ pub fn without_trailing(t: &[u8]) -> &[u8]
 {
     let mut n = t.len();
     while 0 < n {
-        if is_line_end(t[n - 1]) {
+        if base::is_break(t[n - 1]) {
             n -= 1;
         } else {
             return base::up_to(t, n);

@@ -13,7 +13,7 @@ use Rattle.digits.specs.Coordinate.{wholeOf, coordinateOf}
 use Rattle.digits.specs.Digits.{isDigit, allDigits, isNumber, valueOf}
 use Rattle.digits.specs.Natural.{naturalOf}
 use Rattle.digits.specs.Sign.{hasMinus, afterSign}
-use Rattle.digits.specs.Zeros.{dropLeadingZeros, before, dropTrailingZeros}
+use Rattle.base.specs.Trimmed.{dropLeading, keptBefore, dropTrailing}
 use Rattle.decimal.specs.Decimal.{isDecimal, inMillionths, amountOf, numeralOf, decimalOf}
 use Rattle.decimal.specs.Point.{beforePoint, afterPoint}
 use Rattle.text.specs.First.{firstIn, beforeByte, afterByte}
@@ -37,10 +37,8 @@ use Rattle.settings.specs.Transformations.{rotationOf, scaleOf, mirrorOf, trans
 use Rattle.apertures.specs.Blocks.{blockStart}
 use Rattle.apertures.specs.Blocks as apertures-Blocks
 use Rattle.apertures.specs.Definitions.{definition, apertureOf}
-use Rattle.apertures.specs.Parameters.{texts, more, gathered, parametersOf}
-use Rattle.apertures.specs.Parameters as apertures-Parameters
-use Rattle.tokens.specs.Pieces.{pieces}
-use Rattle.tokens.specs.Pieces as tokens-Pieces
+use Rattle.apertures.specs.Parameters.{more, gathered, parametersOf}
+use Rattle.text.specs.Pieces.{onto, parted, pieces}
 use Rattle.recognise.specs.Commands.{oneBlock, dataOf, extendedOf, commandOf}
 use Rattle.commands.specs.Commands.{commandsFrom, commandsOf}
 use Rattle.commands.specs.Leads.{leadOf}
@@ -89,7 +87,7 @@ unfolding answer said listed ample strip item output xor run
     isDigit allDigits isNumber valueOf
     naturalOf
     hasMinus afterSign
-    dropLeadingZeros before dropTrailingZeros
+    dropLeading keptBefore dropTrailing
     isDecimal inMillionths amountOf numeralOf decimalOf
     beforePoint afterPoint
     firstIn beforeByte afterByte
@@ -113,10 +111,8 @@ unfolding answer said listed ample strip item output xor run
     blockStart
     apertures-Blocks.blockOf
     definition apertureOf
-    texts more gathered parametersOf
-    apertures-Parameters.onto apertures-Parameters.parted
-    pieces
-    tokens-Pieces.onto tokens-Pieces.parted
+    more gathered parametersOf
+    onto parted pieces
     oneBlock dataOf extendedOf commandOf
     commandsFrom commandsOf
     leadOf

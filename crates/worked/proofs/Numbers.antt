@@ -4,11 +4,10 @@ use mathlib.Core.Path.{_≡_, refl}
 use mathlib.Core.List.{map}
 use Rattle.base.specs.And.{_and_}
 use Rattle.base.specs.Or.{_or_}
-use Rattle.base.specs.Text.{bytes}
 use Rattle.ints.specs.Ints.{signed}
 use Rattle.digits.specs.Digits.{isDigit, allDigits, isNumber, valueOf}
 use Rattle.digits.specs.Sign.{hasMinus, afterSign}
-use Rattle.digits.specs.Zeros.{dropLeadingZeros, before, dropTrailingZeros}
+use Rattle.base.specs.Trimmed.{dropLeading, keptBefore, dropTrailing}
 use Rattle.digits.specs.Coordinate.{wholeOf, coordinateOf}
 use Rattle.digits.specs.Natural.{naturalOf}
 use Rattle.decimal.specs.Point.{beforePoint, afterPoint}
@@ -17,6 +16,6 @@ use Rattle.worked.specs.Written.{worth, table, read}
 
 pub written-numbers : map read table ≡ table
 unfolding read table worth
-    bytes isDigit allDigits isNumber valueOf hasMinus afterSign dropLeadingZeros before dropTrailingZeros beforePoint afterPoint
+    isDigit allDigits isNumber valueOf hasMinus afterSign dropLeading keptBefore dropTrailing beforePoint afterPoint
     wholeOf coordinateOf naturalOf isDecimal inMillionths amountOf numeralOf decimalOf signed _and_ _or_
 written-numbers = refl

@@ -5,7 +5,6 @@ use Prim.Native.String.{String}
 use mathlib.Core.Bool.{cond}
 use mathlib.Core.List.{List}
 use lib.IntN.{ℤ}
-use Rattle.base.specs.Text.{bytes}
 use Rattle.points.specs.Points.{pt}
 use Rattle.points.specs.declared.Point.{Point}
 use Rattle.text.specs.Text.{text}
@@ -54,7 +53,7 @@ worth decimal.TooLong f = unread
 worth (decimal.Value a) f = f (a .millionths)
 
 unfoldable pub reading : String → (ℤ → Answer) → Answer
-reading s f = worth (decimalOf (bytes s)) f
+reading s f = worth (decimalOf (text s)) f
 
 unfoldable pub readingAt : At → (Point → Answer) → Answer
 readingAt (at x y) f = reading x (λ a. reading y (λ b. f (pt a b)))

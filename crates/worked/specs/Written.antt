@@ -4,7 +4,7 @@ use Prim.Native.Nat.{ℕ}
 use Prim.Native.String.{String}
 use mathlib.Core.List.{List, [], _∷_}
 use lib.IntN.{ℤ, pos, negℤ}
-use Rattle.base.specs.Text.{bytes}
+use Rattle.text.specs.Text.{text}
 use Rattle.digits.specs.Coordinate.{coordinateOf}
 use Rattle.digits.specs.Natural.{naturalOf}
 use Rattle.digits.specs.declared.answers.Coordinate.{Coordinate}
@@ -58,6 +58,6 @@ table =
 
 -- the row as the definitions have it
 unfoldable pub read : Row → Row
-read (decimal-says s r) = decimal-says s (decimalOf (bytes s))
-read (coordinate-says s n r) = coordinate-says s n (coordinateOf (bytes s) n)
-read (natural-says s r) = natural-says s (naturalOf (bytes s))
+read (decimal-says s r) = decimal-says s (decimalOf (text s))
+read (coordinate-says s n r) = coordinate-says s n (coordinateOf (text s) n)
+read (natural-says s r) = natural-says s (naturalOf (text s))

@@ -1,8 +1,9 @@
 -- `apertures::parameters_of` meets its contract. The loop's invariant: what is gathered, with the parameters from here on, is what all
 -- of them come to; no more of them are counted than bytes were passed.
 -- Assumes nothing.
-use Rattle.apertures.proofs.Texts.{gather-next, gather-end}
-use Rattle.apertures.specs.Parameters.{texts, more, gathered, parametersOf}
+use Rattle.apertures.proofs.Gathered.{gather-next, gather-end}
+use Rattle.apertures.specs.Parameters.{more, gathered, parametersOf}
+use Rattle.text.specs.Pieces.{pieces}
 use Rattle.text.proofs.First.{first-from}
 use borrow.Author.Needs.{needs}
 use native.Mathlib.Omega.{arith}
@@ -15,7 +16,7 @@ use Rattle.apertures.proofs.parameters_of.Statement.{statement}
 use Rattle.apertures.proofs.parameters_of.Tie as tie
 
 abbrev Inv-loop : tie.InvT-loop
-Inv-loop s comma formless₀ long₀ count₀ at₀ formless long count at = (gathered (record { formless = formless; long = long; count = count }) (texts (drop at s)) ≡ parametersOf (drop comma s)) × (count ≤ at)
+Inv-loop s comma formless₀ long₀ count₀ at₀ formless long count at = (gathered (record { formless = formless; long = long; count = count }) (pieces (code "X") (drop at s)) ≡ parametersOf (drop comma s)) × (count ≤ at)
 
 abbrev μ-loop : tie.MeasureT-loop
 μ-loop s comma formless₀ long₀ count₀ at₀ formless long count at = length s - at

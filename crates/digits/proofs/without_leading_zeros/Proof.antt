@@ -3,7 +3,8 @@ use Prim.Native.Nat.{_-_}
 use mathlib.Core.Path.{_≡_, refl, sym, _∙_}
 use lib.ListN.{length, drop}
 use Rattle.digits.specs.Zeros.{dropLeadingZeros}
-use Rattle.digits.proofs.Zeros.{leading-goes, leading-stops, leading-ends}
+use Rattle.base.proofs.Trimmed.{leading-goes, leading-stops, leading-ends}
+use borrow.Author.Tests.{eq-eqb, ne-eqb}
 use native.Mathlib.Omega.{arith}
 use Rattle.digits.proofs.without_leading_zeros.Statement.{statement}
 use Rattle.digits.proofs.without_leading_zeros.Tie as tie
@@ -24,7 +25,7 @@ from-on-requires : tie.Need-from-on-requires Inv-loop μ-loop
 from-on-requires c κs = tt
 
 returns : tie.Need-returns Inv-loop μ-loop
-returns c = c .from-on .ensures ∙ sym (leading-stops _ _ (c .before .before .before .loop-test .taken) (c .before .if1 .taken)) ∙ c .before .before .before .before .loop .inv
+returns c = c .from-on .ensures ∙ sym (leading-stops _ _ _ (c .before .before .before .loop-test .taken) (ne-eqb _ 48 (c .before .if1 .taken))) ∙ c .before .before .before .before .loop .inv
 
 add-i : tie.Need-add-i Inv-loop μ-loop
 add-i c = omega arith
@@ -33,13 +34,13 @@ loop-less : tie.Need-loop-less Inv-loop μ-loop
 loop-less c = omega arith
 
 loop-again : tie.Need-loop-again Inv-loop μ-loop
-loop-again c = sym (leading-goes _ _ (c .before .before .loop-test .taken) (c .if1 .left)) ∙ c .before .before .before .loop .inv
+loop-again c = sym (leading-goes _ _ _ (c .before .before .loop-test .taken) (eq-eqb _ 48 (c .if1 .left))) ∙ c .before .before .before .loop .inv
 
 from-on-requires-2 : tie.Need-from-on-requires-2 Inv-loop μ-loop
 from-on-requires-2 c κs = tt
 
 returns-2 : tie.Need-returns-2 Inv-loop μ-loop
-returns-2 c = c .from-on2 .ensures ∙ sym (leading-ends _ _ (c .before .loop-test .left)) ∙ c .before .before .loop .inv
+returns-2 c = c .from-on2 .ensures ∙ sym (leading-ends _ _ _ (c .before .loop-test .left)) ∙ c .before .before .loop .inv
 
 pub without-leading-zeros-spec : {M : Type 1} → statement M
 without-leading-zeros-spec =

@@ -4,7 +4,8 @@ use mathlib.Core.Path.{_≡_, sym, ap, _∙_}
 use lib.ListN.{length, take}
 use lib.Seq.{take-length}
 use Rattle.digits.specs.Zeros.{dropTrailingZeros}
-use Rattle.digits.proofs.Zeros.{trailing-goes, trailing-stops, trailing-none}
+use Rattle.base.proofs.Trimmed.{trailing-goes, trailing-stops, trailing-none}
+use borrow.Author.Tests.{eq-eqb, ne-eqb}
 use native.Mathlib.Omega.{arith}
 use Rattle.digits.proofs.without_trailing_zeros.Statement.{statement}
 use Rattle.digits.proofs.without_trailing_zeros.Tie as tie
@@ -29,7 +30,7 @@ up-to-requires c κs = tt
 
 returns : tie.Need-returns Inv-loop μ-loop
 returns c = let l = c .before .before .before .before .loop in
-    c .up-to .ensures ∙ sym (trailing-stops _ _ (c .before .before .before .loop-test .taken) (l .inv .0) (c .before .if1 .taken)) ∙ l .inv .1
+    c .up-to .ensures ∙ sym (trailing-stops _ _ _ (c .before .before .before .loop-test .taken) (l .inv .0) (ne-eqb _ 48 (c .before .if1 .taken))) ∙ l .inv .1
 
 sub-n : tie.Need-sub-n Inv-loop μ-loop
 sub-n c = omega arith
@@ -39,13 +40,13 @@ loop-less c = omega arith
 
 loop-again : tie.Need-loop-again Inv-loop μ-loop
 loop-again c = let l = c .before .before .before .loop in
-    (omega arith, sym (trailing-goes _ _ (c .before .before .loop-test .taken) (l .inv .0) (c .if1 .left)) ∙ l .inv .1)
+    (omega arith, sym (trailing-goes _ _ _ (c .before .before .loop-test .taken) (l .inv .0) (eq-eqb _ 48 (c .if1 .left))) ∙ l .inv .1)
 
 up-to-requires-2 : tie.Need-up-to-requires-2 Inv-loop μ-loop
 up-to-requires-2 c κs = tt
 
 returns-2 : tie.Need-returns-2 Inv-loop μ-loop
-returns-2 c = c .up-to2 .ensures ∙ sym (trailing-none _ _ (c .before .loop-test .left)) ∙ c .before .before .loop .inv .1
+returns-2 c = c .up-to2 .ensures ∙ sym (trailing-none _ _ _ (c .before .loop-test .left)) ∙ c .before .before .loop .inv .1
 
 pub without-trailing-zeros-spec : {M : Type 1} → statement M
 without-trailing-zeros-spec =

@@ -4,7 +4,7 @@ use Rattle.macros.specs.Given.{given, variablesOf}
 use Rattle.macros.proofs.Settled.{fits-set, fits-none, given-next, given-end}
 use Rattle.expression.specs.Reading.{Fits}
 use Rattle.expression.proofs.Sizes.{sized-small}
-use Rattle.tokens.specs.Pieces.{pieces}
+use Rattle.text.specs.Pieces.{pieces}
 use Rattle.text.proofs.First.{first-from}
 use lib.Dec.{eqb}
 use lib.ListN.{length, drop, set}

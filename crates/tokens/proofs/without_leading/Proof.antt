@@ -3,8 +3,9 @@
 use Prim.Native.Nat.{_-_}
 use mathlib.Core.Path.{_≡_, refl, sym, _∙_}
 use lib.ListN.{length, drop}
+use Rattle.base.specs.Breaks.{isBreak}
 use Rattle.tokens.specs.LineEnds.{withoutLeading}
-use Rattle.tokens.proofs.LineEnds.{leading-goes, leading-stops, leading-ends}
+use Rattle.base.proofs.Trimmed.{leading-goes, leading-stops, leading-ends}
 use native.Mathlib.Omega.{arith}
 use Rattle.tokens.proofs.without_leading.Statement.{statement}
 use Rattle.tokens.proofs.without_leading.Tie as tie
@@ -18,11 +19,11 @@ abbrev μ-loop : tie.MeasureT-loop
 loop-holds : tie.Need-loop-holds Inv-loop μ-loop
 loop-holds c = refl
 
-shared-slice-read-is-line-end : tie.Need-shared-slice-read-is-line-end Inv-loop μ-loop
-shared-slice-read-is-line-end c = omega arith
+shared-slice-read-is-break : tie.Need-shared-slice-read-is-break Inv-loop μ-loop
+shared-slice-read-is-break c = omega arith
 
-is-line-end-requires : tie.Need-is-line-end-requires Inv-loop μ-loop
-is-line-end-requires c κs = tt
+is-break-requires : tie.Need-is-break-requires Inv-loop μ-loop
+is-break-requires c κs = tt
 
 add-i : tie.Need-add-i Inv-loop μ-loop
 add-i c = omega arith
@@ -31,19 +32,19 @@ loop-less : tie.Need-loop-less Inv-loop μ-loop
 loop-less c = omega arith
 
 loop-again : tie.Need-loop-again Inv-loop μ-loop
-loop-again c = sym (leading-goes _ _ (c .before .before .before .loop-test .taken) (sym (c .before .is-line-end .ensures) ∙ c .if1 .taken)) ∙ c .before .before .before .before .loop .inv
+loop-again c = sym (leading-goes isBreak _ _ (c .before .before .before .loop-test .taken) (sym (c .before .is-break .ensures) ∙ c .if1 .taken)) ∙ c .before .before .before .before .loop .inv
 
 from-on-requires : tie.Need-from-on-requires Inv-loop μ-loop
 from-on-requires c κs = tt
 
 returns : tie.Need-returns Inv-loop μ-loop
-returns c = c .from-on .ensures ∙ sym (leading-stops _ _ (c .before .before .before .before .loop-test .taken) (sym (c .before .before .is-line-end .ensures) ∙ c .before .if1 .left)) ∙ c .before .before .before .before .before .loop .inv
+returns c = c .from-on .ensures ∙ sym (leading-stops isBreak _ _ (c .before .before .before .before .loop-test .taken) (sym (c .before .before .is-break .ensures) ∙ c .before .if1 .left)) ∙ c .before .before .before .before .before .loop .inv
 
 from-on-requires-2 : tie.Need-from-on-requires-2 Inv-loop μ-loop
 from-on-requires-2 c κs = tt
 
 returns-2 : tie.Need-returns-2 Inv-loop μ-loop
-returns-2 c = c .from-on2 .ensures ∙ sym (leading-ends _ _ (c .before .loop-test .left)) ∙ c .before .before .loop .inv
+returns-2 c = c .from-on2 .ensures ∙ sym (leading-ends isBreak _ _ (c .before .loop-test .left)) ∙ c .before .before .loop .inv
 
 pub without-leading-spec : {M : Type 1} → statement M
 without-leading-spec =
@@ -52,8 +53,8 @@ without-leading-spec =
     Inv-loop
     μ-loop
     loop-holds
-    shared-slice-read-is-line-end
-    is-line-end-requires
+    shared-slice-read-is-break
+    is-break-requires
     add-i
     loop-less
     loop-again
