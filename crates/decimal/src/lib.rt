@@ -5,6 +5,7 @@ ghost use Prim.Native.Nat.{_≤_, _^_};
 ghost use lib.ListN.{length, take, drop};
 ghost use lib.Seq.{slice};
 ghost use Rattle.digits.specs.Digits.{allDigits};
+ghost use Rattle.decimal.specs.Amounts.{atLeastZero, aboveZero};
 ghost use Rattle.decimal.specs.Point.{beforePoint, afterPoint};
 ghost use Rattle.decimal.specs.Decimal.{isDecimal, inMillionths, amountOf, numeralOf, decimalOf};
 
@@ -100,4 +101,18 @@ pub fn decimal(s: &[u8], from: usize, to: usize) -> Decimal
     let whole = base::up_to(rest, at);
     let fraction = base::from_on(base::from_on(rest, at), 1);
     numeral(digits::has_minus(text), whole, fraction)
+}
+
+// At least 0.
+pub fn at_least_zero(a: Amount) -> bool
+    ensures { λ r. ⌜ r ≡ atLeastZero a ⌝ }
+{
+    !ints::negative(a.millionths)
+}
+
+// Above 0.
+pub fn above_zero(a: Amount) -> bool
+    ensures { λ r. ⌜ r ≡ aboveZero a ⌝ }
+{
+    base::both(at_least_zero(a), ints::size(a.millionths) >= 1)
 }

@@ -2,21 +2,19 @@
 -- Exposure is 0 or 1; polygon vertices whole, 3 to 12; diameters, widths, heights at least 0; thermal outer above inner, inner at least
 -- 0, gap at least 0 and twice the gap's square below the outer's. Other codes are 10." (01, Macros; decisions 63 and 73 to 75)
 use Prim.Native.Nat.{ℕ, _+_, _*_, _/_, _%_}
-use mathlib.Core.Bool.{Bool, false, not}
+use mathlib.Core.Bool.{Bool, false}
 use mathlib.Core.List.{List, [], _∷_}
 use lib.Dec.{eqb, leb}
 use lib.IntN.{natAbs}
 use Rattle.base.specs.And.{_and_}
 use Rattle.base.specs.Or.{_or_}
-use Rattle.ints.specs.Ints.{isNeg, eqZ}
+use Rattle.ints.specs.Ints.{eqZ}
 use Rattle.text.specs.Text.{_is_}
 use Rattle.command.specs.Choose.{choose}
+use Rattle.decimal.specs.Amounts.{atLeastZero}
 use Rattle.decimal.specs.declared.answers.Amount.{Amount}
 use Rattle.reckon.specs.Thermal.{thermalFits}
 use Rattle.primitives.specs.declared.Asked.{Asked}
-
-abbrev pub atLeastZero : Amount → Bool
-atLeastZero a = not (isNeg (a .millionths))
 
 unfoldable pub exposure : Amount → Bool
 exposure a = atLeastZero a and (eqb (natAbs (a .millionths)) 0 or eqb (natAbs (a .millionths)) 1000000)

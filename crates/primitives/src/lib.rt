@@ -3,7 +3,7 @@ ghost use mathlib.Core.Path.{_≡_};
 ghost use mathlib.Core.Bool.{cond};
 ghost use Prim.Native.Nat.{_+_, _<_, _^_};
 ghost use lib.IntN.{natAbs};
-ghost use Rattle.ints.specs.Ints.{isNeg, eqZ};
+ghost use Rattle.ints.specs.Ints.{eqZ};
 ghost use Rattle.reckon.specs.Thermal.{thermalFits};
 ghost use Rattle.primitives.specs.Asked.{none, added};
 ghost use Rattle.primitives.specs.Rules.{exposure, wholeBetween, circle, vectorLine, centerLine, outline, polygon, thermal, codeOf, keeps};
@@ -75,13 +75,6 @@ pub fn one_more(q: Asked, a: Amount) -> Asked
     }
 }
 
-// Below zero.
-pub fn negative(a: Amount) -> bool
-    ensures { λ r. ⌜ r ≡ isNeg (a .millionths) ⌝ }
-{
-    ints::negative(a.millionths)
-}
-
 // Without its sign.
 fn size(a: Amount) -> u64
     ensures { λ r. ⌜ r ≡ natAbs (a .millionths) ⌝ }
@@ -101,7 +94,10 @@ fn is_exposure(a: Amount) -> bool
     ensures { λ r. ⌜ r ≡ exposure a ⌝ }
 {
     let n = size(a);
-    base::both(!negative(a), base::either(n == 0, n == 1000000))
+    base::both(
+        decimal::at_least_zero(a),
+        base::either(n == 0, n == 1000000),
+    )
 }
 
 // Whole, and from low to high, in millionths.
@@ -110,7 +106,7 @@ pub fn whole_between(a: Amount, low: u64, high: u64) -> bool
 {
     let n = size(a);
     base::both(
-        base::both(!negative(a), n % 1000000 == 0),
+        base::both(decimal::at_least_zero(a), n % 1000000 == 0),
         base::both(low <= n, n <= high),
     )
 }
@@ -123,7 +119,7 @@ fn is_circle(q: Asked) -> bool
     let diameter = q.second;
     base::both(
         base::either(q.count == 4, q.count == 5),
-        base::both(is_exposure(visible), !negative(diameter)),
+        base::both(is_exposure(visible), decimal::at_least_zero(diameter)),
     )
 }
 
@@ -135,7 +131,7 @@ fn is_vector_line(q: Asked) -> bool
     let width = q.second;
     base::both(
         q.count == 7,
-        base::both(is_exposure(visible), !negative(width)),
+        base::both(is_exposure(visible), decimal::at_least_zero(width)),
     )
 }
 
@@ -148,7 +144,10 @@ fn is_center_line(q: Asked) -> bool
     let height = q.third;
     base::both(
         base::both(q.count == 6, is_exposure(visible)),
-        base::both(!negative(width), !negative(height)),
+        base::both(
+            decimal::at_least_zero(width),
+            decimal::at_least_zero(height),
+        ),
     )
 }
 
@@ -183,7 +182,7 @@ fn is_polygon(q: Asked) -> bool
         base::both(q.count == 6, is_exposure(visible)),
         base::both(
             whole_between(vertices, 3000000, 12000000),
-            !negative(diameter),
+            decimal::at_least_zero(diameter),
         ),
     )
 }
@@ -192,10 +191,10 @@ fn is_polygon(q: Asked) -> bool
 fn fits(outer: Amount, inner: Amount, gap: Amount) -> bool
     ensures { λ r. ⌜ r ≡ thermalFits (outer .millionths) (inner .millionths) (gap .millionths) ⌝ }
 {
-    if negative(gap) {
-        return false;
+    if decimal::at_least_zero(gap) {
+        return reckon::thermal_fits(outer.millionths, inner.millionths, gap.millionths);
     }
-    reckon::thermal_fits(outer.millionths, inner.millionths, gap.millionths)
+    false
 }
 
 // Code 7.

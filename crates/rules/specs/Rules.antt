@@ -5,13 +5,13 @@ use mathlib.Core.Bool.{Bool, not}
 use mathlib.Core.List.{[], _∷_}
 use lib.Dec.{eqb, leb}
 use Rattle.base.specs.Or.{_or_}
+use Rattle.decimal.specs.Amounts.{aboveZero}
 use Rattle.decimal.specs.declared.answers.Amount.{Amount}
 use Rattle.graphics.specs.declared.Graphics.{Graphics}
 use Rattle.fits.specs.Fits.{unready}
 use Rattle.fits.specs.Level.{topLevel}
 use Rattle.fits.specs.declared.Level.{Level}
 use Rattle.drawing.specs.Faults.{firstFault}
-use Rattle.rules.specs.Bounds.{isAbove}
 
 -- "In a region only G01, G02, G03, G75, G04, D01, D02, G37": G36, LP, LM, LR, TA, TO and TD have this rule alone
 unfoldable pub regionFault : Graphics → ℕ
@@ -26,7 +26,7 @@ unitFault g = firstFault ((not (eqb (g .format .unit) 0), 6) ∷ (g .region .on,
 
 -- LS
 unfoldable pub scaleFault : Graphics → Amount → ℕ
-scaleFault g a = firstFault ((g .region .on, 7) ∷ (not (isAbove a), 10) ∷ [])
+scaleFault g a = firstFault ((g .region .on, 7) ∷ (not (aboveZero a), 10) ∷ [])
 
 -- Dn: the number of a closed block or another aperture (decision 79)
 unfoldable pub selectFault : Graphics → Bool → ℕ

@@ -1,17 +1,10 @@
 // The rules of every command but D01, D02, D03 and G37: the number of the first that is broken, 0 where all are kept.
 ghost use mathlib.Core.Path.{_≡_};
-ghost use Rattle.rules.specs.Bounds.{isAbove, isCount, isStep, isRepeat};
+ghost use Rattle.rules.specs.Bounds.{isCount, isRepeat};
 ghost use Rattle.rules.specs.Rules.{regionFault, formatFault, unitFault, scaleFault, selectFault, apertureFault, macroFault, blockStartFault, closingFault, repeatStartFault, fileAttributeFault, endFault};
 use decimal::Amount;
 use fits::Level;
 use graphics::Graphics;
-
-// The scale of LS is above 0.
-pub fn is_above(a: Amount) -> bool
-    ensures { λ r. ⌜ r ≡ isAbove a ⌝ }
-{
-    base::both(!ints::negative(a.millionths), ints::size(a.millionths) >= 1)
-}
 
 // A number of copies of SR.
 fn is_count(n: u64) -> bool
@@ -20,20 +13,13 @@ fn is_count(n: u64) -> bool
     base::both(n >= 1, n <= 9999)
 }
 
-// A step of SR.
-fn is_step(a: Amount) -> bool
-    ensures { λ r. ⌜ r ≡ isStep a ⌝ }
-{
-    !ints::negative(a.millionths)
-}
-
 // SR keeps its bounds.
 pub fn is_repeat(nx: u64, ny: u64, dx: Amount, dy: Amount) -> bool
     ensures { λ r. ⌜ r ≡ isRepeat nx ny dx dy ⌝ }
 {
     base::both(
         base::both(is_count(nx), is_count(ny)),
-        base::both(is_step(dx), is_step(dy)),
+        base::both(decimal::at_least_zero(dx), decimal::at_least_zero(dy)),
     )
 }
 
@@ -62,7 +48,11 @@ pub fn unit_fault(g: Graphics) -> u64
 pub fn scale_fault(g: Graphics, a: Amount) -> u64
     ensures { λ r. ⌜ r ≡ scaleFault g a ⌝ }
 {
-    drawing::fault(g.region.on, 7, drawing::fault(!is_above(a), 10, 0))
+    drawing::fault(
+        g.region.on,
+        7,
+        drawing::fault(!decimal::above_zero(a), 10, 0),
+    )
 }
 
 // Dn, whose aperture is known and closed or not.

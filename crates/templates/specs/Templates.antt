@@ -8,24 +8,24 @@ use Rattle.base.specs.And.{_and_}
 use Rattle.base.specs.Or.{_or_}
 use Rattle.text.specs.Text.{_is_}
 use Rattle.command.specs.Choose.{choose}
+use Rattle.decimal.specs.Amounts.{atLeastZero, aboveZero}
 use Rattle.decimal.specs.declared.answers.Amount.{Amount}
-use Rattle.primitives.specs.Rules.{atLeastZero, wholeBetween}
+use Rattle.primitives.specs.Rules.{wholeBetween}
 use Rattle.primitives.specs.declared.Asked.{Asked}
-use Rattle.rules.specs.Bounds.{isAbove}
 
 -- so many parameters, and perhaps a hole diameter above 0 behind them
 unfoldable pub withHole : ℕ → Asked → Amount → Bool
-withHole n q hole = eqb (q .count) n or (eqb (q .count) (n + 1) and isAbove hole)
+withHole n q hole = eqb (q .count) n or (eqb (q .count) (n + 1) and aboveZero hole)
 
 unfoldable pub circle : Asked → Bool
 circle q = atLeastZero (q .first) and withHole 1 q (q .second)
 
 unfoldable pub rectangle : Asked → Bool
-rectangle q = isAbove (q .first) and isAbove (q .second) and withHole 2 q (q .third)
+rectangle q = aboveZero (q .first) and aboveZero (q .second) and withHole 2 q (q .third)
 
 unfoldable pub polygon : Asked → Bool
 polygon q =
-    isAbove (q .first) and wholeBetween 3000000 12000000 (q .second) and (eqb (q .count) 2 or withHole 3 q (q .fourth))
+    aboveZero (q .first) and wholeBetween 3000000 12000000 (q .second) and (eqb (q .count) 2 or withHole 3 q (q .fourth))
 
 -- the kind of an aperture, as its record keeps it: 5 where the name is a macro's
 unfoldable pub kindOf : List ℕ → ℕ

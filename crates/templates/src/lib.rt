@@ -12,7 +12,7 @@ fn with_hole(n: u64, q: Asked, hole: Amount) -> bool
 {
     base::either(
         q.count == n,
-        base::both(q.count == n + 1, rules::is_above(hole)),
+        base::both(q.count == n + 1, decimal::above_zero(hole)),
     )
 }
 
@@ -21,7 +21,7 @@ fn is_circle(q: Asked) -> bool
 {
     let diameter = q.first;
     let hole = q.second;
-    base::both(!primitives::negative(diameter), with_hole(1, q, hole))
+    base::both(decimal::at_least_zero(diameter), with_hole(1, q, hole))
 }
 
 fn is_rectangle(q: Asked) -> bool
@@ -30,7 +30,7 @@ fn is_rectangle(q: Asked) -> bool
     let width = q.first;
     let height = q.second;
     let hole = q.third;
-    let sizes = base::both(rules::is_above(width), rules::is_above(height));
+    let sizes = base::both(decimal::above_zero(width), decimal::above_zero(height));
     base::both(sizes, with_hole(2, q, hole))
 }
 
@@ -41,7 +41,7 @@ fn is_polygon(q: Asked) -> bool
     let vertices = q.second;
     let hole = q.fourth;
     let shape = base::both(
-        rules::is_above(diameter),
+        decimal::above_zero(diameter),
         primitives::whole_between(vertices, 3000000, 12000000),
     );
     base::both(shape, base::either(q.count == 2, with_hole(3, q, hole)))

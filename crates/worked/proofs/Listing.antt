@@ -53,7 +53,8 @@ use Rattle.fits.specs.Fits.{isMissing, unready, placeless, brushless, circular,
 use Rattle.fits.specs.Fits as fits-Fits
 use Rattle.drawing.specs.Counts.{counted, tooMany}
 use Rattle.drawing.specs.Faults.{drawItems, drawFault, moveFault, flashItems, flashFault, regionEndFault}
-use Rattle.rules.specs.Bounds.{isAbove, isCount, isStep, isRepeat}
+use Rattle.rules.specs.Bounds.{isCount, isRepeat}
+use Rattle.decimal.specs.Amounts.{aboveZero}
 use Rattle.rules.specs.Rules.{regionFault, formatFault, unitFault, scaleFault, selectFault, apertureFault, macroFault, blockStartFault, closingFault, repeatStartFault, fileAttributeFault, endFault}
 use Rattle.marks.specs.Items.{arcCentre, drawn, edge, contour, flashed, pose}
 use Rattle.marks.specs.Marks.{drawMarks, flashMarks, marksOf}
@@ -127,7 +128,7 @@ unfolding answer said listed ample strip item output xor run
     fits-Fits.offsetOf
     counted tooMany
     drawItems drawFault moveFault flashItems flashFault regionEndFault
-    isAbove isCount isStep isRepeat
+    aboveZero isCount isRepeat
     regionFault formatFault unitFault scaleFault selectFault apertureFault macroFault blockStartFault closingFault repeatStartFault fileAttributeFault endFault
     arcCentre drawn edge contour flashed pose
     drawMarks flashMarks marksOf

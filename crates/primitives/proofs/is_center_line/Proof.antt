@@ -11,11 +11,11 @@ is-exposure-requires c κs = search needs
 both-requires : tie.Need-both-requires
 both-requires c κs = search needs
 
-negative-requires : tie.Need-negative-requires
-negative-requires c κs = search needs
+at-least-zero-requires : tie.Need-at-least-zero-requires
+at-least-zero-requires c κs = search needs
 
-negative-requires-2 : tie.Need-negative-requires-2
-negative-requires-2 c κs = search needs
+at-least-zero-requires-2 : tie.Need-at-least-zero-requires-2
+at-least-zero-requires-2 c κs = search needs
 
 both-requires-2 : tie.Need-both-requires-2
 both-requires-2 c κs = search needs
@@ -33,8 +33,8 @@ is-center-line-spec =
     (tie.spec
     is-exposure-requires
     both-requires
-    negative-requires
-    negative-requires-2
+    at-least-zero-requires
+    at-least-zero-requires-2
     both-requires-2
     both-requires-3
     returns)

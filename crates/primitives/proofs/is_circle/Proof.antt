@@ -11,8 +11,8 @@ either-requires c κs = search needs
 is-exposure-requires : tie.Need-is-exposure-requires
 is-exposure-requires c κs = search needs
 
-negative-requires : tie.Need-negative-requires
-negative-requires c κs = search needs
+at-least-zero-requires : tie.Need-at-least-zero-requires
+at-least-zero-requires c κs = search needs
 
 both-requires : tie.Need-both-requires
 both-requires c κs = search needs
@@ -30,7 +30,7 @@ is-circle-spec =
     (tie.spec
     either-requires
     is-exposure-requires
-    negative-requires
+    at-least-zero-requires
     both-requires
     both-requires-2
     returns)

@@ -8,8 +8,8 @@ use Rattle.primitives.proofs.is_exposure.Tie as tie
 size-requires : tie.Need-size-requires
 size-requires c κs = search needs
 
-negative-requires : tie.Need-negative-requires
-negative-requires c κs = search needs
+at-least-zero-requires : tie.Need-at-least-zero-requires
+at-least-zero-requires c κs = search needs
 
 either-requires : tie.Need-either-requires
 either-requires c κs = search needs
@@ -23,4 +23,4 @@ returns c = cc
 
 pub is-exposure-spec : {M : Type 1} → statement M
 is-exposure-spec =
-    tie.close (tie.spec size-requires negative-requires either-requires both-requires returns)
+    tie.close (tie.spec size-requires at-least-zero-requires either-requires both-requires returns)

@@ -14,8 +14,8 @@ both-requires c κs = search needs
 whole-between-requires : tie.Need-whole-between-requires
 whole-between-requires c κs = search needs
 
-negative-requires : tie.Need-negative-requires
-negative-requires c κs = search needs
+at-least-zero-requires : tie.Need-at-least-zero-requires
+at-least-zero-requires c κs = search needs
 
 both-requires-2 : tie.Need-both-requires-2
 both-requires-2 c κs = search needs
@@ -34,7 +34,7 @@ is-polygon-spec =
     is-exposure-requires
     both-requires
     whole-between-requires
-    negative-requires
+    at-least-zero-requires
     both-requires-2
     both-requires-3
     returns)

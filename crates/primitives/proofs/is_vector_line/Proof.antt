@@ -8,8 +8,8 @@ use Rattle.primitives.proofs.is_vector_line.Tie as tie
 is-exposure-requires : tie.Need-is-exposure-requires
 is-exposure-requires c κs = search needs
 
-negative-requires : tie.Need-negative-requires
-negative-requires c κs = search needs
+at-least-zero-requires : tie.Need-at-least-zero-requires
+at-least-zero-requires c κs = search needs
 
 both-requires : tie.Need-both-requires
 both-requires c κs = search needs
@@ -24,4 +24,4 @@ returns c = cc
 pub is-vector-line-spec : {M : Type 1} → statement M
 is-vector-line-spec =
     tie.close
-    (tie.spec is-exposure-requires negative-requires both-requires both-requires-2 returns)
+    (tie.spec is-exposure-requires at-least-zero-requires both-requires both-requires-2 returns)

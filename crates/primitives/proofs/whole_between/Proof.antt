@@ -8,8 +8,8 @@ use Rattle.primitives.proofs.whole_between.Tie as tie
 size-requires : tie.Need-size-requires
 size-requires c κs = search needs
 
-negative-requires : tie.Need-negative-requires
-negative-requires c κs = search needs
+at-least-zero-requires : tie.Need-at-least-zero-requires
+at-least-zero-requires c κs = search needs
 
 both-requires : tie.Need-both-requires
 both-requires c κs = search needs
@@ -29,7 +29,7 @@ whole-between-spec =
     tie.close
     (tie.spec
     size-requires
-    negative-requires
+    at-least-zero-requires
     both-requires
     both-requires-2
     both-requires-3

@@ -13,11 +13,11 @@ is-count-requires-2 c κs = search needs
 both-requires : tie.Need-both-requires
 both-requires c κs = search needs
 
-is-step-requires : tie.Need-is-step-requires
-is-step-requires c κs = search needs
+at-least-zero-requires : tie.Need-at-least-zero-requires
+at-least-zero-requires c κs = search needs
 
-is-step-requires-2 : tie.Need-is-step-requires-2
-is-step-requires-2 c κs = search needs
+at-least-zero-requires-2 : tie.Need-at-least-zero-requires-2
+at-least-zero-requires-2 c κs = search needs
 
 both-requires-2 : tie.Need-both-requires-2
 both-requires-2 c κs = search needs
@@ -36,8 +36,8 @@ is-repeat-spec =
     is-count-requires
     is-count-requires-2
     both-requires
-    is-step-requires
-    is-step-requires-2
+    at-least-zero-requires
+    at-least-zero-requires-2
     both-requires-2
     both-requires-3
     returns)

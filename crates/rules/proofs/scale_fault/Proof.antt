@@ -4,8 +4,8 @@ use borrow.Author.Needs.{needs}
 use Rattle.rules.proofs.scale_fault.Statement.{statement}
 use Rattle.rules.proofs.scale_fault.Tie as tie
 
-is-above-requires : tie.Need-is-above-requires
-is-above-requires c κs = search needs
+above-zero-requires : tie.Need-above-zero-requires
+above-zero-requires c κs = search needs
 
 fault-requires : tie.Need-fault-requires
 fault-requires c κs = search needs
@@ -18,4 +18,4 @@ unfolding scaleFault
 returns c = cc
 
 pub scale-fault-spec : {M : Type 1} → statement M
-scale-fault-spec = tie.close (tie.spec is-above-requires fault-requires fault-requires-2 returns)
+scale-fault-spec = tie.close (tie.spec above-zero-requires fault-requires fault-requires-2 returns)

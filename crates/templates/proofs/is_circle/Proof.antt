@@ -4,8 +4,8 @@ use borrow.Author.Needs.{needs}
 use Rattle.templates.proofs.is_circle.Statement.{statement}
 use Rattle.templates.proofs.is_circle.Tie as tie
 
-negative-requires : tie.Need-negative-requires
-negative-requires c κs = search needs
+at-least-zero-requires : tie.Need-at-least-zero-requires
+at-least-zero-requires c κs = search needs
 
 with-hole-requires : tie.Need-with-hole-requires
 with-hole-requires c κs = search needs
@@ -18,4 +18,4 @@ unfolding circle
 returns c = cc
 
 pub is-circle-spec : {M : Type 1} → statement M
-is-circle-spec = tie.close (tie.spec negative-requires with-hole-requires both-requires returns)
+is-circle-spec = tie.close (tie.spec at-least-zero-requires with-hole-requires both-requires returns)

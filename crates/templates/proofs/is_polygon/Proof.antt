@@ -4,8 +4,8 @@ use borrow.Author.Needs.{needs}
 use Rattle.templates.proofs.is_polygon.Statement.{statement}
 use Rattle.templates.proofs.is_polygon.Tie as tie
 
-is-above-requires : tie.Need-is-above-requires
-is-above-requires c κs = search needs
+above-zero-requires : tie.Need-above-zero-requires
+above-zero-requires c κs = search needs
 
 whole-between-requires : tie.Need-whole-between-requires
 whole-between-requires c κs = search needs
@@ -30,7 +30,7 @@ pub is-polygon-spec : {M : Type 1} → statement M
 is-polygon-spec =
     tie.close
     (tie.spec
-    is-above-requires
+    above-zero-requires
     whole-between-requires
     both-requires
     with-hole-requires

@@ -4,11 +4,11 @@ use borrow.Author.Needs.{needs}
 use Rattle.templates.proofs.is_rectangle.Statement.{statement}
 use Rattle.templates.proofs.is_rectangle.Tie as tie
 
-is-above-requires : tie.Need-is-above-requires
-is-above-requires c κs = search needs
+above-zero-requires : tie.Need-above-zero-requires
+above-zero-requires c κs = search needs
 
-is-above-requires-2 : tie.Need-is-above-requires-2
-is-above-requires-2 c κs = search needs
+above-zero-requires-2 : tie.Need-above-zero-requires-2
+above-zero-requires-2 c κs = search needs
 
 both-requires : tie.Need-both-requires
 both-requires c κs = search needs
@@ -27,8 +27,8 @@ pub is-rectangle-spec : {M : Type 1} → statement M
 is-rectangle-spec =
     tie.close
     (tie.spec
-    is-above-requires
-    is-above-requires-2
+    above-zero-requires
+    above-zero-requires-2
     both-requires
     with-hole-requires
     both-requires-2

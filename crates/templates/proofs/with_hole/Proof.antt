@@ -7,8 +7,8 @@ use Rattle.templates.proofs.with_hole.Tie as tie
 add-both : tie.Need-add-both
 add-both c = search needs
 
-is-above-requires : tie.Need-is-above-requires
-is-above-requires c κs = search needs
+above-zero-requires : tie.Need-above-zero-requires
+above-zero-requires c κs = search needs
 
 both-requires : tie.Need-both-requires
 both-requires c κs = search needs
@@ -22,4 +22,4 @@ returns c = cc
 
 pub with-hole-spec : {M : Type 1} → statement M
 with-hole-spec =
-    tie.close (tie.spec add-both is-above-requires both-requires either-requires returns)
+    tie.close (tie.spec add-both above-zero-requires both-requires either-requires returns)
