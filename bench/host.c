@@ -250,7 +250,7 @@ static void items(const char *name, struct text t, int singles)
             uint64_t last = total < 40 * sizes[i] ? total : 40 * sizes[i];
             double from = now();
             for (uint64_t k = 0; k < last; k += sizes[i])
-                sink += sheet_items(s.head, s.entries, s.e, s.apertures, s.a, k, out, sizes[i] * SHEET_ITEM_WORDS) + out[13];
+                sink += sheet_items(s.head, s.entries, s.e, s.apertures, s.a, k, out, sizes[i] * SHEET_ITEM_WORDS) + out[14];
             double took = (now() - from) / (double)last;
             run[i] = took < run[i] ? took : run[i];
         }

@@ -48,9 +48,9 @@ static void naive_turn(int64_t *x, int64_t *y, int flip, uint64_t angle, int64_t
     *x = a + dx, *y = b + dy;
 }
 
-/* Copies of the items from..to of a list, placed, at the end of another. */
+/* Copies of the items from..to of a list, placed, at the end of another; by a flash at a place, or by a repeat (-1). */
 static void naive_place(struct naive_list *out, const struct naive_list *in, size_t from, size_t to, int flip, int clear, uint64_t angle,
-                        int64_t dx, int64_t dy)
+                        int64_t dx, int64_t dy, int64_t flash)
 {
     for (size_t i = from; i < to; i++) {
         struct sheet_item t = in->at[i];
@@ -68,6 +68,8 @@ static void naive_place(struct naive_list *out, const struct naive_list *in, siz
             t.flip ^= (uint64_t)flip;
         }
         t.clear ^= (uint64_t)clear;
+        if (flash >= 0)
+            t.outer = (uint64_t)flash;
         *naive_add(out) = t;
     }
 }
@@ -132,11 +134,11 @@ static void naive_operation(struct naive *s, const uint8_t *p, const uint8_t *fi
         if (c == 'J') j = v;
     }
     int code = p[2] - '0';
-    struct sheet_item t = {0, 0, (uint64_t)s->clear, 0, 0, 1000000, 0, 0, 0, 0, 0, 0, 0, (uint64_t)(from - file)};
+    struct sheet_item t = {0, 0, (uint64_t)s->clear, 0, 0, 1000000, 0, 0, 0, 0, 0, 0, 0, (uint64_t)(from - file), (uint64_t)(from - file)};
     if (code == 1 || code == 3) {
         const struct naive_aperture *a = s->count ? &s->apertures[s->current] : NULL;
         if (code == 3 && a && a->is_block) {
-            naive_place(out, &a->block, 0, a->block.count, s->flip, s->clear, s->angle, x, y);
+            naive_place(out, &a->block, 0, a->block.count, s->flip, s->clear, s->angle, x, y, from - file);
         } else {
             if (s->region && s->edges == 0) {
                 struct sheet_item c = t;
@@ -204,7 +206,7 @@ static void naive_extended(struct naive *s, const uint8_t *p)
         struct naive_list body = s->levels[s->depth--];
         for (uint64_t x = 0; x < s->across; x++)
             for (uint64_t y = 0; y < s->up; y++)
-                naive_place(&s->levels[s->depth], &body, 0, body.count, 0, 0, 0, (int64_t)x * s->step_x, (int64_t)y * s->step_y);
+                naive_place(&s->levels[s->depth], &body, 0, body.count, 0, 0, 0, (int64_t)x * s->step_x, (int64_t)y * s->step_y, -1);
         free(body.at);
     } else if (p[0] == 'L' && p[1] == 'P') {
         s->clear = p[2] == 'C';

@@ -129,9 +129,9 @@ static int item_line(char *line, uint64_t k, const struct sheet_item *t)
                                         "contour", "edge-line", "edge-cw", "edge-ccw"};
     return snprintf(line, LINE,
                     "%" PRIu64 "\t%s\t%" PRIu64 "\t%s\t%" PRIu64 "\t%" PRIu64 "\t%" PRIu64 "\t%" PRId64 "\t%" PRId64 "\t%" PRId64
-                    "\t%" PRId64 "\t%" PRId64 "\t%" PRId64 "\t%" PRIu64 "\t%" PRIu64 "\n",
+                    "\t%" PRId64 "\t%" PRId64 "\t%" PRId64 "\t%" PRIu64 "\t%" PRIu64 "\t%" PRIu64 "\n",
                     k, kinds[t->kind <= 8 ? t->kind : 0], t->aperture, t->clear ? "clear" : "dark", t->flip, t->angle, t->scale,
-                    t->start_x, t->start_y, t->end_x, t->end_y, t->centre_x, t->centre_y, t->count, t->place);
+                    t->start_x, t->start_y, t->end_x, t->end_y, t->centre_x, t->centre_y, t->count, t->place, t->outer);
 }
 
 /* Hands the lines of items k up to `end` to a taker, run by run. */

@@ -78,7 +78,7 @@ enum sheet_kind {
 #define SHEET_ENTRY_WORDS 15
 #define SHEET_APERTURE_WORDS 8
 #define SHEET_MACRO_WORDS 8
-#define SHEET_ITEM_WORDS 14
+#define SHEET_ITEM_WORDS 15
 #define SHEET_FILE_LIMIT 16777216
 
 size_t sheet_entry_words(void);
@@ -96,7 +96,7 @@ enum sheet_head_word {
     SHEET_HEAD_TOTAL = 7        /* items of the sheet */
 };
 
-/* An item, as its fourteen words: a slot of the words lent to sheet_items or sheet_item can be read as one of these. Coordinates are
+/* An item, as its fifteen words: a slot of the words lent to sheet_items or sheet_item can be read as one of these. Coordinates are
  * in millionths of the unit, angles in millionths of a degree, the scale in millionths; unused fields are 0. */
 struct sheet_item {
     uint64_t kind;              /* enum sheet_kind */
@@ -110,12 +110,13 @@ struct sheet_item {
     int64_t centre_x, centre_y;
     uint64_t count;             /* a contour's edges */
     uint64_t place;             /* of the creating command in the file */
+    uint64_t outer;             /* of the outermost flash that put it there; its own place when it is in no block */
 };
 
 #ifdef __cplusplus
-static_assert(sizeof(struct sheet_item) == SHEET_ITEM_WORDS * sizeof(uint64_t), "an item is fourteen words");
+static_assert(sizeof(struct sheet_item) == SHEET_ITEM_WORDS * sizeof(uint64_t), "an item is fifteen words");
 #else
-_Static_assert(sizeof(struct sheet_item) == SHEET_ITEM_WORDS * sizeof(uint64_t), "an item is fourteen words");
+_Static_assert(sizeof(struct sheet_item) == SHEET_ITEM_WORDS * sizeof(uint64_t), "an item is fifteen words");
 #endif
 
 /* How many records to lend for a file of n bytes, so that reading never answers 17 for them.

@@ -239,21 +239,21 @@ static void any_order(const struct lent *l)
         state ^= state << 13, state ^= state >> 7, state ^= state << 17;
         uint64_t k = state % total, n = state / total % 90 + 1;
         soil(one, SHEET_ITEM_WORDS + 2);
-        expect(item_at(l, k, one, SHEET_ITEM_WORDS + 2) == 0 && zeros(one, 14, 16), "an item, and zeros behind it", k);
-        expect(memcmp(one, all + k * 14, 112) == 0, "an item is that of the run", k);
+        expect(item_at(l, k, one, SHEET_ITEM_WORDS + 2) == 0 && zeros(one, 15, 17), "an item, and zeros behind it", k);
+        expect(memcmp(one, all + k * 15, 120) == 0, "an item is that of the run", k);
         uint64_t here = n < total - k ? n : total - k;
         soil(some, 100 * SHEET_ITEM_WORDS);
-        expect(items_at(l, k, some, n * 14 + 5) == 0 && memcmp(some, all + k * 14, here * 112) == 0, "a run is that of the whole", k);
-        expect(zeros(some, here * 14, n * 14 + 5) && some[n * 14 + 5] == garbage, "past the total a run is zeros", k);
+        expect(items_at(l, k, some, n * 15 + 5) == 0 && memcmp(some, all + k * 15, here * 120) == 0, "a run is that of the whole", k);
+        expect(zeros(some, here * 15, n * 15 + 5) && some[n * 15 + 5] == garbage, "past the total a run is zeros", k);
     }
-    soil(one, 16);
-    expect(item_at(l, total, one, 14) == SHEET_PAST && zeros(one, 0, 14) && one[14] == garbage, "an item past the total", total);
-    expect(items_at(l, UINT64_MAX, some, 28) == SHEET_PAST && zeros(some, 0, 28), "a run past the total", total);
-    soil(one, 16);
-    expect(item_at(l, 0, one, 13) == SHEET_SHORT && zeros(one, 0, 13) && one[13] == garbage, "words too short for an item", 13);
-    expect(item_at(l, 0, one, 0) == SHEET_SHORT && one[13] == garbage, "no words for an item", 0);
-    soil(one, 16);
-    expect(items_at(l, 0, one, 13) == SHEET_SHORT && zeros(one, 0, 13) && one[13] == garbage, "words too short for a run", 13);
+    soil(one, 17);
+    expect(item_at(l, total, one, 15) == SHEET_PAST && zeros(one, 0, 15) && one[15] == garbage, "an item past the total", total);
+    expect(items_at(l, UINT64_MAX, some, 30) == SHEET_PAST && zeros(some, 0, 30), "a run past the total", total);
+    soil(one, 17);
+    expect(item_at(l, 0, one, 14) == SHEET_SHORT && zeros(one, 0, 14) && one[14] == garbage, "words too short for an item", 14);
+    expect(item_at(l, 0, one, 0) == SHEET_SHORT && one[14] == garbage, "no words for an item", 0);
+    soil(one, 17);
+    expect(items_at(l, 0, one, 14) == SHEET_SHORT && zeros(one, 0, 14) && one[14] == garbage, "words too short for a run", 14);
 }
 
 /* The items that a store's own words put out, as docs/SHEET.md has it: each container entry by entry, copies written out. */
@@ -300,14 +300,14 @@ static void put_out(struct put *out, const struct lent *l, uint64_t first, uint6
         size_t from = out->count;
         if (w[0] <= 8 && out->count < SLOTS) {
             struct sheet_item t = {w[0], w[2], w[3], w[4], w[5], w[6], (int64_t)w[7], (int64_t)w[8], (int64_t)w[9], (int64_t)w[10],
-                                   (int64_t)w[11], (int64_t)w[12], w[13], w[14]};
+                                   (int64_t)w[11], (int64_t)w[12], w[13], w[14], w[14]};
             out->items[out->count++] = t;
         } else if (w[0] == 9) {
             const uint64_t *a = l->apertures + w[2] * 8;
             struct pose p = {(int)w[4], (int)w[3], w[5], (int64_t)w[9], (int64_t)w[10]};
             put_out(out, l, a[2], a[3]);
             for (size_t j = from; j < out->count; j++)
-                out->items[j] = placed(out->items[j], p);
+                out->items[j] = placed(out->items[j], p), out->items[j].outer = w[14];
         } else if (w[0] == 10) {
             for (uint64_t x = 0; x < w[7]; x++)
                 for (uint64_t y = 0; y < w[8] && out->count < SLOTS; y++) {
@@ -324,14 +324,14 @@ static void put_out(struct put *out, const struct lent *l, uint64_t first, uint6
 /* A store as it stands: 21 and zeros in all calls, or its own expansion in all. */
 static int answered(const struct lent *l, uint64_t *run, struct put *out)
 {
-    uint64_t total = garbage, number = total_of(l, &total), one[14];
+    uint64_t total = garbage, number = total_of(l, &total), one[15];
     size_t words = SLOTS * SHEET_ITEM_WORDS;
     soil(run, words);
-    soil(one, 14);
+    soil(one, 15);
     if (number == SHEET_NOT_SHEET) {
         expect(total == 0, "a total of no sheet is 0", total);
         expect(items_at(l, 0, run, words) == SHEET_NOT_SHEET && zeros(run, 0, words), "a run of no sheet is zeros", 0);
-        expect(item_at(l, 0, one, 14) == SHEET_NOT_SHEET && zeros(one, 0, 14), "an item of no sheet is zeros", 0);
+        expect(item_at(l, 0, one, 15) == SHEET_NOT_SHEET && zeros(one, 0, 15), "an item of no sheet is zeros", 0);
         return 0;
     }
     expect(number == 0, "a store is a sheet or is 21", number);
@@ -339,10 +339,10 @@ static int answered(const struct lent *l, uint64_t *run, struct put *out)
     out->count = 0;
     put_out(out, l, l->head[2] - l->head[6], l->head[6]);
     expect(out->count == (total < SLOTS ? total : SLOTS), "the total is that of the expansion", total);
-    expect(memcmp(run, out->items, out->count * 112) == 0, "the items are those of the expansion", total);
-    expect(item_at(l, total, one, 14) == SHEET_PAST && zeros(one, 0, 14), "past the total", total);
+    expect(memcmp(run, out->items, out->count * 120) == 0, "the items are those of the expansion", total);
+    expect(item_at(l, total, one, 15) == SHEET_PAST && zeros(one, 0, 15), "past the total", total);
     if (total != 0)
-        expect(item_at(l, total - 1, one, 14) == 0 && one[0] >= 1 && one[0] <= 8, "the last item", total);
+        expect(item_at(l, total - 1, one, 15) == 0 && one[0] >= 1 && one[0] <= 8, "the last item", total);
     return 1;
 }
 

@@ -49,6 +49,8 @@ if [ -f ../shared/corpus/kicad-layers.tgz ]; then
     agree "$room/kicad"
 fi
 
+# The cases' item lines are document 01's own, without the last field (decision 328).
+base() { awk -F '\t' -v OFS='\t' 'NF == 16 && $4 ~ /^(dark|clear)$/ { NF-- } 1'; }
 if [ -f ../shared/cases/cases.tgz ]; then
     tar xzf ../shared/cases/cases.tgz -C "$room"
     same=0
@@ -56,13 +58,13 @@ if [ -f ../shared/cases/cases.tgz ]; then
         name=${file%.gbr}
         # the listing program reads no further than 65,536 bytes, the sample host does
         if [ -f "$name.expected" ] && [ "$(wc -c <"$file")" -le 65536 ]; then
-            imager list <"$file" | cmp -s - "$name.expected" || { echo "host: list differs for $(basename "$name")"; exit 1; }
+            imager list <"$file" | base | cmp -s - "$name.expected" || { echo "host: list differs for $(basename "$name")"; exit 1; }
             same=$((same + 1))
         fi
         for args in "$name".extra*.args; do
             [ -e "$args" ] || continue
             read -r -a words <"$args"
-            imager "${words[@]}" <"$file" | cmp -s - "${args%.args}.expected" || { echo "host: $(basename "$args") differs"; exit 1; }
+            imager "${words[@]}" <"$file" | base | cmp -s - "${args%.args}.expected" || { echo "host: $(basename "$args") differs"; exit 1; }
             same=$((same + 1))
         done
     done

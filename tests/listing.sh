@@ -52,7 +52,7 @@ expect_line "131,073 numbers" "$room/file" "refused 17 $(wc -c <"$room/full")"
 
 # No command that leaves an entry is shorter than four bytes: as many flashes as fit, and as many contours of one edge, are all listed.
 line() { # K KIND APERTURE COUNT PLACE
-    printf '%d\t%s\t%d\tdark\t0\t0\t1000000\t0\t0\t0\t0\t0\t0\t%d\t%d\n' "$@"
+    printf '%d\t%s\t%d\tdark\t0\t0\t1000000\t0\t0\t0\t0\t0\t0\t%d\t%d\t%d\n' "$@" "$5"
 }
 printf '%%FSLAX36Y36*%%%%MOMM*%%%%ADD10C,0*%%D10*X0Y0D02*' >"$room/file"
 at=$(wc -c <"$room/file")

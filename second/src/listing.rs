@@ -13,7 +13,7 @@ pub const LISTING_LIMIT: usize = 65_536;
 pub fn item_line(k: u64, item: &Item) -> String {
     let polarity = if item.clear { "clear" } else { "dark" };
     format!(
-        "{k}\t{}\t{}\t{polarity}\t{}\t{}\t{}\t{}\t{}\t{}\t{}\t{}\t{}\t{}\t{}",
+        "{k}\t{}\t{}\t{polarity}\t{}\t{}\t{}\t{}\t{}\t{}\t{}\t{}\t{}\t{}\t{}\t{}",
         item.kind.name(),
         item.aperture,
         u8::from(item.flip),
@@ -27,6 +27,7 @@ pub fn item_line(k: u64, item: &Item) -> String {
         item.centre.y,
         item.count,
         item.place,
+        item.outer,
     )
 }
 
@@ -104,17 +105,17 @@ mod tests {
     use crate::rules::read;
     use crate::sheet::Room;
 
-    /// P10: the input and output of document 01.
+    /// P10: the input and output of document 01, its lines longer by [6]'s field.
     #[test]
     fn the_listing_of_document_01() {
         let file = "%FSLAX36Y36*%\n%MOMM*%\n%ADD10C,0.5*%\n%ABD11*%\nD10*\nG01*\nX0Y0D02*\n\
             X1000000Y0D01*\nX0Y2000000D03*\n%AB*%\n%LR90*%\nD11*\n%SRX2Y1I3000.0J0*%\n\
             X10000000Y5000000D03*\n%SR*%\nM02*\n";
         let listing = "items|4\n\
-            0|line|10|dark|0|90000000|1000000|10000000|5000000|10000000|6000000|0|0|0|64\n\
-            1|flash|10|dark|0|90000000|1000000|0|0|8000000|5000000|0|0|0|79\n\
-            2|line|10|dark|0|90000000|1000000|3010000000|5000000|3010000000|6000000|0|0|0|64\n\
-            3|flash|10|dark|0|90000000|1000000|0|0|3008000000|5000000|0|0|0|79\n";
+            0|line|10|dark|0|90000000|1000000|10000000|5000000|10000000|6000000|0|0|0|64|132\n\
+            1|flash|10|dark|0|90000000|1000000|0|0|8000000|5000000|0|0|0|79|132\n\
+            2|line|10|dark|0|90000000|1000000|3010000000|5000000|3010000000|6000000|0|0|0|64|132\n\
+            3|flash|10|dark|0|90000000|1000000|0|0|3008000000|5000000|0|0|0|79|132\n";
         let sheet = read(file.as_bytes(), Room::UNLIMITED).expect("accepted");
         let mut given = Vec::new();
         write_listing(&mut given, &sheet, u64::MAX).expect("room for all bytes");

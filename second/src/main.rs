@@ -38,7 +38,7 @@ with a list of file names on standard input:
 on folders and files:
   make SEED COUNT DIR                          writes generated files
   census DIR [--room E,A,M,N]                  how many files are answered with each number
-  check-cases DIR                              runs the cases of the folder
+  check-cases DIR [--base]                     runs the cases of the folder; --base leaves out [6]'s field
   short N                                      every string of up to N bytes: how many, and a hash of the answers
   compare FILE FILE                            two outputs of batch, line by line";
 
@@ -110,7 +110,10 @@ fn run(words: &[String], out: &mut dyn Write) -> io::Result<bool> {
             };
             short::short(longest, out)?;
         }
-        ("check-cases", [folder]) => compare::check_cases(Path::new(folder), out)?,
+        ("check-cases", [folder]) => compare::check_cases(Path::new(folder), false, out)?,
+        ("check-cases", [folder, word]) if word == "--base" => {
+            compare::check_cases(Path::new(folder), true, out)?;
+        }
         ("compare", [first, second]) => {
             compare::compare(&fs::read_to_string(first)?, &fs::read_to_string(second)?, out)?;
         }

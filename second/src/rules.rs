@@ -352,6 +352,7 @@ impl Reading {
             centre: Point::default(),
             count: 0,
             place,
+            outer: place,
         }
     }
 
@@ -368,7 +369,7 @@ impl Reading {
         let at = self.target(operation)?;
         let (number, aperture) = self.graphics.aperture.ok_or(11u32)?;
         match aperture {
-            Aperture::Block(block) => self.flash_block(block, at)?,
+            Aperture::Block(block) => self.flash_block(place, block, at)?,
             _ => {
                 require(self.has_items_left(1), 16)?;
                 self.use_room(Room { entries: 1, ..Room::NONE })?;
@@ -386,7 +387,7 @@ impl Reading {
     /// 14: "block flashed at a scale other than 1 or an angle not a multiple of 90 degrees", an
     /// empty one too (decision 96). 15: a flash making the innermost open block's height 9
     /// (decision 97). An empty block uses an entry and adds nothing to the items.
-    fn flash_block(&mut self, block: usize, at: Point) -> Result<(), u32> {
+    fn flash_block(&mut self, place: usize, block: usize, at: Point) -> Result<(), u32> {
         let (flip, angle) = self.graphics.orientation();
         require(self.graphics.scale == ONE && angle % (TURN / 4) == 0, 14)?;
         let height = self.blocks[block].height + 1;
@@ -399,7 +400,7 @@ impl Reading {
         if let Some(Open::Block { height: open, .. }) = self.open.last_mut() {
             *open = height.max(*open);
         }
-        let placing = Placing { at, flip, angle, clear: self.graphics.clear };
+        let placing = Placing { at, flip, angle, clear: self.graphics.clear, place };
         self.body().push(Source::Block(block, placing), items);
         Ok(())
     }

@@ -104,6 +104,8 @@ pub struct Item {
     pub centre: Point,
     pub count: u64,
     pub place: usize,
+    /// "the place of the outermost flash, or the item's own place when it is in no block" ([6]).
+    pub outer: usize,
 }
 
 impl Item {
@@ -133,6 +135,7 @@ impl Item {
             item.kind = item.kind.flipped();
         }
         item.clear ^= flash.clear;
+        item.outer = flash.place;
         item
     }
 }
@@ -145,6 +148,8 @@ pub struct Placing {
     /// A multiple of 90 degrees, from 0 up to below 360.
     pub angle: i64,
     pub clear: bool,
+    /// Of its D03.
+    pub place: usize,
 }
 
 impl Placing {

@@ -11,7 +11,7 @@ use Rattle.base.specs.Run.{run, sums}
 use Rattle.base.proofs.Run.{sums-cong, sums-snoc}
 use Rattle.place.specs.declared.Repeat.{Repeat}
 use Rattle.place.specs.Mark.{begin, block, repeat, Sheet, itemsOf, put, marked}
-use Rattle.place.specs.Placing.{placed}
+use Rattle.place.specs.Outer.{flashedBy}
 use Rattle.sheet.specs.Records.{entryOf, apertureOf, roleOf, entryRoom}
 use Rattle.sheet.specs.Containers.{blockOf}
 use Rattle.sheet.specs.Meaning.{drawn, poseOf, repeatOf, puts, entryItems, items}
@@ -69,7 +69,7 @@ module _ (s : Sheet) (e a : List ℕ) (room n closed high start h t : ℕ) (buil
 
   -- a flash of the block in aperture record r .who
   pub push-flash : (h′ : ℕ) → roleOf (r .kind) ≡ Uses → r .who < n → isBlock a (r .who) ≡ true → Raised h h′ → r .before ≡ t → okEntry a n h′ r ≡ true →
-      Built (put (map (placed (poseOf r)) (itemsOf (apertureOf a (r .who) .number) (s .blocks))) s) e′ a room n closed (suc high) start h′ (t + blockOf a (r .who) .items)
+      Built (put (map (flashedBy (r .place) (poseOf r)) (itemsOf (apertureOf a (r .who) .number) (s .blocks))) s) e′ a room n closed (suc high) start h′ (t + blockOf a (r .who) .items)
   unfolding entryItems puts sizeOf sizeAs
   push-flash h′ role l q raised b ok =
       let size : sizeOf a r ≡ blockOf a (r .who) .items = ap (λ x. sizeAs x a r) role in
@@ -77,7 +77,7 @@ module _ (s : Sheet) (e a : List ℕ) (room n closed high start h t : ℕ) (buil
       let eight = k .1 in
       rw size at (built-grow s e′ a room n closed high start h t kept h′ r _ (pushed .new) left raised b (λ q. uses-repeat-not (sym role ∙ q)) ok
       (ap (λ x. puts x a (items e′ a 9) r) role
-      ∙ ap (map (placed (poseOf r))) (fuel e′ a closed n (kept .blocks-ok) (blockOf a (r .who)) (k .0) 9 8 (omega arith) eight ∙ kept .blocks-show (r .who) l q)))
+      ∙ ap (map (flashedBy (r .place) (poseOf r))) (fuel e′ a closed n (kept .blocks-ok) (blockOf a (r .who)) (k .0) 9 8 (omega arith) eight ∙ kept .blocks-show (r .who) l q)))
 
   -- a block opens, in the next aperture record
   pub open-block : (m : ℕ) (a′ : List ℕ) → r .who ≡ n → r .sx ≡ start → r .sy ≡ h → r .before ≡ t →

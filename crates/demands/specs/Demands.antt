@@ -47,4 +47,4 @@ pub record Demand3 (head e a : List ℕ) (s : State) : Type 0 where
   pub each : (k : ℕ) → k < length (plain (s .marks)) → answerOf head e a k ≡ item.Is (getD (plain (s .marks)) k zeroItem)
   pub past : (k : ℕ) → length (plain (s .marks)) ≤ k → answerOf head e a k ≡ item.Past
   pub runs : (k words : ℕ) → fetched head e a k words ≡ slots (plain (s .marks)) k words
-  pub join : (k n m : ℕ) → fetched head e a k (n * 14) ++ fetched head e a (k + n) (m * 14) ≡ fetched head e a k ((n + m) * 14)
+  pub join : (k n m : ℕ) → fetched head e a k (n * 15) ++ fetched head e a (k + n) (m * 15) ≡ fetched head e a k ((n + m) * 15)

@@ -13,8 +13,9 @@ use Rattle.base.specs.Run.{sums}
 use Rattle.base.proofs.Run.{factor-pos, nth-map}
 use Rattle.place.specs.Item.{zeroItem}
 use Rattle.place.specs.Placing.{placed, PoseWithin}
+use Rattle.place.specs.Outer.{flashedBy}
 use Rattle.place.specs.Copies.{step}
-use Rattle.place.proofs.Laws.{item-within, pose-within, placed-within}
+use Rattle.place.proofs.Laws.{item-within, pose-within, placed-within, flashed-within}
 use Rattle.place.proofs.Copies.{nth-of-copies}
 use Rattle.sheet.specs.Records.{entryOf, roleOf}
 use Rattle.sheet.specs.Containers.{aperturesUsed, blockOf, bodyOf}
@@ -133,7 +134,7 @@ module _ (head e a : List ℕ) (v : valid head e a ≡ true) (k : Container) (s 
         is = λ h lh. sym (l .is h lh ∙ rw (q, z));
       }
 
-  pub use-is : roleOf (r .kind) ≡ Uses → BelowIs e a k n (blockOf a (r .who)) (n - r .before) (poseOf r)
+  pub use-is : roleOf (r .kind) ≡ Uses → BelowIs e a k n (blockOf a (r .who)) (n - r .before) (poseOf r) (flashedBy (r .place) (poseOf r))
   unfolding entryItems puts sizeOf sizeAs
   use-is q =
       let u : Under head e a k (blockOf a (r .who)) = rw (l .here) at (use-under head e a v k s (l .i) (l .i-in) (rw (l .here) q)) in
@@ -144,10 +145,10 @@ module _ (head e a : List ℕ) (v : valid head e a ≡ true) (k : Container) (s 
         held = record { head = head; ok = v; sound = u .sound; inside = w };
         lower = lower;
         pose-in = pose-within (poseOf r) (lit≤ tt) pose;
-        near = λ t near. item-within (placed (poseOf r) t) (spread-flash _ (k .height) lower (s .high)) (placed-within _ far (poseOf r) pose t near);
+        near = λ t near. item-within (flashedBy (r .place) (poseOf r) t) (spread-flash _ (k .height) lower (s .high)) (flashed-within _ far (poseOf r) pose (r .place) t near);
         is = λ h lh.
             let long = length-items head e a v h (blockOf a (r .who)) (u .sound) (omega arith) in
-            sym (l .is h lh ∙ rw q (nth-map (placed (poseOf r)) (items e a h (blockOf a (r .who))) (n - r .before) zeroItem zeroItem (omega arith)));
+            sym (l .is h lh ∙ rw q (nth-map (flashedBy (r .place) (poseOf r)) (items e a h (blockOf a (r .who))) (n - r .before) zeroItem zeroItem (omega arith)));
       }
 
   module _ (q : roleOf (r .kind) ≡ Repeats) where

@@ -9,6 +9,7 @@ use Rattle.place.specs.declared.Item.{Item}
 use Rattle.place.specs.declared.Pose.{Pose}
 use Rattle.place.specs.Item.{zeroItem}
 use Rattle.place.specs.Placing.{placed, PoseWithin, ItemWithin}
+use Rattle.place.specs.Outer.{flashedBy}
 use Rattle.place.specs.Copies.{step}
 use Rattle.sheet.specs.Records.{entryOf}
 use Rattle.sheet.specs.Containers.{bodyOf}
@@ -18,7 +19,7 @@ use Rattle.sheet.specs.declared.Entry.{Entry}
 use Rattle.sheet.specs.declared.Container.{Container}
 use Rattle.sheet.proofs.Sound.{Sound}
 use Rattle.descend.specs.declared.Step.{Step}
-use Rattle.descend.specs.declared.Step.the-variants.{Here, Below}
+use Rattle.descend.specs.declared.Step.the-variants.{Here, Copied, Flashed}
 
 -- where a search among a container's entries ends: the last that has at most n items before it
 pub record Found (e : List ℕ) (k : Container) (n q : ℕ) : Type 0 where
@@ -44,7 +45,7 @@ pub record Split (r : Entry) (j : ℕ) : Type 0 where
 
 -- in column j / (ny · m), row q / m: item q % m of the body, which has m items
 unfoldable pub copyOf : Entry → ℕ → Step
-copyOf r j = Below
+copyOf r j = Copied
     (bodyOf r)
     (j % (r .sy * r .count) % r .count)
     (step (repeatOf r) (j / (r .sy * r .count)) (j % (r .sy * r .count) / r .count))
@@ -58,17 +59,18 @@ pub record HereIs (e a : List ℕ) (k : Container) (n : ℕ) (t : Item) : Type 0
   pub near : ItemWithin (spread (k .height)) t
   pub is : (h : ℕ) → k .height ≤ suc h → t ≡ getD (items e a (suc h) k) n zeroItem
 
--- it is item j of the container under k, placed
-pub record BelowIs (e a : List ℕ) (k : Container) (n : ℕ) (under : Container) (j : ℕ) (m : Pose) : Type 0 where
+-- it is item j of the container under k, as `out` puts it out, in the pose m
+pub record BelowIs (e a : List ℕ) (k : Container) (n : ℕ) (under : Container) (j : ℕ) (m : Pose) (out : Item → Item) : Type 0 where
   pub held : Held e a under j
   pub lower : under .height < k .height
   pub pose-in : PoseWithin (10 ^ 16) m
-  pub near : (t : Item) → ItemWithin (spread (under .height)) t → ItemWithin (spread (k .height)) (placed m t)
-  pub is : (h : ℕ) → k .height ≤ suc h → placed m (getD (items e a h under) j zeroItem) ≡ getD (items e a (suc h) k) n zeroItem
+  pub near : (t : Item) → ItemWithin (spread (under .height)) t → ItemWithin (spread (k .height)) (out t)
+  pub is : (h : ℕ) → k .height ≤ suc h → out (getD (items e a h under) j zeroItem) ≡ getD (items e a (suc h) k) n zeroItem
 
 abbrev pub Descends : List ℕ → List ℕ → Container → ℕ → Step → Type 0
 Descends e a k n (Here t) = HereIs e a k n t
-Descends e a k n (Below under j m) = BelowIs e a k n under j m
+Descends e a k n (Copied under j m) = BelowIs e a k n under j m (placed m)
+Descends e a k n (Flashed under j m place) = BelowIs e a k n under j m (flashedBy place m)
 
 -- the descent, with the height left
 pub record Asked (e a : List ℕ) (left : ℕ) (k : Container) (n : ℕ) : Type 0 where

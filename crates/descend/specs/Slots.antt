@@ -1,4 +1,4 @@
--- Items as words, fourteen each (docs/SHEET.md), and a run of them in a lent slice.
+-- Items as words, fifteen each (docs/SHEET.md), and a run of them in a lent slice.
 use Prim.Native.Nat.{ℕ, _/_, _%_}
 use mathlib.Core.Bool.{cond}
 use mathlib.Core.List.{List, [], _∷_, _++_}
@@ -21,7 +21,7 @@ itemWords t =
     ∷ ofZ w64 (t .start .x) ∷ ofZ w64 (t .start .y)
     ∷ ofZ w64 (t .end .x) ∷ ofZ w64 (t .end .y)
     ∷ ofZ w64 (t .centre .x) ∷ ofZ w64 (t .centre .y)
-    ∷ t .count ∷ t .place ∷ []
+    ∷ t .count ∷ t .place ∷ t .outer ∷ []
 
 -- item i, "slots past the total become zero items" (01, Items)
 unfoldable pub slot : List Item → ℕ → List ℕ
@@ -29,7 +29,7 @@ slot ts i = itemWords (getD ts i zeroItem)
 
 -- items k, k + 1, .. in as many slots as the words have room for; words past the last whole slot are 0
 unfoldable pub slots : List Item → ℕ → ℕ → List ℕ
-slots ts k words = run (slot ts) k (words / 14) ++ replicate (words % 14) 0
+slots ts k words = run (slot ts) k (words / 15) ++ replicate (words % 15) 0
 
 -- the answer, "21 comes before 20"
 unfoldable pub fetchOf : List ℕ → List ℕ → List ℕ → ℕ → Fetch

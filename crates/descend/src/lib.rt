@@ -39,10 +39,12 @@ fn find(e: &[u64], k: Container, n: u64) -> usize
     low
 }
 
-// One step of the descent: the item itself, or which item of which lower container it is, and how it is placed.
+// One step of the descent: the item itself, or which item of which lower container it is, and how that is put out: by a copy of a
+// repeat, or by the flash of a block at a place.
 pub enum Step {
     Here(Item),
-    Below(Container, u64, Pose),
+    Copied(Container, u64, Pose),
+    Flashed(Container, u64, Pose, u64),
 }
 
 // Item j of the copies of a repeat: which item of the body, in which copy.
@@ -54,7 +56,7 @@ fn copy_of(r: Entry, j: u64) -> Step
     let column = r.sy * m;
     let q = j % column;
     let pose = place::step_to(sheet::repeat_of(r), j / column, q / m);
-    Step::Below(sheet::body_of(r), q % m, pose)
+    Step::Copied(sheet::body_of(r), q % m, pose)
 }
 
 // Where item n of a container lies.
@@ -65,10 +67,11 @@ fn descend(e: &[u64], a: &[u64], k: Container, n: u64) -> Step
     let r = sheet::entry_at(e, find(e, k, n));
     let j = n - r.before;
     match sheet::role_of(r.kind) {
-        Role::Uses => Step::Below(
+        Role::Uses => Step::Flashed(
             sheet::block_at(a, sheet::index(r.who)),
             j,
             sheet::pose_of(r),
+            r.place,
         ),
         Role::Repeats => copy_of(r, j),
         Role::Draws => Step::Here(sheet::draw(r)),
@@ -84,7 +87,12 @@ pub fn item_at(e: &[u64], a: &[u64], left: u64, k: Container, n: u64) -> Item
 {
     match descend(e, a, k, n) {
         Step::Here(t) => t,
-        Step::Below(under, j, m) => place::place_item(m, item_at(e, a, left - 1, under, j)),
+        Step::Copied(under, j, m) => place::place_item(m, item_at(e, a, left - 1, under, j)),
+        Step::Flashed(under, j, m, place) => place::flash_item(
+            place,
+            m,
+            item_at(e, a, left - 1, under, j),
+        ),
     }
 }
 
@@ -132,9 +140,9 @@ pub enum Fetch {
     NotSheet,
 }
 
-// Stores an item's fourteen words from a place on.
+// Stores an item's fifteen words from a place on.
 fn put_item(out: &mut [u64], at: usize, t: Item)
-    requires { ⌜ at + 14 ≤ length (now out) ⌝ }
+    requires { ⌜ at + 15 ≤ length (now out) ⌝ }
     ensures { λ _. ⌜ now (out .exit) ≡ stored (now (out .entry)) at (itemWords t) ⌝ }
 {
     let start = t.start;
@@ -155,6 +163,7 @@ fn put_item(out: &mut [u64], at: usize, t: Item)
         sheet::y_word(centre),
         t.count,
         t.place,
+        t.outer,
     ];
     sheet::put_words(out, at, &w);
 }
@@ -164,19 +173,19 @@ fn fill(e: &[u64], a: &[u64], k: Container, n: u64, out: &mut [u64])
     requires { ⌜ Whole (now e) (now a) k n × (now out ≡ replicate (length (now out)) 0) ⌝ }
     ensures { λ _. ⌜ now (out .exit) ≡ slots (items (now (e .entry)) (now (a .entry)) 10 k) n (length (now (out .entry))) ⌝ }
 {
-    let room = (out.len() / 14) as u64;
+    let room = (out.len() / 15) as u64;
     let mut j: u64 = 0;
     while j < room {
         if n + j >= k.items {
             return;
         }
         let t = item_at(e, a, 10, k, n + j);
-        put_item(out, sheet::index(j * 14), t);
+        put_item(out, sheet::index(j * 15), t);
         j += 1;
     }
 }
 
-// Items n, n + 1, .. of a sheet, fourteen words each, in as many slots as there is room for; the store is looked at once.
+// Items n, n + 1, .. of a sheet, fifteen words each, in as many slots as there is room for; the store is looked at once.
 pub fn sheet_run(head: &[u64; 8], e: &[u64], a: &[u64], n: u64, out: &mut [u64]) -> Fetch
     ensures { λ r. ⌜ (r ≡ fetchOf (now (head .entry)) (now (e .entry)) (now (a .entry)) n)
         × (now (out .exit) ≡ fetched (now (head .entry)) (now (e .entry)) (now (a .entry)) n (length (now (out .entry)))) ⌝ }

@@ -38,10 +38,10 @@ map-one f (x ∷ l) t = ap (λ r. f x ∷ r) (map-one f l t)
 
 -- an edge more
 module _ (e a : List ℕ) (n : ℕ) (b : Builder) (at : ℕ) (ms : List Mark) (d : Contour e a n b at ms) (left : b .closed + b .high < entryRoom e)
-    (t : Item) (near : ItemWithin far t) (low : 1 ≤ t .kind) (up : t .kind ≤ 8) where
+    (t : Item) (near : ItemWithin far t) (low : 1 ≤ t .kind) (up : t .kind ≤ 8) (own : t .place ≡ t .outer) where
   draws-on : Drawing (written (d .before) blank) (d .contour) (d .edges ++ t ∷ []) (edged e b at t) a (entryRoom e) n (b .closed) at (b .start) (b .height) (d .items)
   draws-on = edge-draws (written (d .before) blank) (d .contour) t (d .edges) e a n at (b .start) (b .height) (d .items) b (d .drawing) (d .high-is) (d .items-are)
-      (has-room e (b .closed) (b .high) left) near low up
+      (has-room e (b .closed) (b .high) left) near low up own
 
   pub edged-room : entryRoom (edged e b at t) ≡ entryRoom e
   edged-room = draws-on .base .as-long
@@ -95,11 +95,11 @@ module _ (e : List ℕ) (b : Builder) (at : ℕ) (t : Item) (left : b .closed + 
 
 -- a contour begins
 pub contour-begun : (e a : List ℕ) (n : ℕ) (b : Builder) (ms : List Mark) (c : Item) → Shows ms e a (entryRoom e) n b → b .closed + b .high < entryRoom e →
-    ItemWithin far (withCount 0 c) → 1 ≤ withCount 0 c .kind → withCount 0 c .kind ≤ 8 →
+    ItemWithin far (withCount 0 c) → 1 ≤ withCount 0 c .kind → withCount 0 c .kind ≤ 8 → withCount 0 c .place ≡ withCount 0 c .outer →
     Contour (pushed e (b .closed) (b .high) (itemEntry (b .items) (withCount 0 c))) a n (grown b 1 (b .height)) (b .high) (ms ++ mark.contour c ∷ [])
 unfolding grown
-contour-begun e a n b ms c shows left near low up =
-    let d = contour-opens (written ms blank) c e a n b shows (has-room e (b .closed) (b .high) left) near low up in
+contour-begun e a n b ms c shows left near low up own =
+    let d = contour-opens (written ms blank) c e a n b shows (has-room e (b .closed) (b .high) left) near low up own in
     record {
       before = ms;
       contour = c;

@@ -99,7 +99,7 @@ module _ (w : Lent) (p : Progress) (s : State) (k : Knows w p s) (place : ℕ) (
         rw one-item
         (grown-knows w p s (command.Draw x y o) place 1 1 0 _ _ _ k (draw-moves w p s x y o k (near .goes))
         (item-grows w p s k (omega arith) (command.Draw x y o) place (drawn (s .graphics) (target (s .graphics) x y) o place)
-        (drawn-near (s .graphics) (k .point) (target (s .graphics) x y) there place o (near .centre)) n (omega arith)
+        (drawn-near (s .graphics) (k .point) (target (s .graphics) x y) there place o (near .centre)) n (omega arith) refl
         item-marks item-none (rw one-item at counts)))
 
   -- an edge more of the open contour
@@ -131,8 +131,8 @@ module _ (w : Lent) (p : Progress) (s : State) (k : Knows w p s) (place : ℕ) (
         let fits : p .builder .closed + p .builder .high < entryRoom (w .entries) = omega arith in
         let low : 1 ≤ edge (s .graphics) (target (s .graphics) x y) o place .kind = omega arith in
         let up : edge (s .graphics) (target (s .graphics) x y) o place .kind ≤ 8 = omega arith in
-        let as-long = edged-room (w .entries) (w .apertures) (p .apertures) (p .builder) (p .contour) (s .marks) d fits _ t low up in
-        let grows = contour-grows (w .entries) (w .apertures) (p .apertures) (p .builder) (p .contour) (s .marks) d fits _ t low up in
+        let as-long = edged-room (w .entries) (w .apertures) (p .apertures) (p .builder) (p .contour) (s .marks) d fits _ t low up refl in
+        let grows = contour-grows (w .entries) (w .apertures) (p .apertures) (p .builder) (p .contour) (s .marks) d fits _ t low up refl in
         rw one-edge
         (grown-knows w p s (command.Draw x y o) place 1 1 0 _ _ _ k (draw-moves w p s x y o k (near .goes))
         (record {
@@ -181,7 +181,7 @@ module _ (w : Lent) (p : Progress) (s : State) (k : Knows w p s) (place : ℕ) (
         let l = left in
         let q = two-items in
         contour-begun (w .entries) (w .apertures) (p .apertures) (p .builder) (s .marks) (contour (s .graphics) place) (k .shows) (omega arith)
-        (contour-near (s .graphics) (k .point) place) (omega arith) (omega arith)
+        (contour-near (s .graphics) (k .point) place) (omega arith) (omega arith) refl
 
     pub contour-knows : Knows (withEntries e-contour w) (advanced p (after (command.Draw x y o) (s .graphics)) (grown b-begun 1 (p .builder .height)) (p .builder .high)) (drawStep (roomOf w) place x y o s .next)
     unfolding drawStep edge grown levelOf
@@ -197,8 +197,8 @@ module _ (w : Lent) (p : Progress) (s : State) (k : Knows w p s) (place : ℕ) (
         let fits-still : b-begun .closed + b-begun .high < entryRoom e-begun = omega arith in
         let low : 1 ≤ edge (s .graphics) (target (s .graphics) x y) o place .kind = omega arith in
         let up : edge (s .graphics) (target (s .graphics) x y) o place .kind ≤ 8 = omega arith in
-        let as-long = edged-room e-begun (w .apertures) (p .apertures) b-begun (p .builder .high) _ d fits-still _ t low up ∙ room in
-        let grows = contour-grows e-begun (w .apertures) (p .apertures) b-begun (p .builder .high) _ d fits-still _ t low up in
+        let as-long = edged-room e-begun (w .apertures) (p .apertures) b-begun (p .builder .high) _ d fits-still _ t low up refl ∙ room in
+        let grows = contour-grows e-begun (w .apertures) (p .apertures) b-begun (p .builder .high) _ d fits-still _ t low up refl in
         let grows-all = rw (append-assoc (s .marks) (mark.contour (contour (s .graphics) place) ∷ []) (mark.edge (edge (s .graphics) (target (s .graphics) x y) o place) ∷ [])) at grows in
         let start = start-low w p s k in
         let more : p .builder .items + 1 + 1 ≡ p .builder .items + 2 = omega arith in

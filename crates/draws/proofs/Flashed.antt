@@ -95,7 +95,7 @@ module _ (w : Lent) (p : Progress) (s : State) (k : Knows w p s) (place : ℕ) (
         rw (one-item, no-height)
         (grown-knows w p s (command.Flash x y) place 1 1 0 _ _ _ k (flash-moves w p s x y k near)
         (item-grows w p s k left (command.Flash x y) place (flashed (s .graphics) (target (s .graphics) x y) place)
-        (flashed-near (s .graphics) (k .point) (target (s .graphics) x y) there place) (omega arith) (omega arith)
+        (flashed-near (s .graphics) (k .point) (target (s .graphics) x y) there place) (omega arith) (omega arith) refl
         item-marks no-contour (rw one-item at counts)))
 
   -- a block
@@ -126,7 +126,7 @@ module _ (w : Lent) (p : Progress) (s : State) (k : Knows w p s) (place : ℕ) (
         let less : s .graphics .aperture .height < 8 = leb-false _ _ (and-rest _ _ (eq-eqb _ _ inside) (and-rest _ _ is-block (flash-low _ _ _ _ _ none-there))) in
         omega arith
 
-    block-marks : marksOf (command.Flash x y) (s .graphics) place ≡ mark.flash (s .graphics .aperture .number) (pose (s .graphics) (target (s .graphics) x y)) ∷ []
+    block-marks : marksOf (command.Flash x y) (s .graphics) place ≡ mark.flash (s .graphics .aperture .number) (pose (s .graphics) (target (s .graphics) x y)) place ∷ []
     unfolding marksOf flashMarks
     block-marks = rw is-block
 
@@ -154,7 +154,7 @@ module _ (w : Lent) (p : Progress) (s : State) (k : Knows w p s) (place : ℕ) (
           level = flash-level (p .builder .height) (s .graphics .aperture .height) (p .builder .items) (p .depth) (p .copies) (p .sheet) (s .graphics .aperture .items) low lower;
           counts = rw block-items at counts;
           entries = omega arith;
-          shows = rw (block-marks, one-more (s .marks) (mark.flash (s .graphics .aperture .number) (pose (s .graphics) (target (s .graphics) x y))) refl)
+          shows = rw (block-marks, one-more (s .marks) (mark.flash (s .graphics .aperture .number) (pose (s .graphics) (target (s .graphics) x y)) place) refl)
               (rw (b .number, b .items, b .height) at shown);
           contour = λ q. absurd (no-contour q);
         }))

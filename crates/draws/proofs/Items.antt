@@ -47,7 +47,7 @@ below-pushed e closed high start r left low q l =
     (λ z. let z′ : entryRoom e - suc q ≡ entryRoom e - suc high = z in absurd (omega arith)))
 
 module _ (w : Lent) (p : Progress) (s : State) (k : Knows w p s) (left : p .builder .closed + p .builder .high < entryRoom (w .entries))
-    (c : Command) (place : ℕ) (t : Item) (near : ItemWithin far t) (low : 1 ≤ t .kind) (up : t .kind ≤ 8)
+    (c : Command) (place : ℕ) (t : Item) (near : ItemWithin far t) (low : 1 ≤ t .kind) (up : t .kind ≤ 8) (own : t .place ≡ t .outer)
     (marks-are : marksOf c (s .graphics) place ≡ draw t ∷ []) (none : after c (s .graphics) .region .contour ≡ true → ⊥) (counts : counted (s .level) 1 ≤ most) where
   pub item-grows : Grows w p s c place 1 1 0 (pushed (w .entries) (p .builder .closed) (p .builder .high) (itemEntry (p .builder .items) t)) (grown (p .builder) 1 (p .builder .height)) (p .contour)
   unfolding grown levelOf marked edges
@@ -62,6 +62,6 @@ module _ (w : Lent) (p : Progress) (s : State) (k : Knows w p s) (left : p .buil
         counts = counts;
         entries = omega arith;
         shows = rw (marks-are, one-more (s .marks) (draw t) refl)
-            (puts-item _ (w .entries) (w .apertures) (entryRoom (w .entries)) (p .apertures) (p .builder) (k .shows) room t near low up);
+            (puts-item _ (w .entries) (w .apertures) (entryRoom (w .entries)) (p .apertures) (p .builder) (k .shows) room t near low up own);
         contour = λ q. absurd (none q);
       }

@@ -203,9 +203,9 @@ fn number(w: u64) {
     }
 }
 
-// Item n: its number, then its fourteen words; where there is none, 20 or 21.
+// Item n: its number, then its fifteen words; where there is none, 20 or 21.
 fn line(head: &[u64; 8], e: &[u64; 615], a: &[u64; 64], n: u64) {
-    let mut out = [0; 14];
+    let mut out = [0; 15];
     io::print_decimal(STDOUT_FILENO, n);
     match descend::sheet_run(head, e, a, n, &mut out) {
         Fetch::Done => words(&out),
@@ -220,9 +220,9 @@ fn refused(n: u64) {
     io::print_decimal(STDOUT_FILENO, n);
 }
 
-fn words(out: &[u64; 14]) {
+fn words(out: &[u64; 15]) {
     let mut i: usize = 0;
-    while i < 14 {
+    while i < 15 {
         io::write_all(STDOUT_FILENO, b" ");
         number(out[i]);
         i += 1;

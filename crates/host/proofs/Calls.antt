@@ -13,11 +13,11 @@ use Rattle.descend.specs.declared.Fetch.{Fetch}
 use Rattle.descend.specs.Slots.{fetchNumber}
 use Rattle.host.specs.Calls.{runNumber, itemIn}
 
-pub run-short : (f : Fetch) (n : ℕ) → ltb n 14 ≡ true → 100 ≡ runNumber f n
+pub run-short : (f : Fetch) (n : ℕ) → ltb n 15 ≡ true → 100 ≡ runNumber f n
 unfolding runNumber
 run-short f n h = simp h
 
-pub run-long : (f : Fetch) (n r : ℕ) → ltb n 14 ≡ false → r ≡ fetchNumber f → r ≡ runNumber f n
+pub run-long : (f : Fetch) (n r : ℕ) → ltb n 15 ≡ false → r ≡ fetchNumber f → r ≡ runNumber f n
 unfolding runNumber
 run-long f n r h e = simp (h, e)
 
@@ -26,14 +26,14 @@ zeros-behind zero n = ap (λ (m : ℕ). replicate {A = ℕ} m 0) (sym (sub-zero 
 zeros-behind (suc k) zero = ap (λ (m : ℕ). replicate {A = ℕ} m 0) (sym (zero-sub (suc k)))
 zeros-behind (suc k) (suc n) = zeros-behind k n ∙ ap (λ (m : ℕ). replicate {A = ℕ} m 0) (sym (suc-sub-suc n k))
 
--- a slice of fourteen of the lent words
-pub front : (l : List ℕ) → 14 ≤ length l → 14 ≡ length (take 14 l)
-front l h = let e : min 14 (length l) ≡ 14 = omega (arith, h) in sym (length-take 14 l ∙ e)
+-- a slice of fifteen of the lent words
+pub front : (l : List ℕ) → 15 ≤ length l → 15 ≡ length (take 15 l)
+front l h = let e : min 15 (length l) ≡ 15 = omega (arith, h) in sym (length-take 15 l ∙ e)
 
-pub item-short : (item l : List ℕ) (n : ℕ) → n < 14 → l ≡ replicate n 0 → l ≡ itemIn item n
+pub item-short : (item l : List ℕ) (n : ℕ) → n < 15 → l ≡ replicate n 0 → l ≡ itemIn item n
 unfolding itemIn
-item-short item l n h e = e ∙ simp (lt-ltb n 14 h)
+item-short item l n h e = e ∙ simp (lt-ltb n 15 h)
 
-pub item-long : (item w l : List ℕ) (n : ℕ) → 14 ≤ n → w ≡ item → l ≡ replicate n 0 → w ++ drop 14 l ≡ itemIn item n
+pub item-long : (item w l : List ℕ) (n : ℕ) → 15 ≤ n → w ≡ item → l ≡ replicate n 0 → w ++ drop 15 l ≡ itemIn item n
 unfolding itemIn
-item-long item w l n h e z = rw (e, z) (ap (λ t. item ++ t) (zeros-behind 14 n) ∙ simp (le-ltb n 14 h))
+item-long item w l n h e z = rw (e, z) (ap (λ t. item ++ t) (zeros-behind 15 n) ∙ simp (le-ltb n 15 h))

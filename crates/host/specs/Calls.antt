@@ -9,8 +9,8 @@ use Rattle.descend.specs.Slots.{fetchNumber}
 
 -- 100 where not one item fits the lent words, before all else
 unfoldable pub runNumber : Fetch → ℕ → ℕ
-runNumber f words = cond (ltb words 14) 100 (fetchNumber f)
+runNumber f words = cond (ltb words 15) 100 (fetchNumber f)
 
 -- one item's words at the front of the lent ones, zeros behind; all zeros where it does not fit
 unfoldable pub itemIn : List ℕ → ℕ → List ℕ
-itemIn item words = cond (ltb words 14) (replicate words 0) (item ++ replicate (words - 14) 0)
+itemIn item words = cond (ltb words 15) (replicate words 0) (item ++ replicate (words - 15) 0)

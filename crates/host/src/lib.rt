@@ -82,7 +82,7 @@ fn fetch_number(f: Fetch) -> u64
     }
 }
 
-// Items k, k + 1, .. of a sheet, fourteen words each, in as many slots as there is room for; 100 where there is room for none.
+// Items k, k + 1, .. of a sheet, fifteen words each, in as many slots as there is room for; 100 where there is room for none.
 #[no_mangle]
 pub extern "C" fn sheet_items(
     head: &[u64; 8],
@@ -94,7 +94,7 @@ pub extern "C" fn sheet_items(
     ensures { λ r. ⌜ (r ≡ runNumber (fetchOf (now (head .entry)) (now (entries .entry)) (now (apertures .entry)) k) (length (now (items .entry))))
         × (now (items .exit) ≡ fetched (now (head .entry)) (now (entries .entry)) (now (apertures .entry)) k (length (now (items .entry)))) ⌝ }
 {
-    let short = items.len() < 14;
+    let short = items.len() < 15;
     let f = descend::sheet_run(head, entries, apertures, k, items);
     if short {
         return 100;
@@ -102,7 +102,7 @@ pub extern "C" fn sheet_items(
     fetch_number(f)
 }
 
-// Item k of a sheet in the first fourteen of the lent words, the others 0; 100 where there are fewer.
+// Item k of a sheet in the first fifteen of the lent words, the others 0; 100 where there are fewer.
 #[no_mangle]
 pub extern "C" fn sheet_item(
     head: &[u64; 8],
@@ -115,10 +115,10 @@ pub extern "C" fn sheet_item(
         × (now (item .exit) ≡ itemIn (itemWords (answerItem (answerOf (now (head .entry)) (now (entries .entry)) (now (apertures .entry)) k))) (length (now (item .entry)))) ⌝ }
 {
     base::clear(item);
-    if item.len() < 14 {
+    if item.len() < 15 {
         return 100;
     }
-    let f = descend::sheet_run(head, entries, apertures, k, &mut item[..14]);
+    let f = descend::sheet_run(head, entries, apertures, k, &mut item[..15]);
     fetch_number(f)
 }
 
@@ -165,7 +165,7 @@ pub extern "C" fn sheet_object_attribute(
 pub extern "C" fn sheet_item_words() -> usize
     ensures { λ r. ⌜ ItemsAre r ⌝ }
 {
-    14
+    15
 }
 
 // The words of an entry.

@@ -26,21 +26,21 @@ fn print_item(k: u64, words: &[u64]) {
 }
 
 // The lines of so many items from item k on.
-fn print_run(k: u64, words: &[u64; 14336], count: u64)
+fn print_run(k: u64, words: &[u64; 15360], count: u64)
     requires { ⌜ (count ≤ 1024) × (k + count < 2 ^ 64) ⌝ }
 {
     let all: &[u64] = words;
     let mut i: u64 = 0;
     while i < count {
-        let from = (i * 14) as usize;
-        print_item(k + i, &all[from..from + 14]);
+        let from = (i * 15) as usize;
+        print_item(k + i, &all[from..from + 15]);
         i += 1;
     }
 }
 
 // The lines of all items; the store is looked at once for each 1,024 of them.
 fn print_items(head: &[u64; 8], entries: &[u64], apertures: &[u64], total: u64) {
-    let mut words = [0u64; 14336];
+    let mut words = [0u64; 15360];
     let mut k: u64 = 0;
     while k < total {
         descend::sheet_run(head, entries, apertures, k, &mut words);

@@ -1,4 +1,4 @@
--- The items that D01 and D03 draw (01, Items; decisions 93 to 95).
+-- The items that D01 and D03 draw, each its own place in both (01, Items; 02, [6]; decisions 93 to 95).
 use Prim.Native.Nat.{ℕ, _+_}
 use mathlib.Core.Bool.{false, cond}
 use Rattle.points.specs.declared.Point.{Point}
@@ -29,6 +29,7 @@ drawn g end o place = record {
   centre = arcCentre g o;
   count = 0;
   place = place;
+  outer = place;
 }
 
 -- "contours and edges have angle 0, scale 1, no flip", and aperture 0; edges are numbered as the kinds of D01, behind the contour
@@ -45,6 +46,7 @@ edge g end o place = record {
   centre = arcCentre g o;
   count = 0;
   place = place;
+  outer = place;
 }
 
 -- "a contour has its start point as start"
@@ -61,6 +63,7 @@ contour g place = record {
   centre = origin;
   count = 0;
   place = place;
+  outer = place;
 }
 
 -- "A flash has its point as end"
@@ -77,6 +80,7 @@ flashed g at place = record {
   centre = origin;
   count = 0;
   place = place;
+  outer = place;
 }
 
 -- how a block is flashed

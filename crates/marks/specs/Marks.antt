@@ -28,7 +28,7 @@ drawMarks g x y o place =
 unfoldable pub flashMarks : Graphics → Axis → Axis → ℕ → List Mark
 flashMarks g x y place =
     cond (g .aperture .block)
-    (mark.flash (g .aperture .number) (pose g (target g x y)) ∷ [])
+    (mark.flash (g .aperture .number) (pose g (target g x y)) place ∷ [])
     (mark.draw (flashed g (target g x y) place) ∷ [])
 
 unfoldable pub repeatOf : ℕ → ℕ → Amount → Amount → Repeat

@@ -47,6 +47,7 @@ pub fn drawn(g: Graphics, end: Point, o: Offset, place: u64) -> Item
         centre: arc_centre(g, o),
         count: 0,
         place,
+        outer: place,
     }
 }
 
@@ -70,6 +71,7 @@ pub fn edge(g: Graphics, end: Point, o: Offset, place: u64) -> Item
         centre: arc_centre(g, o),
         count: 0,
         place,
+        outer: place,
     }
 }
 
@@ -91,6 +93,7 @@ pub fn contour(g: Graphics, place: u64) -> Item
         centre: none,
         count: 0,
         place,
+        outer: place,
     }
 }
 
@@ -113,6 +116,7 @@ pub fn flashed(g: Graphics, at: Point, place: u64) -> Item
         centre: none,
         count: 0,
         place,
+        outer: place,
     }
 }
 

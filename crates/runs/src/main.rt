@@ -26,7 +26,7 @@ fn point(p: points::Point) {
     field(sheet::y_word(p));
 }
 
-// An item's fields, in the order of document 01.
+// An item's fields, in the order of documents 01 and 02.
 fn item(t: Item) {
     let start = t.start;
     let end = t.end;
@@ -42,6 +42,7 @@ fn item(t: Item) {
     point(centre);
     field(t.count);
     field(t.place);
+    field(t.outer);
     io::write_all(STDOUT_FILENO, b"\n");
 }
 

@@ -11,7 +11,7 @@ use Rattle.points.specs.Points.{pt}
 use Rattle.place.specs.declared.Item.{Item}
 use Rattle.place.specs.declared.Pose.{Pose}
 use Rattle.place.specs.declared.Repeat.{Repeat}
-use Rattle.place.specs.Placing.{placed}
+use Rattle.place.specs.Outer.{flashedBy}
 use Rattle.place.specs.Copies.{copies}
 use Rattle.sheet.specs.Records.{entryOf, roleOf}
 use Rattle.sheet.specs.Containers.{blockOf, bodyOf, topOf}
@@ -28,6 +28,7 @@ pointOf x y = pt (toZ w64 x) (toZ w64 y)
 unfoldable pub flagWord : Bool → ℕ
 flagWord b = cond b 1 0
 
+-- an item lies in no block yet: it has its own place twice
 unfoldable pub drawn : Entry → Item
 drawn r = record {
   kind = r .kind;
@@ -41,6 +42,7 @@ drawn r = record {
   centre = pointOf (r .cx) (r .cy);
   count = r .count;
   place = r .place;
+  outer = r .place;
 }
 
 unfoldable pub poseOf : Entry → Pose
@@ -52,7 +54,7 @@ repeatOf r = record { nx = r .sx; ny = r .sy; dx = r .cx; dy = r .cy }
 -- what an entry puts out, where `below k` is what the container k does; the definition of a block puts out nothing
 unfoldable pub puts : Role → List ℕ → (Container → List Item) → Entry → List Item
 puts Draws a below r = drawn r ∷ []
-puts Uses a below r = map (placed (poseOf r)) (below (blockOf a (r .who)))
+puts Uses a below r = map (flashedBy (r .place) (poseOf r)) (below (blockOf a (r .who)))
 puts Repeats a below r = copies (repeatOf r) (below (bodyOf r))
 puts Defines a below r = []
 puts Unknown a below r = []

@@ -45,18 +45,19 @@ counted-draws a n h t r x d = record {
     drawing : roleOf (r .kind) ≡ Draws → okRole (roleOf (r .kind)) a n h (counted r) ≡ true
     drawing q = ap (λ role. okRole role a n h (counted r)) q
 
-item-draws : (a : List ℕ) (n h t : ℕ) (y : Item) → ItemWithin far y → 1 ≤ y .kind → y .kind ≤ 8 → Draw a n h t (itemEntry t y) y
-item-draws a n h t y w low high = record {
+item-draws : (a : List ℕ) (n h t : ℕ) (y : Item) → ItemWithin far y → 1 ≤ y .kind → y .kind ≤ 8 → y .place ≡ y .outer → Draw a n h t (itemEntry t y) y
+item-draws a n h t y w low high own = record {
   role = item-role t y w low high;
   before-is = item-before t y;
   ok = item-ok t y w a n h low high;
-  shows = item-shows t y w;
+  shows = item-shows t y w own;
 }
 
 module _ (s : Sheet) (c y : Item) (es : List Item) (e a : List ℕ) (n high start h t : ℕ) (b : Builder)
     (drawing : Drawing s c es e a (entryRoom e) n (b .closed) high start h t)
     (ends : b .high ≡ high + suc (length es)) (items-are : b .items ≡ t + suc (length es))
-    (left : hasRoom e (b .closed) (b .high) ≡ true) (w : ItemWithin far y) (low : 1 ≤ y .kind) (up : y .kind ≤ 8) where
+    (left : hasRoom e (b .closed) (b .high) ≡ true) (w : ItemWithin far y) (low : 1 ≤ y .kind) (up : y .kind ≤ 8)
+    (own : y .place ≡ y .outer) where
   fits : b .closed + b .high < entryRoom e
   fits = room-left e (b .closed) (b .high) left
 
@@ -112,13 +113,13 @@ module _ (s : Sheet) (c y : Item) (es : List Item) (e a : List ℕ) (n high star
       (rw (contour-is, ← add-one (length es)) (counted-draws a n h t _ _ (drawing .all .0)))
       (λ q l m. kept (entryRoom e - suc q) (λ z. let z′ : entryRoom e - suc q ≡ entryRoom e - suc high = z in absurd (omega arith))
       (λ z. let z′ : entryRoom e - suc q ≡ entryRoom e - suc (b .high) = z in absurd (omega arith)))
-      (rw (at, before, edge-is, put-is .new) (item-draws a n h (b .items) y w low up))
+      (rw (at, before, edge-is, put-is .new) (item-draws a n h (b .items) y w low up own))
 
 -- a contour begins, as an item without edges
 pub contour-opens : (s : Sheet) (c : Item) (e a : List ℕ) (n : ℕ) (b : Builder) → Holds s e a (entryRoom e) n b → hasRoom e (b .closed) (b .high) ≡ true →
-    ItemWithin far (withCount 0 c) → 1 ≤ withCount 0 c .kind → withCount 0 c .kind ≤ 8 →
+    ItemWithin far (withCount 0 c) → 1 ≤ withCount 0 c .kind → withCount 0 c .kind ≤ 8 → withCount 0 c .place ≡ withCount 0 c .outer →
     Drawing s c [] (pushed e (b .closed) (b .high) (itemEntry (b .items) (withCount 0 c))) a (entryRoom e) n (b .closed) (b .high) (b .start) (b .height) (b .items)
-contour-opens s c e a n b holds left w low up =
+contour-opens s c e a n b holds left w low up own =
     let f = room-left e (b .closed) (b .high) left in
     let put = pushed-is e (b .closed) (b .high) (itemEntry (b .items) (withCount 0 c)) left in
     contour-begins s c e _ a (entryRoom e) n (b .closed) (b .high) (b .start) (b .height) (b .items) holds f
@@ -127,7 +128,7 @@ contour-opens s c e a n b holds left w low up =
       same-closed = λ p l. sym (put .kept p (λ q. let z : p ≡ entryRoom e - suc (b .high) = q in absurd (omega arith)));
       same-stack = λ p l. sym (put .kept (entryRoom e - suc p) (λ q. let z : entryRoom e - suc p ≡ entryRoom e - suc (b .high) = q in absurd (omega arith)));
     })
-    (rw (put .new) (item-draws a n (b .height) (b .items) (withCount 0 c) w low up))
+    (rw (put .new) (item-draws a n (b .height) (b .items) (withCount 0 c) w low up own))
 
 -- what is drawn is what the marks of the contour write out
 pub contour-shown : (ms : List Mark) (c : Item) (es : List Item) (e a : List ℕ) (room n closed high start h t : ℕ) →

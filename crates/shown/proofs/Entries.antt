@@ -64,9 +64,10 @@ near-zero = refl
 
 -- an item
 module _ (before : ℕ) (t : Item) (w : ItemWithin far t) where
-  pub item-shows : drawn (itemEntry before t) ≡ t
+  -- an item in no block has its own place twice
+  pub item-shows : t .place ≡ t .outer → drawn (itemEntry before t) ≡ t
   unfolding drawn itemEntry
-  item-shows = λ i. record {
+  item-shows own = λ i. record {
     kind = t .kind;
     aperture = t .aperture;
     clear = flag-back (t .clear) i;
@@ -78,6 +79,7 @@ module _ (before : ℕ) (t : Item) (w : ItemWithin far t) where
     centre = point-back (t .centre) (w .centre-in) i;
     count = t .count;
     place = t .place;
+    outer = own i;
   }
 
   item-words : okWords (itemEntry before t) ≡ true

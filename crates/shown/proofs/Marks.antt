@@ -68,11 +68,11 @@ module _ (s : Sheet) (e a : List ℕ) (room n : ℕ) (b : Builder) (holds : Hold
   fits = rw (holds .as-long) at (room-left e (b .closed) (b .high) left)
 
   -- an item
-  pub puts-item : (t : Item) → ItemWithin far t → 1 ≤ t .kind → t .kind ≤ 8 →
+  pub puts-item : (t : Item) → ItemWithin far t → 1 ≤ t .kind → t .kind ≤ 8 → t .place ≡ t .outer →
       Holds (put (t ∷ []) s) (pushed e (b .closed) (b .high) (itemEntry (b .items) t)) a room n (grown b 1 (b .height))
   unfolding grown
-  puts-item t w low high =
-      rw (item-shows (b .items) t w, ← add-one (b .high)) at
+  puts-item t w low high own =
+      rw (item-shows (b .items) t w own, ← add-one (b .high)) at
       (push-item s e a room n (b .closed) (b .high) (b .start) (b .height) (b .items) holds (itemEntry (b .items) t) _
       (rw (holds .as-long) at (pushed-is e (b .closed) (b .high) (itemEntry (b .items) t) left)) fits
       (item-role (b .items) t w low high) (item-before (b .items) t) (item-ok (b .items) t w a n (b .height) low high))
@@ -80,7 +80,7 @@ module _ (s : Sheet) (e a : List ℕ) (room n : ℕ) (b : Builder) (holds : Hold
   -- a flash of a block, which makes the open one no higher than 8
   pub puts-flash : (who : ℕ) (m : Pose) (place : ℕ) → PoseWithin far m → m .angle % quarterTurn ≡ 0 → who < n → isBlock a who ≡ true → blockOf a who .height ≤ 8 →
       (b .height ≤ 8 → blockOf a who .height ≤ 7) →
-      Holds (marked (flash (apertureOf a who .number) m) [] s) (pushed e (b .closed) (b .high) (useEntry (b .items) who m place)) a room n
+      Holds (marked (flash (apertureOf a who .number) m place) [] s) (pushed e (b .closed) (b .high) (useEntry (b .items) who m place)) a room n
       (grown b (blockOf a who .items) (raised (b .height) (blockOf a who .height)))
   unfolding grown marked useEntry roleOf
   puts-flash who m place w quarters l q eight lower =

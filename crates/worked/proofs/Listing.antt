@@ -71,6 +71,7 @@ use Rattle.reading.specs.Steps.{passed, withGraphics, withLevel, withOpened, wi
 use Rattle.place.specs.Mark.{edges, withCount, itemsOf, put, closed, marked, written}
 use Rattle.place.specs.Mark as place-Mark
 use Rattle.place.specs.Copies.{step, copies}
+use Rattle.place.specs.Outer.{brought, flashedBy}
 use Rattle.place.specs.Placing.{placed, moved, movedIf, turnedAngle, swapped}
 use Rattle.place.specs.Item.{hasStart, hasEnd, isArc, isOriented}
 use Rattle.worked.specs.Questions.{listing, answer, listed, ample}
@@ -145,6 +146,7 @@ unfolding answer said listed ample strip item output xor run
     edges withCount itemsOf put closed marked written
     place-Mark.plain
     step copies
+    flashedBy brought
     placed moved movedIf turnedAngle swapped
     hasStart hasEnd isArc isOriented
 listing-whole = refl

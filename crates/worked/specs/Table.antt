@@ -48,7 +48,7 @@ numbers =
 unfoldable pub strip : String
 strip = "%FSLAX36Y36*%\n%MOMM*%\n%ADD10C,0.5*%\n%ABD11*%\nD10*\nG01*\nX0Y0D02*\nX1000000Y0D01*\nX0Y2000000D03*\n%AB*%\n%LR90*%\nD11*\n%SRX2Y1I3000.0J0*%\nX10000000Y5000000D03*\n%SR*%\nM02*\n"
 
--- its output: a dark item of aperture 10 at 90 degrees and scale 1, without flip, centre and count
+-- its output: a dark item of aperture 10 at 90 degrees and scale 1, without flip, centre and count, put there by the flash at 132
 unfoldable pub item : ℕ → ℕ → ℕ → ℕ → ℕ → ℕ → Item
 item k sx sy ex ey place = record {
   kind = k;
@@ -62,6 +62,7 @@ item k sx sy ex ey place = record {
   centre = pt (pos 0) (pos 0);
   count = 0;
   place = place;
+  outer = 132;
 }
 
 unfoldable pub output : List Item

@@ -12,7 +12,7 @@ use Rattle.descend.proofs.fill.Statement.{statement}
 use Rattle.descend.proofs.fill.Tie as tie
 
 abbrev Inv-loop : tie.InvT-loop
-Inv-loop e a k n out₀ room j₀ out j = (j ≤ room) × (length out ≡ length out₀) × (out ≡ filled (items e a 10 k) n (length out₀) j) × (Whole e a k n) × (room ≡ length out₀ / 14)
+Inv-loop e a k n out₀ room j₀ out j = (j ≤ room) × (length out ≡ length out₀) × (out ≡ filled (items e a 10 k) n (length out₀) j) × (Whole e a k n) × (room ≡ length out₀ / 15)
 
 abbrev μ-loop : tie.MeasureT-loop
 μ-loop e a k n out₀ room j₀ out j = room - j

@@ -1,4 +1,4 @@
--- `descend::put_item` meets its contract: the fourteen words are `itemWords`.
+-- `descend::put_item` meets its contract: the fifteen words are `itemWords`.
 use Rattle.descend.specs.Slots.{itemWords}
 use borrow.Author.Needs.{needs}
 use Rattle.descend.proofs.put_item.Statement.{statement}

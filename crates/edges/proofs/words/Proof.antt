@@ -1,4 +1,4 @@
--- `edges::words` is safe and ends: i grows to 14.
+-- `edges::words` is safe and ends: i grows to 15.
 use native.Mathlib.Omega.{arith}
 use mathlib.Core.Path.{refl}
 use Prim.Native.Nat.{_-_, _≤_}
@@ -6,10 +6,10 @@ use Rattle.edges.proofs.words.Statement.{statement}
 use Rattle.edges.proofs.words.Tie as tie
 
 abbrev Inv-loop : tie.InvT-loop
-Inv-loop out i₀ t3 i = i ≤ 14
+Inv-loop out i₀ t3 i = i ≤ 15
 
 abbrev μ-loop : tie.MeasureT-loop
-μ-loop out i₀ t3 i = 14 - i
+μ-loop out i₀ t3 i = 15 - i
 
 loop-holds : tie.Need-loop-holds Inv-loop μ-loop
 loop-holds c = omega arith

@@ -7,7 +7,7 @@ use Rattle.listing.proofs.print_items.Statement.{statement}
 use Rattle.listing.proofs.print_items.Tie as tie
 
 abbrev Inv-loop : tie.InvT-loop
-Inv-loop head entries apertures total words₀ k₀ words k = length words ≡ 14336
+Inv-loop head entries apertures total words₀ k₀ words k = length words ≡ 15360
 
 abbrev μ-loop : tie.MeasureT-loop
 μ-loop head entries apertures total words₀ k₀ words k = total - k

@@ -7,7 +7,7 @@ use Rattle.listing.proofs.print_run.Statement.{statement}
 use Rattle.listing.proofs.print_run.Tie as tie
 
 abbrev Inv-loop : tie.InvT-loop
-Inv-loop k words count all i₀ i = (i ≤ count) × (length all ≡ 14336)
+Inv-loop k words count all i₀ i = (i ≤ count) × (length all ≡ 15360)
 
 abbrev μ-loop : tie.MeasureT-loop
 μ-loop k words count all i₀ i = count - i
