@@ -28,7 +28,7 @@ use Rattle.building.specs.Open.{Level, opener, Opened, Built}
 use Rattle.building.specs.Closing.{Settled, defines, repeats}
 use Rattle.building.proofs.Frame.{Agrees}
 use Rattle.building.proofs.Same.{opened-same}
-use Rattle.building.proofs.Grow.{not-raised, opened-grow, top-grow}
+use Rattle.building.proofs.Grow.{stays-as-high, opened-grow, top-grow}
 use Rattle.building.proofs.Steps.{block-is, same-kind, same-block, block-same, block-shows}
 use Rattle.building.proofs.Settle.{sums-raise, settled-ok, settled-low}
 
@@ -155,7 +155,7 @@ module _ (blocks : List (ℕ × List Item)) (here before : List Item) (around : 
           Opened e′ a′ room n (closed + len) n around before start (o .sx) (o .sy) (o .before) (built .bodies)
       outer some known q =
           let one : suc (start - 1) ≡ start = omega arith in
-          let grown = opened-grow e′ a′ room n (o .sy) (o .sy) (not-raised _) (defines o) (start - 1) (rw one opens) (defines-ok a′ n (o .sy) o) [] refl
+          let grown = opened-grow e′ a′ room n (o .sy) (o .sy) (stays-as-high _) (defines o) (start - 1) (rw one opens) (defines-ok a′ n (o .sy) o) [] refl
           around before (closed + len) (o .sx) (o .before) (built .bodies) n refl defines-repeat-not
           (opened-same e a room closed (start - 1) n b (built .blocks-ok) n (closed + len) e′ a′ agree (le-refl _) (omega arith)
           around before (start - 1) (o .sx) (o .sy) (o .before) (built .bodies) b n (le-refl _) (le-refl _) (omega arith) q) in
@@ -241,7 +241,7 @@ module _ (blocks : List (ℕ × List Item)) (here before : List Item) (around : 
           (opener e room start .before + opener e room start .sx * (opener e room start .sy * t)) (built .bodies + (high - start))
       outer top some counts dx dy says ok shows q =
           let one : suc (start - 1) ≡ start = omega arith in
-          rw one at (top-grow e′ a room n 10 10 (not-raised _) o′ (start - 1) (rw one opens) (repeats-ok a n (opener e room start) closed (high - start) t counts dx dy few)
+          rw one at (top-grow e′ a room n 10 10 (stays-as-high _) o′ (start - 1) (rw one opens) (repeats-ok a n (opener e room start) closed (high - start) t counts dx dy few)
           (copies r here) (λ i. copies (says i) (shows i)) before (closed + (high - start)) (opener e room start .who) (opener e room start .before) (built .bodies) refl ok refl q)
       outer (within (block m) before′ around′) some counts dx dy says ok shows q = let low = q .0 .lower in absurd (omega arith)
       outer (within (repeat r′) before′ around′) some counts dx dy says ok shows q = let nine = q .0 .height in absurd (omega arith)

@@ -23,13 +23,13 @@ use Rattle.building.specs.Open.{Level, AtTop, Opened}
 use Rattle.building.proofs.Frame.{open-ok}
 
 -- a container may become higher, if it is a block, and stays one
-pub record Raised (h h′ : ℕ) : Type 0 where
+pub record MayRise (h h′ : ℕ) : Type 0 where
   pub rises : h ≤ h′
   pub stays : 9 ≤ h → h′ ≡ h
   pub lower : h ≤ 8 → h′ ≤ 8
 
-pub not-raised : (h : ℕ) → Raised h h
-not-raised h = record { rises = le-refl h; stays = λ l. refl; lower = λ l. l }
+pub stays-as-high : (h : ℕ) → MayRise h h
+stays-as-high h = record { rises = le-refl h; stays = λ l. refl; lower = λ l. l }
 
 -- an entry that repeats nothing has no body
 pub no-body : (e : List ℕ) (i : ℕ) → (roleOf (entryOf e i .kind) ≡ Repeats → ⊥) → bodyLength e i ≡ 0
@@ -40,13 +40,13 @@ no-body e i unlike = go (eqb (entryOf e i .kind) 10) refl
     go true q = let ten = eqb-true (entryOf e i .kind) 10 q in absurd (unlike (rw (ten, roleOf)))
     go false q = refl
 
-module _ (e a : List ℕ) (room n h h′ : ℕ) (raised : Raised h h′) (r : Entry) (high : ℕ) (at-end : entryOf e (room - suc high) ≡ r)
+module _ (e a : List ℕ) (room n h h′ : ℕ) (may : MayRise h h′) (r : Entry) (high : ℕ) (at-end : entryOf e (room - suc high) ≡ r)
     (ok : okEntry a n h′ r ≡ true) (ts : List Item) (puts : entryItems a (items e a 9) r ≡ ts) where
   level-grow : (start len t : ℕ) (here : List Item) → start + len ≡ high → r .before ≡ t → Level e a room n start len h t here →
       Level e a room n start (suc len) h′ (t + sizeOf a r) (here ++ ts)
   level-grow start len t here s b l =
       let at : stacked e room start len ≡ r = rw s at-end in
-      let o = open-ok a a n n h h′ (le-refl _) (raised .rises) (λ q. raised .stays (omega arith) ∙ q) (λ b l q. refl) _ len t (l .ok) in
+      let o = open-ok a a n n h h′ (le-refl _) (may .rises) (λ q. may .stays (omega arith) ∙ q) (λ b l q. refl) _ len t (l .ok) in
       record {
         ok = rw at at (ok-snoc a n h′ (stacked e room start) len t o (rw at b) (rw at ok));
         shows = open-push a (items e a 9) (stacked e room start) len ∙ rw (at, l .shows, puts);
@@ -58,7 +58,7 @@ module _ (e a : List ℕ) (room n h h′ : ℕ) (raised : Raised h h′) (r : En
   unfolding Opened
   opened-grow top here closed start t bodies limit b unlike o =
       let ten = o .height in
-      let ten′ : h′ ≡ 10 = raised .stays (omega arith) ∙ ten in
+      let ten′ : h′ ≡ 10 = may .stays (omega arith) ∙ ten in
       record {
         starts = o .starts;
         height = ten′;
@@ -77,13 +77,13 @@ module _ (e a : List ℕ) (room n h h′ : ℕ) (raised : Raised h h′) (r : En
       let k = o .0 in
       let below = k .below in
       let low = k .low in
-      let rises = raised .rises in
+      let rises = may .rises in
       let len : suc high - start ≡ suc (high - start) = omega arith in (
         record {
           some = k .some;
           below = omega arith;
           low = omega arith;
-          lower = raised .lower (k .lower);
+          lower = may .lower (k .lower);
           level = rw len (level-grow start (high - start) t here (omega arith) b (k .level));
           early = k .early;
           known = k .known;
@@ -96,7 +96,7 @@ module _ (e a : List ℕ) (room n h h′ : ℕ) (raised : Raised h h′) (r : En
       let k = o .0 in
       let below = k .below in
       let nine = k .height in
-      let nine′ : h′ ≡ 9 = raised .stays (omega arith) ∙ nine in
+      let nine′ : h′ ≡ 9 = may .stays (omega arith) ∙ nine in
       let len : suc high - start ≡ suc (high - start) = omega arith in (
         record {
           some = k .some;
@@ -118,7 +118,7 @@ module _ (e a : List ℕ) (room n h h′ : ℕ) (raised : Raised h h′) (r : En
   unfolding bodyLength isRepeat
   top-grow here closed start t bodies b body kind o =
       let ten = o .height in
-      let ten′ : h′ ≡ 10 = raised .stays (omega arith) ∙ ten in
+      let ten′ : h′ ≡ 10 = may .stays (omega arith) ∙ ten in
       record {
         starts = o .starts;
         height = ten′;

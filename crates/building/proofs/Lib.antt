@@ -7,3 +7,4 @@ pub mod Settle
 pub mod Close
 pub mod Finish
 pub mod Contour
+pub mod Starts

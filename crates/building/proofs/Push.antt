@@ -22,7 +22,7 @@ use Rattle.sheet.proofs.Build.{stacked, ok-none, openItems}
 use Rattle.building.specs.Open.{Level, Opened, Built}
 use Rattle.building.proofs.Frame.{Agrees, block-kept, fuel}
 use Rattle.building.proofs.Same.{opened-same}
-use Rattle.building.proofs.Grow.{Raised}
+use Rattle.building.proofs.Grow.{MayRise}
 use Rattle.building.proofs.Steps.{same-kind, same-block, built-same, built-grow, item-grow}
 
 uses-repeat-not : Uses ≡ Repeats → ⊥
@@ -68,14 +68,14 @@ module _ (s : Sheet) (e a : List ℕ) (room n closed high start h t : ℕ) (buil
   push-item role b ok = item-grow s e′ a room n closed high start h t kept r (pushed .new) left role b ok
 
   -- a flash of the block in aperture record r .who
-  pub push-flash : (h′ : ℕ) → roleOf (r .kind) ≡ Uses → r .who < n → isBlock a (r .who) ≡ true → Raised h h′ → r .before ≡ t → okEntry a n h′ r ≡ true →
+  pub push-flash : (h′ : ℕ) → roleOf (r .kind) ≡ Uses → r .who < n → isBlock a (r .who) ≡ true → MayRise h h′ → r .before ≡ t → okEntry a n h′ r ≡ true →
       Built (put (map (flashedBy (r .place) (poseOf r)) (itemsOf (apertureOf a (r .who) .number) (s .blocks))) s) e′ a room n closed (suc high) start h′ (t + blockOf a (r .who) .items)
   unfolding entryItems puts sizeOf sizeAs
-  push-flash h′ role l q raised b ok =
+  push-flash h′ role l q may b ok =
       let size : sizeOf a r ≡ blockOf a (r .who) .items = ap (λ x. sizeAs x a r) role in
       let k = block-kept e′ a closed n (kept .blocks-ok) (r .who) l q in
       let eight = k .1 in
-      rw size at (built-grow s e′ a room n closed high start h t kept h′ r _ (pushed .new) left raised b (λ q. uses-repeat-not (sym role ∙ q)) ok
+      rw size at (built-grow s e′ a room n closed high start h t kept h′ r _ (pushed .new) left may b (λ q. uses-repeat-not (sym role ∙ q)) ok
       (ap (λ x. puts x a (items e′ a 9) r) role
       ∙ ap (map (flashedBy (r .place) (poseOf r))) (fuel e′ a closed n (kept .blocks-ok) (blockOf a (r .who)) (k .0) 9 8 (omega arith) eight ∙ kept .blocks-show (r .who) l q)))
 

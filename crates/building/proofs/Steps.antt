@@ -22,7 +22,7 @@ use Rattle.sheet.specs.declared.Role.the-variants.{Draws, Repeats}
 use Rattle.building.specs.Open.{Built}
 use Rattle.building.proofs.Frame.{Agrees, block-kept, kept-items, container-same}
 use Rattle.building.proofs.Same.{opened-same}
-use Rattle.building.proofs.Grow.{Raised, not-raised, opened-grow}
+use Rattle.building.proofs.Grow.{MayRise, stays-as-high, opened-grow}
 
 draws-repeat-not : Draws ≡ Repeats → ⊥
 draws-repeat-not q = let z : _≡_ {A = ℕ} 0 1 = cc in omega arith
@@ -100,11 +100,11 @@ module _ (s : Sheet) (e a : List ℕ) (room n closed high start h t : ℕ) (buil
           go false q = new (fresh b (ltb-false b n q) l)
 
   -- an entry that opens nothing, where the stack ends
-  pub built-grow : (h′ : ℕ) (r : Entry) (ts : List Item) → entryOf e (room - suc high) ≡ r → closed + high < room → Raised h h′ → r .before ≡ t →
+  pub built-grow : (h′ : ℕ) (r : Entry) (ts : List Item) → entryOf e (room - suc high) ≡ r → closed + high < room → MayRise h h′ → r .before ≡ t →
       (roleOf (r .kind) ≡ Repeats → ⊥) → okEntry a n h′ r ≡ true → entryItems a (items e a 9) r ≡ ts →
       Built (put ts s) e a room n closed (suc high) start h′ (t + sizeOf a r)
   unfolding put
-  built-grow h′ r ts at left raised b unlike ok shows = record {
+  built-grow h′ r ts at left may b unlike ok shows = record {
     as-long = built .as-long;
     fits = omega arith;
     blocks-ok = built .blocks-ok;
@@ -112,7 +112,7 @@ module _ (s : Sheet) (e a : List ℕ) (room n closed high start h t : ℕ) (buil
     distinct = built .distinct;
     bodies = built .bodies;
     lengths = built .lengths;
-    opened = opened-grow e a room n h h′ raised r high at ok ts shows (s .around) (s .here) closed start t (built .bodies) n b unlike (built .opened);
+    opened = opened-grow e a room n h h′ may r high at ok ts shows (s .around) (s .here) closed start t (built .bodies) n b unlike (built .opened);
   }
 
   -- an item
@@ -121,4 +121,4 @@ module _ (s : Sheet) (e a : List ℕ) (room n closed high start h t : ℕ) (buil
   unfolding entryItems puts sizeOf sizeAs
   item-grow r at left role b ok =
       let size : sizeOf a r ≡ 1 = ap (λ x. sizeAs x a r) role in
-      rw size at (built-grow h r (drawn r ∷ []) at left (not-raised h) b (λ q. draws-repeat-not (sym role ∙ q)) ok (ap (λ x. puts x a (items e a 9) r) role))
+      rw size at (built-grow h r (drawn r ∷ []) at left (stays-as-high h) b (λ q. draws-repeat-not (sym role ∙ q)) ok (ap (λ x. puts x a (items e a 9) r) role))

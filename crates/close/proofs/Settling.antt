@@ -1,22 +1,18 @@
 -- A container turned over, and its opening entry stored: it has settled.
 -- Assumes nothing.
 use Prim.Native.Nat.{ℕ, suc, _+_, _-_, _*_, _≤_, _<_}
-use mathlib.Core.Path.{_≡_, refl, sym, ap, _∙_}
-use mathlib.Core.List.{List, _++_, append-nil, append-assoc}
+use mathlib.Core.Path.{_≡_, sym, ap, _∙_}
+use mathlib.Core.List.{List, _++_}
 use native.Mathlib.Omega.{arith}
-use lib.ListN.{length, getD, set, take, drop, replicate, length-append, length-replicate, take-append-drop, drop-of-length-le, replicate-append-replicate, getD-replicate, List·getD-append, List·getD-eq-default}
-use lib.Seq.{length-take-le, drop-cons, set-at, getD-take, getD-append-add}
-use lib.Dec.{ltb}
-use borrow.Author.Tests.{ltb-true, ltb-false}
-use mathlib.Core.Bool.{Bool, true, false}
-use native.Mathlib.Nat.{le-refl}
-use native.Mathlib.Numerals.{add-one}
+use lib.ListN.{length, take, replicate, length-append, length-replicate, List·getD-append}
+use lib.Seq.{length-take-le, getD-take, getD-append-add}
 use Rattle.sheet.specs.Records.{entryOf, entryRoom, entryWords, stored}
 use Rattle.sheet.specs.declared.Entry.{Entry}
 use Rattle.sheet.proofs.Stored.{entry-stored, entry-kept, entry-same-words}
 use Rattle.stack.specs.Stack.{Turned}
 use Rattle.build.specs.declared.Builder.{Builder}
 use Rattle.close.specs.Closed.{Closes, Left, Ended}
+use Rattle.close.proofs.Clearing.{zeros-read}
 
 pub settles : (e e₁ e₂ : List ℕ) (b : Builder) (r : Entry) → Closes e b → Turned e e₁ (b .closed) (entryRoom e - b .start) (b .high - b .start) →
     e₂ ≡ stored e₁ ((entryRoom e - b .start) * 15) (entryWords r) → length e₂ ≡ length e₁ → Left e e₂ b r
@@ -39,26 +35,6 @@ settles e e₁ e₂ b r c t q long =
       left = rw q (entry-stored e₁ (entryRoom e - b .start) r inside);
     }
 
--- words from p up to i are 0
-pub cleared : List ℕ → ℕ → ℕ → List ℕ
-cleared e p i = take p e ++ replicate (i - p) 0 ++ drop i e
-
-pub cleared-none : (e : List ℕ) (p : ℕ) → e ≡ cleared e p p
-unfolding cleared
-cleared-none e p = let z : p - p ≡ 0 = omega arith in rw (z, append-nil) (sym (take-append-drop p e))
-
-pub cleared-more : (e : List ℕ) (p i : ℕ) → p ≤ i → i < length e → set (cleared e p i) i 0 ≡ cleared e p (i + 1)
-unfolding cleared
-cleared-more e p i l inside =
-    let front : length (take p e ++ replicate {A = ℕ} (i - p) 0) ≡ i = length-append (take p e) (replicate (i - p) 0) ∙ rw (length-take-le p e (omega arith), length-replicate {A = ℕ} (i - p) 0) (omega arith) in
-    let one : i + 1 - p ≡ i - p + 1 = omega arith in
-    let seam = set-at (take p e ++ replicate (i - p) 0) (getD e i 0) (drop (suc i) e) 0 i front in
-    rw (drop-cons e i 0 inside, seam, one, ← replicate-append-replicate {A = ℕ} (i - p) 1 0, add-one i) (simp append-assoc)
-
-pub cleared-all : (e : List ℕ) (p i : ℕ) → i ≤ length e → length e ≤ i → cleared e p i ≡ take p e ++ replicate (length e - p) 0
-unfolding cleared
-cleared-all e p i l m = let z : i ≡ length e = omega arith in rw (z, drop-of-length-le e (le-refl _)) (append-nil _)
-
 -- all turned over, and what lies behind it cleared
 pub ends : (e e₁ e₂ : List ℕ) (b : Builder) → b .closed + b .high ≤ entryRoom e → Turned e e₁ (b .closed) (entryRoom e) (b .high) →
     e₂ ≡ take ((b .closed + b .high) * 15) e₁ ++ replicate (length e₁ - (b .closed + b .high) * 15) 0 → Ended e e₂ b
@@ -73,12 +49,5 @@ ends e e₁ e₂ b fits t q =
       settled = λ i l. sym (same (b .closed + i) (omega arith) ∙ t .turned i l);
       zeros = λ w l.
           let at : w ≡ length (take ((b .closed + b .high) * 15) e₁) + (w - (b .closed + b .high) * 15) = omega arith in
-          rw (q, at) (getD-append-add (take ((b .closed + b .high) * 15) e₁) _ (w - (b .closed + b .high) * 15) 0 ∙ zero-at (length e₁ - (b .closed + b .high) * 15) (w - (b .closed + b .high) * 15));
+          rw (q, at) (getD-append-add (take ((b .closed + b .high) * 15) e₁) _ (w - (b .closed + b .high) * 15) 0 ∙ zeros-read 0 (length e₁ - (b .closed + b .high) * 15) (w - (b .closed + b .high) * 15));
     }
-  where
-    zero-at : (n i : ℕ) → getD (replicate {A = ℕ} n 0) i 0 ≡ 0
-    zero-at n i = go (ltb i n) refl
-      where
-        go : (x : Bool) → ltb i n ≡ x → getD (replicate {A = ℕ} n 0) i 0 ≡ 0
-        go true z = getD-replicate n i 0 0 (ltb-true i n z)
-        go false z = List·getD-eq-default (replicate n 0) 0 (rw (length-replicate {A = ℕ} n 0) (ltb-false i n z))

@@ -1,6 +1,6 @@
 -- A block that closes: its fault, and what is known behind it.
 -- Assumes nothing.
-use Prim.Native.Nat.{ℕ, suc, _+_, _-_, _≤_, _<_}
+use Prim.Native.Nat.{ℕ, _+_, _-_, _≤_, _<_}
 use mathlib.Core.Path.{_≡_, refl, sym, ap, _∙_}
 use mathlib.Core.Bool.{false, not}
 use mathlib.Core.List.{List, [], _∷_, _++_}
@@ -16,11 +16,13 @@ use Rattle.command.specs.declared.Command.the-variants as command
 use Rattle.changes.specs.After.{after}
 use Rattle.fits.specs.declared.Level.{Level}
 use Rattle.drawing.specs.Counts.{most, counted}
+use Rattle.drawing.proofs.Faults.{unbroken}
 use Rattle.rules.specs.Rules.{closingFault}
 use Rattle.marks.specs.Marks.{marksOf}
 use Rattle.bounds.proofs.Tables.{neither}
 use Rattle.sheet.specs.Records.{entryRoom, apertureOf, apertureRoom}
 use Rattle.building.specs.Open.{opener}
+use Rattle.building.proofs.Grow.{stays-as-high}
 use Rattle.build.specs.declared.Builder.{Builder}
 use Rattle.close.specs.Closed.{Closes, BlockClosed}
 use Rattle.shown.specs.Shown.{blank, Shows}
@@ -37,9 +39,9 @@ use Rattle.progress.specs.Tables.{ApertureTable, Chosen}
 use Rattle.progress.specs.Around.{Around}
 use Rattle.progress.specs.Knows.{Knows, Known, Follows, StepsTo}
 use Rattle.progress.specs.declared.Stepped.the-variants.{Next, Fault}
+use Rattle.progress.proofs.Around.{start-low, openers-kept, around-kept}
 use Rattle.progress.proofs.Levels.{block-level}
-use Rattle.containers.proofs.Around.{around-same, start-below}
-use Rattle.containers.proofs.Faults.{row-false, no-contour}
+use Rattle.containers.proofs.Faults.{no-contour}
 use Rattle.containers.proofs.Levels.{inside-block, AroundBlock, around-block}
 use Rattle.containers.proofs.Tables.{closing-room, closing-kept, table-closed, chosen-closed}
 
@@ -65,7 +67,7 @@ module _ (w : Lent) (s : State) (p : Progress) (k : Knows w p s) where
   module _ (none : closingFault (p .graphics) (levelOf p) 1 ≡ 0) where
     passes : (p .graphics .region .on ≡ false) × (not (eqb (levelOf p .inside) 1) ≡ false)
     unfolding closingFault
-    passes = neither _ _ (row-false _ 7 _ (lit≤ tt) none .0)
+    passes = neither _ _ (unbroken (lit≤ tt) none .0)
 
     low : p .builder .height ≤ 8
     unfolding levelOf
@@ -90,7 +92,7 @@ module _ (w : Lent) (s : State) (p : Progress) (k : Knows w p s) where
         let below = inner .here .below in
         record {
           some = omega arith;
-          below = start-below (written (s .marks) blank) (w .entries) (w .apertures) (entryRoom (w .entries)) (p .apertures) (p .builder) (k .shows);
+          below = start-low w p s k;
           fits = k .shows .fits;
         }
 
@@ -120,18 +122,16 @@ module _ (w : Lent) (s : State) (p : Progress) (k : Knows w p s) where
           (inner .here .early) (s .graphics .aperture) (inner .here .is-open) (k .aperture))
 
       openers : (q : ℕ) → 1 ≤ q → q ≤ p .builder .start - 1 → opener (w .entries) (entryRoom (w .entries)) q ≡ opener e′ (entryRoom (w .entries)) q
-      openers q some below =
-          let one : suc (q - 1) ≡ q = omega arith in
-          rw one at (c .leaves .moved .same-stack (q - 1) (omega arith))
+      openers = openers-kept (w .entries) e′ (entryRoom (w .entries)) (p .builder .start - 1) (λ q l. c .leaves .moved .same-stack q (omega arith))
 
       around-then : Around e′ a′ (entryRoom e′) (p .apertures) (inner .others) (b .start) (b .height) (p .depth - 1) (p .copies) (p .sheet)
       around-then =
           let below = inner .here .below in
           let early = inner .here .early in
           rw (c .leaves .moved .as-long, c .next)
-          (around-same (w .entries) (w .apertures) e′ a′ (entryRoom (w .entries)) (p .builder .start - 1) who openers
+          (around-kept (w .entries) (w .apertures) e′ a′ (entryRoom (w .entries)) (p .builder .start - 1) who openers
           (λ i l. sym (kept i (λ q. let z : i ≡ who = q in absurd (omega arith))))
-          (inner .others) who (p .apertures) _ _ (p .depth - 1) (p .copies) (p .sheet) (omega arith) (le-refl _) (omega arith) (inner .rest))
+          (inner .others) who (p .apertures) _ _ _ (p .depth - 1) (p .copies) (p .sheet) (omega arith) (le-refl _) (omega arith) (stays-as-high _) (inner .rest))
 
       shows-then : Shows (s .marks ++ finish ∷ []) e′ a′ (entryRoom e′) (p .apertures) b
       unfolding edges

@@ -18,6 +18,7 @@ use Rattle.command.specs.declared.Command.the-variants as command
 use Rattle.changes.specs.After.{after}
 use Rattle.fits.specs.declared.Level.{Level}
 use Rattle.drawing.specs.Counts.{counted}
+use Rattle.drawing.proofs.Faults.{unbroken}
 use Rattle.rules.specs.Rules.{blockStartFault}
 use Rattle.marks.specs.Marks.{marksOf}
 use Rattle.bounds.proofs.Tables.{neither}
@@ -33,6 +34,7 @@ use Rattle.tables.specs.Added.{added}
 use Rattle.tables.specs.Apertures.{apertureWords}
 use Rattle.tables.proofs.Apertures.{aperture-numbered}
 use Rattle.building.specs.Open.{opener}
+use Rattle.building.proofs.Grow.{stays-as-high}
 use Rattle.build.specs.declared.Builder.{Builder}
 use Rattle.build.specs.declared.Put.{Put}
 use Rattle.build.specs.declared.Put.the-variants as put
@@ -50,14 +52,14 @@ use Rattle.reading.specs.Steps.{Step, passed, withLevel, withOpened, blockStart
 use Rattle.progress.specs.declared.Progress.{Progress}
 use Rattle.progress.specs.Lent.{Lent, roomOf, withEntries, withApertures}
 use Rattle.progress.specs.Levels.{levelAt, levelOf, Counted}
-use Rattle.progress.specs.Tables.{told, ApertureTable}
+use Rattle.progress.specs.Tables.{asRead, ApertureTable}
 use Rattle.progress.specs.Around.{Around}
 use Rattle.progress.specs.Knows.{Knows, Known, Follows, StepsTo}
 use Rattle.progress.specs.declared.Stepped.the-variants.{Next, Fault}
+use Rattle.progress.proofs.Around.{start-low, around-kept}
 use Rattle.progress.proofs.Levels.{block-level}
 use Rattle.progress.proofs.Apertures.{number-is, taken-at, taken-free, known-long, record-kept, record-new, table-more, chosen-kept}
-use Rattle.containers.proofs.Around.{around-same, start-below}
-use Rattle.containers.proofs.Faults.{row-false, no-contour, full-is}
+use Rattle.containers.proofs.Faults.{no-contour, full-is}
 
 -- a number that is taken is a fault
 pub taken-fault : (g : Graphics) (l : Level) (full : Bool) → 1 ≤ blockStartFault g l true full
@@ -102,10 +104,10 @@ module _ (w : Lent) (s : State) (p : Progress) (k : Knows w p s) (place n : ℕ)
     passes : (p .graphics .region .on ≡ false) × (leb 8 (levelOf p .depth) ≡ false) × (fullAt (w .entries) (w .apertures) p ≡ false)
     unfolding blockStartFault
     passes =
-        let first = row-false _ 7 _ (lit≤ tt) none in
-        let second = row-false _ 8 _ (lit≤ tt) (first .1) in
-        let third = row-false _ 15 _ (lit≤ tt) (second .1) in
-        let fourth = row-false _ 17 _ (lit≤ tt) (third .1) in
+        let first = unbroken (lit≤ tt) none in
+        let second = unbroken (lit≤ tt) (first .1) in
+        let third = unbroken (lit≤ tt) (second .1) in
+        let fourth = unbroken (lit≤ tt) (third .1) in
         (first .0, third .0, fourth .0)
 
     pub block-depth : p .depth < 8
@@ -157,7 +159,7 @@ module _ (w : Lent) (s : State) (p : Progress) (k : Knows w p s) (place n : ℕ)
     around-then : Around leaves records (entryRoom leaves) (p .apertures + 1) (opened.block n (s .level) ∷ s .opened) (p .builder .high + 1) 1 (p .depth + 1) (p .copies) (p .sheet)
     unfolding Around blockEntry opening levelOf
     around-then =
-        let below = start-below (written (s .marks) blank) (w .entries) (w .apertures) (entryRoom (w .entries)) (p .apertures) (p .builder) (k .shows) in
+        let below = start-low w p s k in
         let one : p .depth + 1 - 1 ≡ p .depth = omega arith in
         rw (long, opener-is, one) (
           record {
@@ -171,8 +173,8 @@ module _ (w : Lent) (s : State) (p : Progress) (k : Knows w p s) (place n : ℕ)
             level = rw one (k .level);
             counts = k .counts;
           },
-          around-same (w .entries) (w .apertures) leaves records (entryRoom (w .entries)) (p .builder .high) (p .apertures) openers (λ i l. sym (kept i l))
-              (s .opened) (p .apertures) (p .apertures) (p .builder .start) (p .builder .height) (p .depth) (p .copies) (p .sheet) below (le-refl _) (le-refl _) (k .around),
+          around-kept (w .entries) (w .apertures) leaves records (entryRoom (w .entries)) (p .builder .high) (p .apertures) openers (λ i l. sym (kept i l))
+              (s .opened) (p .apertures) (p .apertures) (p .builder .start) (p .builder .height) (p .builder .height) (p .depth) (p .copies) (p .sheet) below (le-refl _) (le-refl _) (stays-as-high _) (k .around),
         )
 
     shows-then : Shows (s .marks ++ begin (block n) ∷ []) leaves records (entryRoom leaves) (p .apertures + 1) (inner (p .builder) 1)
@@ -185,7 +187,7 @@ module _ (w : Lent) (s : State) (p : Progress) (k : Knows w p s) (place n : ℕ)
         (sym (number-is records c) ∙ q ∙ number-is records d)))
 
     table-then : ApertureTable records (p .apertures + 1) (s .apertures ++ (opening n ∷ []))
-    unfolding told opening
+    unfolding asRead opening
     table-then = table-more (w .apertures) (p .apertures) (s .apertures) (k .apertures) link (opening n) record-room opening-free (lit≤ tt) (lit≤ tt)
 
     pub block-begins : Knows (withApertures records (withEntries leaves w)) (blocked p n) (blockStartStep (roomOf w) place n s .next)

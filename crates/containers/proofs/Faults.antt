@@ -1,22 +1,16 @@
--- A command without fault breaks none of its rules, and draws no contour; room is full where no record is left.
+-- Room is full where no record is left; outside a region no contour is drawn.
 -- Assumes nothing.
-use Prim.Native.Nat.{ℕ, _-_, _≤_}
+use Prim.Native.Nat.{ℕ, _-_}
 use mathlib.Core.Path.{_≡_, refl, sym, ap, _∙_}
 use mathlib.Core.Bool.{Bool, true, false, not}
 use native.Mathlib.Omega.{arith}
 use lib.Dec.{eqb, ltb}
 use borrow.Author.Tests.{ltb-true, ltb-false, eq-eqb, ne-eqb}
-use Rattle.command.specs.Choose.{pick}
 use Rattle.graphics.specs.declared.Graphics.{Graphics}
 use Rattle.reading.specs.State.{State}
 use Rattle.progress.specs.Lent.{Lent}
 use Rattle.progress.specs.declared.Progress.{Progress}
 use Rattle.progress.specs.Knows.{Knows}
-
-pub row-false : (b : Bool) (k rest : ℕ) → 1 ≤ k → pick b k rest ≡ 0 → (b ≡ false) × (rest ≡ 0)
-unfolding pick
-row-false true k rest l q = absurd (let z : k ≡ 0 = q in omega arith)
-row-false false k rest l q = (refl, q)
 
 pub full-is : (room used : ℕ) → eqb (room - used) 0 ≡ not (ltb used room)
 full-is room used = go (ltb used room) refl

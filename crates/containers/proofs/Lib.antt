@@ -1,5 +1,4 @@
 pub mod Faults
-pub mod Around
 pub mod Levels
 pub mod Tables
 pub mod Repeats

@@ -16,12 +16,14 @@ use Rattle.command.specs.declared.Command.the-variants as command
 use Rattle.changes.specs.After.{after}
 use Rattle.fits.specs.declared.Level.{Level}
 use Rattle.drawing.specs.Counts.{most, counted}
+use Rattle.drawing.proofs.Faults.{unbroken}
 use Rattle.rules.specs.Rules.{closingFault}
 use Rattle.marks.specs.Marks.{marksOf}
 use Rattle.bounds.proofs.Tables.{neither}
 use Rattle.sheet.specs.Records.{entryRoom}
 use Rattle.sheet.specs.declared.Entry.{Entry}
 use Rattle.building.specs.Open.{opener}
+use Rattle.building.proofs.Grow.{stays-as-high}
 use Rattle.build.specs.declared.Builder.{Builder}
 use Rattle.close.specs.Closed.{Closes, RepeatClosed}
 use Rattle.shown.specs.Shown.{blank, Shows}
@@ -36,9 +38,9 @@ use Rattle.progress.specs.Levels.{levelOf, Counted}
 use Rattle.progress.specs.Around.{Around}
 use Rattle.progress.specs.Knows.{Knows, Known, Follows, StepsTo}
 use Rattle.progress.specs.declared.Stepped.the-variants.{Next, Fault}
+use Rattle.progress.proofs.Around.{start-low, around-kept}
 use Rattle.progress.proofs.Levels.{repeat-level, top-level}
-use Rattle.containers.proofs.Around.{around-same, start-below}
-use Rattle.containers.proofs.Faults.{row-false, no-contour}
+use Rattle.containers.proofs.Faults.{no-contour}
 use Rattle.containers.proofs.Levels.{inside-repeat, AroundRepeat, around-repeat}
 
 -- how far reading has come behind the SR that closes
@@ -63,7 +65,7 @@ module _ (w : Lent) (s : State) (p : Progress) (k : Knows w p s) where
   module _ (none : closingFault (p .graphics) (levelOf p) 2 ≡ 0) where
     passes : (p .graphics .region .on ≡ false) × (not (eqb (levelOf p .inside) 2) ≡ false)
     unfolding closingFault
-    passes = neither _ _ (row-false _ 7 _ (lit≤ tt) none .0)
+    passes = neither _ _ (unbroken (lit≤ tt) none .0)
 
     nine : p .builder .height ≡ 9
     unfolding levelOf
@@ -89,7 +91,7 @@ module _ (w : Lent) (s : State) (p : Progress) (k : Knows w p s) where
     pub repeat-closes : Closes (w .entries) (p .builder)
     repeat-closes = record {
       some = inner .here .some;
-      below = start-below (written (s .marks) blank) (w .entries) (w .apertures) (entryRoom (w .entries)) (p .apertures) (p .builder) (k .shows);
+      below = start-low w p s k;
       fits = k .shows .fits;
     }
 
@@ -118,8 +120,8 @@ module _ (w : Lent) (s : State) (p : Progress) (k : Knows w p s) where
           at-depth : (d : ℕ) → d ≡ 0 → Around e′ (w .apertures) (entryRoom e′) (p .apertures) (inner .others) (b .start) (b .height) d 1 0
           at-depth d none-open =
               rw (c .leaves .moved .as-long, c .next, inner .here .first, none-open)
-              (around-same (w .entries) (w .apertures) e′ (w .apertures) (entryRoom (w .entries)) 0 (p .apertures) (λ q some below. absurd (omega arith)) (λ i l. refl)
-              (inner .others) (p .apertures) (p .apertures) 0 10 0 1 0 (le-refl _) (le-refl _) (le-refl _) (inner .rest))
+              (around-kept (w .entries) (w .apertures) e′ (w .apertures) (entryRoom (w .entries)) 0 (p .apertures) (λ q some below. absurd (omega arith)) (λ i l. refl)
+              (inner .others) (p .apertures) (p .apertures) 0 10 10 0 1 0 (le-refl _) (le-refl _) (le-refl _) (stays-as-high _) (inner .rest))
 
       shows-then : Shows (s .marks ++ finish ∷ []) e′ (w .apertures) (entryRoom e′) (p .apertures) b
       unfolding edges

@@ -21,6 +21,7 @@ use Rattle.changes.specs.After.{after}
 use Rattle.fits.specs.declared.Level.{Level}
 use Rattle.drawing.specs.Counts.{most, counted}
 use Rattle.rules.specs.Bounds.{isCount, isRepeat}
+use Rattle.drawing.proofs.Faults.{unbroken}
 use Rattle.rules.specs.Rules.{repeatStartFault}
 use Rattle.marks.specs.Marks.{repeatOf, marksOf}
 use Rattle.bounds.specs.Bounded.{Repeats}
@@ -48,7 +49,7 @@ use Rattle.progress.specs.Knows.{Knows, Known, Follows, StepsTo}
 use Rattle.progress.specs.declared.Stepped.the-variants.{Next, Fault}
 use Rattle.progress.proofs.Levels.{repeat-level, top-level}
 use Rattle.containers.proofs.Levels.{inside-top, around-top}
-use Rattle.containers.proofs.Faults.{row-false, no-contour, full-is}
+use Rattle.containers.proofs.Faults.{no-contour, full-is}
 
 -- the bounds of SR
 pub record Counts (nx ny : ℕ) : Type 0 where
@@ -99,9 +100,9 @@ module _ (w : Lent) (s : State) (p : Progress) (k : Knows w p s) (place nx ny : 
     passes : ((p .graphics .region .on or not (eqb (levelOf p .inside) 0)) ≡ false) × (isRepeat nx ny dx dy ≡ true) × (hasRoom (w .entries) (p .builder .closed) (p .builder .high) ≡ true)
     unfolding repeatStartFault
     passes =
-        let first = row-false _ 7 _ (lit≤ tt) none in
-        let second = row-false _ 10 _ (lit≤ tt) (first .1) in
-        let third = row-false _ 17 _ (lit≤ tt) (second .1) in
+        let first = unbroken (lit≤ tt) none in
+        let second = unbroken (lit≤ tt) (first .1) in
+        let third = unbroken (lit≤ tt) (second .1) in
         (first .0, not-false _ (second .0), not-false _ (third .0))
 
     pub repeat-counts : Counts nx ny

@@ -21,8 +21,9 @@ use Rattle.tables.proofs.Numbers.{numbered-agree}
 use Rattle.drawing.specs.Counts.{most}
 use Rattle.graphics.specs.declared.Selected.{Selected}
 use Rattle.reading.specs.Apertures.{selected, blockOf, closing}
-use Rattle.progress.specs.Tables.{told, ApertureTable, Chosen}
-use Rattle.progress.proofs.Apertures.{told-number, number-is}
+use Rattle.progress.specs.Tables.{asRead, ApertureTable, Chosen}
+use Rattle.progress.proofs.AsRead.{block-as-read, number-as-read}
+use Rattle.progress.proofs.Apertures.{number-is}
 
 -- `closing` goes over the records one by one
 closing-run : (f g : ℕ → Aperture) (n items height p k : ℕ) → ((j : ℕ) → p ≤ j → j < p + k → cond (eqb n (f j .number)) (blockOf n items height) (f j) ≡ g j) →
@@ -33,10 +34,6 @@ closing-run f g n items height p (suc k) each =
     let first = each p (omega arith) (omega arith) in
     let rest = closing-run f g n items height (suc p) k (λ j l m. each j (omega arith) (omega arith)) in
     λ x. first x ∷ rest x
-
-told-block : (n first len items height : ℕ) → told (record { number = n; kind = 6; first = first; len = len; items = items; height = height }) ≡ blockOf n items height
-unfolding told
-told-block n first len items height = refl
 
 module _ (a : List ℕ) (used : ℕ) (known : List Aperture) (t : ApertureTable a used known) (i first len items height : ℕ) (inside : i < used) where
   abbrev a′ : List ℕ
@@ -83,23 +80,23 @@ module _ (a : List ℕ) (used : ℕ) (known : List Aperture) (t : ApertureTable 
   abbrev n : ℕ
   n = apertureOf a i .number
 
-  each : (j : ℕ) → j < used → cond (eqb n (told (apertureOf a j) .number)) (blockOf n items height) (told (apertureOf a j)) ≡ told (apertureOf a′ j)
-  each = either (λ j. j < used → cond (eqb n (told (apertureOf a j) .number)) (blockOf n items height) (told (apertureOf a j)) ≡ told (apertureOf a′ j))
-      (λ l. rw (eq-eqb n (told (apertureOf a i) .number) (sym (told-number (apertureOf a i))), closed) (sym (told-block n first len items height)))
-      (λ j ne l. rw (ne-eqb n (told (apertureOf a j) .number) (λ q. ne (t .indexed .distinct j i l inside (sym (number-is a j) ∙ sym (told-number (apertureOf a j)) ∙ sym q ∙ number-is a i))), closing-kept j ne))
+  each : (j : ℕ) → j < used → cond (eqb n (asRead (apertureOf a j) .number)) (blockOf n items height) (asRead (apertureOf a j)) ≡ asRead (apertureOf a′ j)
+  each = either (λ j. j < used → cond (eqb n (asRead (apertureOf a j) .number)) (blockOf n items height) (asRead (apertureOf a j)) ≡ asRead (apertureOf a′ j))
+      (λ l. rw (eq-eqb n (asRead (apertureOf a i) .number) (sym (number-as-read (apertureOf a i))), closed) (sym (block-as-read (record { number = n; kind = 6; first = first; len = len; items = items; height = height }) refl)))
+      (λ j ne l. rw (ne-eqb n (asRead (apertureOf a j) .number) (λ q. ne (t .indexed .distinct j i l inside (sym (number-is a j) ∙ sym (number-as-read (apertureOf a j)) ∙ sym q ∙ number-is a i))), closing-kept j ne))
 
   pub table-closed : items ≤ most → height ≤ 8 → ApertureTable a′ used (closing n items height known)
   table-closed few low = record {
     indexed = indexed-then;
-    records = rw (← t .records) (sym (closing-run (λ j. told (apertureOf a j)) (λ j. told (apertureOf a′ j)) n items height 0 used (λ j l m. each j (omega arith))));
+    records = rw (← t .records) (sym (closing-run (λ j. asRead (apertureOf a j)) (λ j. asRead (apertureOf a′ j)) n items height 0 used (λ j l m. each j (omega arith))));
     few = λ j l. either (λ j. j < used → apertureOf a′ j .items ≤ most) (λ m. rw closed few) (λ j ne m. rw (closing-kept j ne) (t .few j m)) j l;
     low = λ j l. either (λ j. j < used → apertureOf a′ j .height ≤ 8) (λ m. rw closed low) (λ j ne m. rw (closing-kept j ne) (t .low j m)) j l;
     unused = λ k l. word-kept k (λ q. omega arith) ∙ t .unused k l;
   }
 
   -- the aperture that is chosen is no block that is open
-  open-unset : (slot : ℕ) (r : Aperture) → r .kind ≡ 0 → selected slot (told r) .set ≡ false
-  unfolding selected told
+  open-unset : (slot : ℕ) (r : Aperture) → r .kind ≡ 0 → selected slot (asRead r) .set ≡ false
+  unfolding selected asRead
   open-unset slot r q = rw q
 
   pub chosen-closed : (c : Selected) → apertureOf a i .kind ≡ 0 → Chosen a used c → Chosen a′ used c

@@ -4,6 +4,7 @@ use Prim.Native.Nat.{ℕ, _+_, _-_, _≤_, _<_}
 use mathlib.Core.Path.{_≡_, refl, sym, ap, _∙_}
 use mathlib.Core.Bool.{Bool, true, false, not, cond}
 use mathlib.Core.List.{List, _++_}
+use native.Mathlib.Nat.{le-refl}
 use native.Mathlib.Omega.{arith}
 use lib.Dec.{eqb, leb, ltb}
 use lib.IntN.{ℤ}
@@ -13,7 +14,7 @@ use Rattle.base.specs.Or.{_or_}
 use Rattle.command.specs.Choose.{pick}
 use Rattle.index.specs.declared.Search.the-variants.{At, Free}
 use Rattle.index.specs.Numbers.{numbered}
-use Rattle.sheet.specs.Records.{apertureRoom}
+use Rattle.sheet.specs.Records.{entryRoom, apertureRoom}
 use Rattle.sheet.specs.declared.Aperture.{Aperture}
 use Rattle.tables.specs.Added.{hasRoom, added}
 use Rattle.tables.specs.Apertures.{apertureWords}
@@ -27,26 +28,28 @@ use Rattle.reading.specs.Apertures as reading
 use Rattle.reading.specs.Apertures.{isStandard, isAmong, namesOf, outcomeOf, defined}
 use Rattle.reading.specs.Steps.{apertureStep}
 use Rattle.reading.specs.Steps as steps
+use Rattle.drawing.proofs.Faults.{unbroken}
+use Rattle.building.proofs.Grow.{stays-as-high}
 use Rattle.progress.specs.Lent.{Lent, roomOf, withApertures, withNumbers}
 use Rattle.progress.specs.Levels.{levelOf}
 use Rattle.progress.specs.Tables.{ApertureTable, NumberTable}
 use Rattle.progress.specs.Knows.{Knows, Follows}
 use Rattle.progress.specs.declared.Progress.{Progress}
 use Rattle.progress.specs.declared.Stepped.the-variants.{Next, Fault}
+use Rattle.progress.proofs.Around.{around-kept}
+use Rattle.progress.proofs.AsRead.{other-as-read}
 use Rattle.progress.proofs.Apertures.{
   taken-at,
   taken-free,
   known-long,
-  told-other,
   record-kept,
   table-more,
   shows-more,
   chosen-kept,
-  around-kept,
 }
 use Rattle.definitions.specs.Lends.{Lends}
 use Rattle.definitions.specs.Worked.{Comes, Works, WorksOut}
-use Rattle.definitions.proofs.Passing.{passes, passes-number, room-full}
+use Rattle.definitions.proofs.Passing.{passes-number, room-full}
 use Rattle.definitions.proofs.Kept.{over-is, kept-inside, behind-kept, numbers-more}
 
 -- ---- the rules
@@ -172,15 +175,15 @@ module _ (w : Lent) (p : Progress) (s : State) (k : Knows w p s) (file a m : Lis
 
       outside : s .graphics .region .on ≡ false
       unfolding apertureFault
-      outside = rw (← k .graphics) (passes _ _ _ (omega arith) none .0)
+      outside = rw (← k .graphics) (unbroken (omega arith) none .0)
 
       rest : (o .number ≡ 0) × (pick {A = ℕ} (not room) 17 0 ≡ 0)
       unfolding apertureFault
-      rest = passes-number (o .number) _ (passes _ _ _ (omega arith) (passes _ _ _ (omega arith) none .1) .1)
+      rest = passes-number (o .number) _ (unbroken (omega arith) (unbroken (omega arith) none .1) .1)
 
       there : p .apertures < apertureRoom a
       unfolding hasRoom
-      there = ltb-true _ _ (sym er ∙ not-false _ (passes _ _ _ (omega arith) (rest .1) .0))
+      there = ltb-true _ _ (sym er ∙ not-false _ (unbroken (omega arith) (rest .1) .0))
 
       comes-by : (b : Bool) → Works b e numbers l′ (p .numbers) o → Comes e numbers l′ (p .numbers) o
       unfolding Works
@@ -243,8 +246,9 @@ module _ (w : Lent) (p : Progress) (s : State) (k : Knows w p s) (file a m : Lis
                 aperture = rw ea (chosen-kept a _ (p .apertures) (p .apertures + 1) (s .graphics .aperture) kept (omega arith) (rw (lends .apertures-are) at (k .aperture)));
                 level = k .level;
                 counts = k .counts;
-                around = rw ea (around-kept (w .entries) a _ _ (p .apertures) (p .apertures + 1) (s .opened) _ _ _ _ _ kept (omega arith) (rw (lends .apertures-are) at (k .around)));
-                apertures = rw ea (rw (told-other r other ∙ is-defined) at (table-more a (p .apertures) (s .apertures) table link r there free (omega arith) (omega arith)));
+                around = rw ea (around-kept (w .entries) a (w .entries) _ (entryRoom (w .entries)) (p .builder .start) (p .apertures) (λ q some below. refl) (λ i l. sym (kept i l))
+                    (s .opened) (p .apertures) (p .apertures + 1) (p .builder .start) _ _ _ _ _ (le-refl _) (le-refl _) (omega arith) (stays-as-high _) (rw (lends .apertures-are) at (k .around)));
+                apertures = rw ea (rw (other-as-read r other ∙ is-defined) at (table-more a (p .apertures) (s .apertures) table link r there free (omega arith) (omega arith)));
                 macros = k .macros;
                 numbers = more-numbers;
                 entries = k .entries;

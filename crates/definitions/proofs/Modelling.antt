@@ -23,6 +23,7 @@ use Rattle.reading.specs.State.{State}
 use Rattle.reading.specs.Apertures.{isAmong, namesOf, isStandard}
 use Rattle.reading.specs.Steps.{macroStep}
 use Rattle.reading.specs.Steps as steps
+use Rattle.drawing.proofs.Faults.{unbroken}
 use Rattle.progress.specs.Lent.{Lent, roomOf, withMacros}
 use Rattle.progress.specs.Levels.{levelOf}
 use Rattle.progress.specs.Tables.{templateOf, MacroTable}
@@ -30,7 +31,7 @@ use Rattle.progress.specs.Knows.{Knows, Follows}
 use Rattle.progress.specs.declared.Progress.{Progress}
 use Rattle.progress.specs.declared.Stepped.the-variants.{Next, Fault}
 use Rattle.progress.proofs.Macros.{among-at, among-free, known-long, table-more}
-use Rattle.definitions.proofs.Passing.{passes, room-full, or-true, or-false}
+use Rattle.definitions.proofs.Passing.{room-full, or-true, or-false}
 
 -- a name that is taken is at fault whatever else is
 taken-fault : (g : Graphics) (deep full deep′ full′ : Bool) → macroFault g true deep full ≡ macroFault g true deep′ full′
@@ -84,8 +85,8 @@ module _ (w : Lent) (p : Progress) (s : State) (k : Knows w p s) (file m : List 
         }))
     unfolding Follows macroStep steps.withMacros withMacros levelOf macroFault hasRoom templateOf
     macro-goes z r en eb ordered inside m′ em =
-        let f = passes _ _ _ (omega arith) (passes _ _ _ (omega arith) (passes _ _ _ (omega arith) (sym ef ∙ z) .1) .1) .1 in
-        let has : room ≡ true = not-false _ (passes _ _ _ (omega arith) f .0) in
+        let f = unbroken (omega arith) (unbroken (omega arith) (unbroken (omega arith) (sym ef ∙ z) .1) .1) .1 in
+        let has : room ≡ true = not-false _ (unbroken (omega arith) f .0) in
         let there : p .macros < macroRoom m = ltb-true _ _ (sym er ∙ has) in
         let more = table-more file m (p .macros) (s .macros) table link r there (rw en free) ordered inside in (
           fault-is ∙ z,

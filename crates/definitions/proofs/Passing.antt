@@ -1,18 +1,12 @@
--- Tests of the rules: where a table of them gives 0, none holds; a test that is known beside another; room that is left or not.
+-- Tests of the rules: a row that gives the number it tests; a test that is known beside another; room that is left or not.
 -- Assumes nothing.
-use Prim.Native.Nat.{ℕ, _≤_}
+use Prim.Native.Nat.{ℕ}
 use mathlib.Core.Path.{_≡_, refl}
 use mathlib.Core.Bool.{Bool, true, false, not}
-use native.Mathlib.Omega.{arith}
 use lib.Dec.{eqb, leb, ltb}
 use borrow.Author.Tests.{eqb-true, eqb-false, ltb-true, ltb-false, le-leb, lt-leb}
 use Rattle.base.specs.Or.{_or_}
 use Rattle.command.specs.Choose.{pick}
-
-pub passes : (b : Bool) (n rest : ℕ) → 1 ≤ n → pick b n rest ≡ 0 → (b ≡ false) × (rest ≡ 0)
-unfolding pick
-passes true n rest h e = absurd (omega arith)
-passes false n rest h e = (refl, e)
 
 -- a row that gives the number it tests
 pub passes-number : (x rest : ℕ) → pick (not (eqb x 0)) x rest ≡ 0 → (x ≡ 0) × (rest ≡ 0)

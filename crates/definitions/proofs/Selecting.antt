@@ -17,15 +17,16 @@ use Rattle.rules.specs.Rules.{selectFault}
 use Rattle.reading.specs.State.{State}
 use Rattle.reading.specs.Apertures.{selected, apertureWith}
 use Rattle.reading.specs.Steps.{withGraphics, selectStep}
+use Rattle.drawing.proofs.Faults.{unbroken}
 use Rattle.progress.specs.Lent.{Lent}
 use Rattle.progress.specs.Levels.{levelOf}
 use Rattle.progress.specs.Tables.{ApertureTable, Chosen}
 use Rattle.progress.specs.Knows.{Knows, Follows}
 use Rattle.progress.specs.declared.Progress.{Progress}
 use Rattle.progress.specs.declared.Stepped.the-variants.{Next, Fault}
-use Rattle.progress.proofs.Apertures.{selected-told, with-at, with-free, at-below}
+use Rattle.progress.proofs.AsRead.{selected-as-read}
+use Rattle.progress.proofs.Apertures.{with-at, with-free, at-below}
 use Rattle.definitions.specs.Chosen.{chosenBy}
-use Rattle.definitions.proofs.Passing.{passes}
 
 -- what is found is what reading selects, and may stand as the current aperture where it is set
 module _ (a : List ℕ) (used : ℕ) {known : List _} (t : ApertureTable a used known) (n : ℕ) where
@@ -34,7 +35,7 @@ module _ (a : List ℕ) (used : ℕ) {known : List _} (t : ApertureTable a used 
   chosen-with = go (numbered a used n) refl
     where
       go : (f : Search) → numbered a used n ≡ f → apertureWith n known ≡ chosenBy a f
-      go (At i) e = with-at a used known t n i e ∙ selected-told i (apertureOf a i)
+      go (At i) e = with-at a used known t n i e ∙ selected-as-read i (apertureOf a i)
       go (Free l) e = with-free a used known t n l e
 
   pub chosen-set : chosenBy a (numbered a used n) .set ≡ true → Chosen a used (chosenBy a (numbered a used n))
@@ -45,7 +46,7 @@ module _ (a : List ℕ) (used : ℕ) {known : List _} (t : ApertureTable a used 
       go (At i) e s = record {
         unset = λ u. absurd (let z : _≡_ {A = ℕ} 0 1 = cc in omega arith);
         known = λ u. at-below a used n i e;
-        is = λ u. selected-told i (apertureOf a i);
+        is = λ u. selected-as-read i (apertureOf a i);
       }
       go (Free l) e s = absurd (let z : _≡_ {A = ℕ} 0 1 = cc in omega arith)
 
@@ -77,8 +78,8 @@ module _ (w : Lent) (p : Progress) (s : State) (k : Knows w p s) (n : ℕ) (a : 
   }))
   unfolding Follows selectStep withGraphics withAperture levelOf selectFault
   select-goes z g eg =
-      let on = passes _ _ _ (omega arith) (sym ef ∙ z) .1 in
-      let set : c .set ≡ true = not-false _ (passes _ _ _ (omega arith) on .0) in (
+      let on = unbroken (omega arith) (sym ef ∙ z) .1 in
+      let set : c .set ≡ true = not-false _ (unbroken (omega arith) on .0) in (
         fault-is ∙ z,
         record {
           graphics = rw (eg, chosen-is, k .graphics);

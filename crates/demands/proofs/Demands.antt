@@ -24,7 +24,7 @@ use Rattle.reader.specs.Reads.{numberOf, Zeroed, Reads}
 use Rattle.descend.specs.Answers.{totalOf, answerOf}
 use Rattle.descend.specs.Slots.{fetched}
 use Rattle.descend.proofs.Slots.{slots-join}
-use Rattle.demands.specs.Demands.{told, Accepts, Demand1, Demand2, Demand3}
+use Rattle.demands.specs.Demands.{asAnswered, Accepts, Demand1, Demand2, Demand3}
 
 -- a refusal has a number
 Some : Answer → Type 0
@@ -54,8 +54,8 @@ unfolding reading
 reading-some room file = read-some room file (commandsOf file .commands) (commandsOf file .fault) begun
 
 module _ (w w′ : Lent) (head : List ℕ) (r : code.Answer) (reads : Reads (reading (roomOf w) (w .file)) w w′ head r) where
-  one-answer : (a : Answer) → Reads a w w′ head r → r ≡ told a
-  unfolding Reads told
+  one-answer : (a : Answer) → Reads a w w′ head r → r ≡ asAnswered a
+  unfolding Reads asAnswered
   one-answer (accepted s) k = k .0
   one-answer (refused number place) k = k .0
 
@@ -70,17 +70,17 @@ module _ (w w′ : Lent) (head : List ℕ) (r : code.Answer) (reads : Reads (rea
     zeros = refused-zeros (reading (roomOf w) (w .file)) reads;
   }
 
-  accepts : (a : Answer) → reading (roomOf w) (w .file) ≡ a → Some a → r ≡ told a → numberOf r ≡ 0 → Accepts w
-  unfolding told Some numberOf
+  accepts : (a : Answer) → reading (roomOf w) (w .file) ≡ a → Some a → r ≡ asAnswered a → numberOf r ≡ 0 → Accepts w
+  unfolding asAnswered Some numberOf
   accepts (accepted s) q l t z = record { state = s; keeps = q }
   accepts (refused number place) q l t z = absurd (let same : number ≡ 0 = sym (ap numberOf t) ∙ z in omega arith)
 
   pub demand2 : Demand2 w r
-  unfolding told numberOf
+  unfolding asAnswered numberOf
   demand2 = record {
     only = accepts (reading (roomOf w) (w .file)) refl (reading-some (roomOf w) (w .file)) (demand1 .one);
-    all = λ k. ap numberOf (demand1 .one ∙ ap told (k .keeps));
-    first = λ number place q. demand1 .one ∙ ap told q;
+    all = λ k. ap numberOf (demand1 .one ∙ ap asAnswered (k .keeps));
+    first = λ number place q. demand1 .one ∙ ap asAnswered q;
   }
 
   pub demand3 : (k : Accepts w) → Demand3 head (w′ .entries) (w′ .apertures) (k .state)

@@ -18,14 +18,14 @@ use Rattle.descend.specs.declared.Total.the-variants as total
 use Rattle.descend.specs.declared.Answer.the-variants as item
 
 -- the definition's answer as the call gives it: the unit, or number and place
-unfoldable pub told : Answer → code.Answer
-told (accepted s) = answer.Accepted (s .graphics .format .unit)
-told (refused number place) = answer.Refused number place
+unfoldable pub asAnswered : Answer → code.Answer
+asAnswered (accepted s) = answer.Accepted (s .graphics .format .unit)
+asAnswered (refused number place) = answer.Refused number place
 
 -- 1. "Every string of bytes gets one answer: a sheet, or a refusal by number with the byte where it stands. A refused file leaves the
 -- lent stores all zeros. No call trusts its caller to have looked first."
 pub record Demand1 (w w′ : Lent) (head : List ℕ) (r : code.Answer) : Type 0 where
-  pub one : r ≡ told (reading (roomOf w) (w .file))
+  pub one : r ≡ asAnswered (reading (roomOf w) (w .file))
   pub zeros : (number place : ℕ) → r ≡ answer.Refused number place → Zeroed w w′ head
 
 -- 2. "A file is accepted exactly when it keeps the rules in document 01 and the lent room holds it. The refusal names the first rule

@@ -15,6 +15,7 @@ use Rattle.sheet.specs.Meaning as meaning
 use Rattle.sheet.proofs.Stored.{entry-kept}
 use Rattle.stack.specs.Stack.{pushed}
 use Rattle.building.specs.Drawing.{DrawAll, Drawing}
+use Rattle.building.proofs.Starts.{starts-below}
 use Rattle.build.specs.Entries.{itemEntry}
 use Rattle.build.specs.declared.Builder.{Builder}
 use Rattle.build.specs.Builder.{grown}
@@ -23,7 +24,6 @@ use Rattle.shown.specs.Shown.{blank, Shows}
 use Rattle.shown.proofs.Contours.{edge-draws, contour-opens, contour-shown}
 use Rattle.progress.specs.Contour.{Contour}
 use Rattle.shown.proofs.Entries.{stored-long}
-use Rattle.draws.proofs.Around.{starts-below}
 use Rattle.draws.proofs.Items.{has-room, below-pushed}
 
 -- what is drawn of a contour is shown

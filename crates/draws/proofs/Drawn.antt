@@ -15,7 +15,7 @@ use Rattle.place.specs.Mark as mark
 use Rattle.place.specs.Mark.{withCount}
 use Rattle.sheet.specs.Records.{entryOf, entryRoom}
 use Rattle.stack.specs.Stack.{hasRoom, pushed}
-use Rattle.building.proofs.Grow.{not-raised}
+use Rattle.building.proofs.Grow.{stays-as-high}
 use Rattle.build.specs.declared.Builder.{Builder}
 use Rattle.build.specs.Builder.{grown}
 use Rattle.build.specs.Entries.{itemEntry}
@@ -42,13 +42,14 @@ use Rattle.progress.specs.Contour.{Contour}
 use Rattle.progress.specs.Knows.{Knows, Known, StepsTo}
 use Rattle.progress.specs.declared.Progress.{Progress}
 use Rattle.progress.specs.declared.Stepped.the-variants.{Next, Fault}
+use Rattle.progress.proofs.Around.{start-low}
 use Rattle.draws.specs.Draws.{leftOf, advanced, Leads, MayDraw}
 use Rattle.draws.proofs.Faults.{and-rest, draw-mode, draw-counts, draw-room}
 use Rattle.draws.proofs.Levels.{items-few, items-level}
 use Rattle.draws.proofs.Within.{drawn-near, edge-near, contour-near}
 use Rattle.draws.proofs.Grown.{grown-knows}
 use Rattle.draws.proofs.Operations.{draw-moves}
-use Rattle.draws.proofs.Items.{start-low, below-pushed, has-room, item-grows}
+use Rattle.draws.proofs.Items.{below-pushed, has-room, item-grows}
 use Rattle.draws.proofs.Contours.{contour-shows, edged-room, contour-grows, contour-low, contour-few, contour-start, below-edged, contour-begun}
 use Rattle.draws.proofs.Known.{known-fits, known-kept, known-items, draw-faults, refused, goes}
 
@@ -139,7 +140,7 @@ module _ (w : Lent) (p : Progress) (s : State) (k : Knows w p s) (place : ℕ) (
           as-long = as-long;
           below = below-edged (w .entries) (p .builder) (p .contour) _ fits (contour-low _ _ _ _ _ _ d) (p .builder .start) (contour-start _ _ _ _ _ _ d);
           start-is = refl;
-          raised = not-raised _;
+          rises = stays-as-high _;
           level = items-level (p .builder .height) (p .builder .items) (p .depth) (p .copies) (p .sheet) 1;
           counts = rw one-edge at counts;
           entries = omega arith;
@@ -209,7 +210,7 @@ module _ (w : Lent) (p : Progress) (s : State) (k : Knows w p s) (place : ℕ) (
           below = λ r z. below-pushed (w .entries) (p .builder .closed) (p .builder .high) (p .builder .start) _ fits start r z
               ∙ rw room at (below-edged e-begun b-begun (p .builder .high) (edge (s .graphics) (target (s .graphics) x y) o place) fits-still (omega arith) (p .builder .start) start r z);
           start-is = refl;
-          raised = not-raised _;
+          rises = stays-as-high _;
           level = rw more (items-level (p .builder .height) (p .builder .items) (p .depth) (p .copies) (p .sheet) 2);
           counts = rw two-items at counts;
           entries = omega arith;

@@ -20,13 +20,14 @@ use Rattle.build.specs.declared.Builder.{Builder}
 use Rattle.build.specs.Builder.{raised, grown}
 use Rattle.build.specs.Entries.{itemEntry, useEntry}
 use Rattle.shown.proofs.Entries.{pushed-is}
-use Rattle.shown.proofs.Marks.{one-more, raise-raised, puts-flash}
+use Rattle.shown.proofs.Marks.{one-more, raised-rises, puts-flash}
 use Rattle.command.specs.declared.Axis.{Axis}
 use Rattle.command.specs.declared.Command.the-variants as command
 use Rattle.graphics.specs.Graphics.{withPoint}
 use Rattle.graphics.specs.declared.Graphics.{Graphics}
 use Rattle.changes.specs.After.{target, goingTo, after}
 use Rattle.bounds.specs.Bounded.{Goes}
+use Rattle.bounds.proofs.Tables.{neither}
 use Rattle.bounds.proofs.Target.{target-within}
 use Rattle.fits.specs.Fits.{askew, tooTall}
 use Rattle.fits.specs.declared.Level.{Level}
@@ -42,13 +43,14 @@ use Rattle.progress.specs.Knows.{Knows, Known, StepsTo}
 use Rattle.progress.specs.declared.Progress.{Progress}
 use Rattle.progress.specs.declared.Stepped.the-variants.{Next, Fault}
 use Rattle.progress.proofs.Levels.{block-level}
+use Rattle.progress.proofs.Around.{start-low}
 use Rattle.draws.specs.Draws.{leftOf, advanced, Leads, MayFlash}
-use Rattle.draws.proofs.Faults.{and-rest, or-r, flash-outside, flash-set, flash-straight, flash-low, flash-counts, flash-room}
+use Rattle.draws.proofs.Faults.{and-rest, flash-outside, flash-set, flash-straight, flash-low, flash-counts, flash-room}
 use Rattle.draws.proofs.Levels.{flash-level}
 use Rattle.draws.proofs.Within.{flashed-near, pose-near}
 use Rattle.draws.proofs.Grown.{grown-knows}
 use Rattle.draws.proofs.Operations.{flash-moves}
-use Rattle.draws.proofs.Items.{start-low, below-pushed, has-room, item-grows}
+use Rattle.draws.proofs.Items.{below-pushed, has-room, item-grows}
 use Rattle.draws.proofs.Selected.{IsBlock, selected-block}
 use Rattle.draws.proofs.Known.{known-fits, known-items, known-few, flash-faults, refused, goes}
 
@@ -113,7 +115,7 @@ module _ (w : Lent) (p : Progress) (s : State) (k : Knows w p s) (place : ℕ) (
 
     quarters : pose (s .graphics) (target (s .graphics) x y) .angle % quarterTurn ≡ 0
     unfolding pose askew
-    quarters = eqb-true _ _ (not-false _ (or-r _ _ (and-rest _ _ is-block (flash-straight _ _ _ _ _ none-there))))
+    quarters = eqb-true _ _ (not-false _ (neither _ _ (and-rest _ _ is-block (flash-straight _ _ _ _ _ none-there)) .1))
 
     low : s .graphics .aperture .height ≤ 8
     low = let l = k .apertures .low _ (chosen .inside) in let q = chosen .height in omega arith
@@ -150,7 +152,7 @@ module _ (w : Lent) (p : Progress) (s : State) (k : Knows w p s) (place : ℕ) (
           as-long = pushed-is (w .entries) (p .builder .closed) (p .builder .high) _ room .as-long;
           below = below-pushed (w .entries) (p .builder .closed) (p .builder .high) (p .builder .start) _ left (start-low w p s k);
           start-is = refl;
-          raised = raise-raised (p .builder .height) (s .graphics .aperture .height) low lower;
+          rises = raised-rises (p .builder .height) (s .graphics .aperture .height) low lower;
           level = flash-level (p .builder .height) (s .graphics .aperture .height) (p .builder .items) (p .depth) (p .copies) (p .sheet) (s .graphics .aperture .items) low lower;
           counts = rw block-items at counts;
           entries = omega arith;

@@ -4,9 +4,10 @@ use Prim.Native.Nat.{ℕ, suc, _+_, _-_, _≤_, _<_, _^_}
 use mathlib.Core.Path.{_≡_, refl, ap, _∙_}
 use mathlib.Core.Bool.{true}
 use mathlib.Core.List.{List, _++_}
+use native.Mathlib.Nat.{le-refl}
 use Rattle.points.specs.Points.{Within}
 use Rattle.sheet.specs.Records.{entryOf, entryRoom}
-use Rattle.building.proofs.Grow.{Raised}
+use Rattle.building.proofs.Grow.{MayRise}
 use Rattle.build.specs.declared.Builder.{Builder}
 use Rattle.shown.specs.Shown.{Shows}
 use Rattle.command.specs.declared.Command.{Command}
@@ -21,8 +22,8 @@ use Rattle.progress.specs.Levels.{levelAt, levelOf}
 use Rattle.progress.specs.Contour.{Contour}
 use Rattle.progress.specs.Knows.{Knows}
 use Rattle.progress.specs.declared.Progress.{Progress}
+use Rattle.progress.proofs.Around.{openers-kept, around-kept}
 use Rattle.draws.specs.Draws.{advanced}
-use Rattle.draws.proofs.Around.{around-kept}
 use Rattle.draws.proofs.Levels.{items-counted}
 
 -- the parts of reading's state that the command leaves, or moves within their bounds
@@ -37,7 +38,7 @@ pub record Grows (w : Lent) (p : Progress) (s : State) (c : Command) (place n it
   pub as-long : entryRoom e′ ≡ entryRoom (w .entries)
   pub below : (q : ℕ) → q < p .builder .start → entryOf (w .entries) (entryRoom (w .entries) - suc q) ≡ entryOf e′ (entryRoom (w .entries) - suc q)
   pub start-is : b′ .start ≡ p .builder .start
-  pub raised : Raised (p .builder .height) (b′ .height)
+  pub rises : MayRise (p .builder .height) (b′ .height)
   pub level : levelAt (b′ .height) (b′ .items) (p .depth) (p .copies) (p .sheet) ≡ withItems items h (levelOf p)
   pub counts : counted (s .level) items ≤ most
   pub entries : b′ .closed + b′ .high ≡ p .builder .closed + p .builder .high + n
@@ -57,8 +58,10 @@ grown-knows w p s c place n items h e′ b′ at k m g = record {
   level = g .level ∙ ap (withItems items h) (k .level);
   counts = items-counted (s .level) items h (k .counts) (g .counts);
   around = rw (g .as-long, g .start-is)
-      (around-kept (w .entries) e′ (w .apertures) (entryRoom (w .entries)) (p .apertures) (s .opened) (p .builder .start) (p .builder .height) (b′ .height) (p .depth) (p .copies) (p .sheet)
-      (g .raised) (g .below) (k .around));
+      (around-kept (w .entries) (w .apertures) e′ (w .apertures) (entryRoom (w .entries)) (p .builder .start) (p .apertures)
+      (openers-kept (w .entries) e′ (entryRoom (w .entries)) (p .builder .start) (g .below)) (λ i l. refl)
+      (s .opened) (p .apertures) (p .apertures) (p .builder .start) (p .builder .height) (b′ .height) (p .depth) (p .copies) (p .sheet)
+      (le-refl _) (le-refl _) (le-refl _) (g .rises) (k .around));
   apertures = k .apertures;
   macros = k .macros;
   numbers = k .numbers;

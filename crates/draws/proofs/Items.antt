@@ -13,7 +13,7 @@ use Rattle.sheet.specs.Records.{entryOf, entryRoom}
 use Rattle.sheet.specs.Valid.{far}
 use Rattle.sheet.specs.declared.Entry.{Entry}
 use Rattle.stack.specs.Stack.{hasRoom, pushed}
-use Rattle.building.proofs.Grow.{not-raised}
+use Rattle.building.proofs.Grow.{stays-as-high}
 use Rattle.build.specs.Builder.{grown}
 use Rattle.build.specs.Entries.{itemEntry}
 use Rattle.shown.proofs.Entries.{pushed-is}
@@ -27,17 +27,13 @@ use Rattle.progress.specs.Lent.{Lent}
 use Rattle.progress.specs.Levels.{levelOf}
 use Rattle.progress.specs.Knows.{Knows}
 use Rattle.progress.specs.declared.Progress.{Progress}
-use Rattle.draws.proofs.Around.{starts-below}
+use Rattle.progress.proofs.Around.{start-low}
 use Rattle.draws.proofs.Grown.{Grows}
 use Rattle.draws.proofs.Levels.{items-level}
 
 pub has-room : (e : List ℕ) (closed high : ℕ) → closed + high < entryRoom e → hasRoom e closed high ≡ true
 unfolding hasRoom
 has-room e closed high l = lt-ltb _ _ l
-
--- the innermost container starts on the stack
-pub start-low : (w : Lent) (p : Progress) (s : State) → Knows w p s → p .builder .start ≤ p .builder .high
-start-low w p s k = starts-below _ _ _ _ _ _ _ _ _ _ _ _ _ (k .shows .opened)
 
 -- an entry pushed leaves the stack below it
 pub below-pushed : (e : List ℕ) (closed high start : ℕ) (r : Entry) → closed + high < entryRoom e → start ≤ high → (q : ℕ) → q < start →
@@ -57,7 +53,7 @@ module _ (w : Lent) (p : Progress) (s : State) (k : Knows w p s) (left : p .buil
         as-long = pushed-is (w .entries) (p .builder .closed) (p .builder .high) (itemEntry (p .builder .items) t) room .as-long;
         below = below-pushed (w .entries) (p .builder .closed) (p .builder .high) (p .builder .start) (itemEntry (p .builder .items) t) left (start-low w p s k);
         start-is = refl;
-        raised = not-raised _;
+        rises = stays-as-high _;
         level = items-level (p .builder .height) (p .builder .items) (p .depth) (p .copies) (p .sheet) 1;
         counts = counts;
         entries = omega arith;

@@ -1,5 +1,4 @@
 pub mod Puts
-pub mod Around
 pub mod Faults
 pub mod Levels
 pub mod Within

@@ -1,11 +1,10 @@
--- The current aperture: its record's items are few, and what is told of a block is what its record says.
+-- The current aperture: its record's items are few, and what reading knows of a block is what its record says.
 -- Assumes nothing.
 use Prim.Native.Nat.{ℕ, _≤_, _<_}
 use mathlib.Core.Path.{_≡_, refl, sym, ap, _∙_}
-use mathlib.Core.Bool.{Bool, true, false, cond}
+use mathlib.Core.Bool.{Bool, true, false}
 use mathlib.Core.List.{List}
 use native.Mathlib.Omega.{arith}
-use lib.Dec.{eqb}
 use Rattle.sheet.specs.Records.{apertureOf}
 use Rattle.sheet.specs.Valid.{isBlock}
 use Rattle.sheet.specs.declared.Aperture.{Aperture}
@@ -13,27 +12,8 @@ use Rattle.graphics.specs.Graphics.{noAperture}
 use Rattle.graphics.specs.declared.Selected.{Selected}
 use Rattle.drawing.specs.Counts.{most}
 use Rattle.reading.specs.Apertures.{block, blockOf, selected}
-use Rattle.progress.specs.Tables.{told, ApertureTable, Chosen}
-
-told-items : (r : Aperture) → told r .items ≡ r .items
-unfolding told blockOf
-told-items r = go (eqb (r .kind) block)
-  where
-    go : (t : Bool) → cond t (blockOf (r .number) (r .items) (r .height)) r .items ≡ r .items
-    go true = refl
-    go false = refl
-
-told-block : (r : Aperture) → eqb (told r .kind) block ≡ true → eqb (r .kind) block ≡ true
-unfolding told
-told-block r q = go (eqb (r .kind) block) refl q
-  where
-    go : (t : Bool) → eqb (r .kind) block ≡ t → eqb (cond t (blockOf (r .number) (r .items) (r .height)) r .kind) block ≡ true → t ≡ true
-    go true p q = refl
-    go false p q = sym p ∙ q
-
-told-is : (r : Aperture) → eqb (r .kind) block ≡ true → told r ≡ blockOf (r .number) (r .items) (r .height)
-unfolding told
-told-is r q = rw q
+use Rattle.progress.specs.Tables.{asRead, ApertureTable, Chosen}
+use Rattle.progress.proofs.AsRead.{block-as-read, items-as-read, kind-as-read}
 
 -- a block that is selected
 pub record IsBlock (a : List ℕ) (used : ℕ) (c : Selected) : Type 0 where
@@ -51,8 +31,8 @@ module _ (a : List ℕ) (used : ℕ) (known : List Aperture) (c : Selected) (tab
       go : (t : Bool) → c .set ≡ t → c .items ≤ most
       go true q =
           let few = table .few (c .slot) (chosen .known q) in
-          let is : told (apertureOf a (c .slot)) .items ≡ c .items = ap (λ (d : Selected). d .items) (chosen .is q) in
-          let same = told-items (apertureOf a (c .slot)) in
+          let is : asRead (apertureOf a (c .slot)) .items ≡ c .items = ap (λ (d : Selected). d .items) (chosen .is q) in
+          let same = items-as-read (apertureOf a (c .slot)) in
           omega arith
       go false q = let none : c .items ≡ 0 = ap (λ (d : Selected). d .items) (chosen .unset q) in omega arith
 
@@ -60,8 +40,8 @@ module _ (a : List ℕ) (used : ℕ) (known : List Aperture) (c : Selected) (tab
   unfolding selected isBlock blockOf
   selected-block set q =
       let is = chosen .is set in
-      let kind = told-block (apertureOf a (c .slot)) (ap (λ (d : Selected). d .block) is ∙ q) in
-      let says = told-is (apertureOf a (c .slot)) kind in
+      let kind = sym (kind-as-read (apertureOf a (c .slot))) ∙ ap (λ (d : Selected). d .block) is ∙ q in
+      let says = block-as-read (apertureOf a (c .slot)) kind in
       record {
         inside = chosen .known set;
         is = kind;

@@ -21,7 +21,7 @@ use lib.Seq.{slice}
 use Rattle.index.proofs.Seek.{LinkBelow, link-words, link-place, link-other, leads-kept, leads-new, last-is, last-free}
 
 -- a statement of each record below `suc n`: of those below n, and of n
-below-last : (P : ℕ → Type 0) (n : ℕ) → ((i : ℕ) → i < n → P i) → P n → (i : ℕ) → i < suc n → P i
+pub below-last : (P : ℕ → Type 0) (n : ℕ) → ((i : ℕ) → i < n → P i) → P n → (i : ℕ) → i < suc n → P i
 below-last P n old last i l = ⊎-elim (λ (q : i ≡ n). rw q last) (λ (h : i < n). old i h) (eq-or-lt-of-le (le-of-suc-le-suc l))
 
 module _ (s : List ℕ) (keyOf : ℕ → ℕ) (m : ℕ) (t : Indexed s keyOf (suc m)) (room : suc (suc m) * 8 ≤ length s)

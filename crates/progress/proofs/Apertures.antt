@@ -4,14 +4,13 @@ use Prim.Native.Nat.{ℕ, zero, suc, _+_, _*_, _≤_, _<_}
 use mathlib.Core.Path.{_≡_, refl, sym, ap, _∙_}
 use mathlib.Core.Bool.{Bool, true, false, cond}
 use mathlib.Core.List.{List, [], _∷_, _++_}
-use native.Mathlib.Nat.{add-zero, zero-add, le-refl, mul-one}
+use native.Mathlib.Nat.{add-zero, zero-add, mul-one}
 use native.Mathlib.Numerals.{add-one}
 use native.Mathlib.Omega.{arith}
 use lib.Dec.{eqb}
 use lib.ListN.{length}
 use lib.Seq.{getD-drop}
 use borrow.Author.Tests.{eqb-true}
-use Rattle.base.specs.And.{_and_}
 use Rattle.base.specs.Or.{_or_}
 use Rattle.base.specs.Run.{run}
 use Rattle.base.proofs.Run.{run-snoc, run-cong, length-copies}
@@ -21,6 +20,7 @@ use Rattle.index.specs.declared.Search.the-variants.{At, Free}
 use Rattle.index.specs.First.{firstOf}
 use Rattle.index.specs.Tree.{lastLink}
 use Rattle.index.specs.Numbers.{numberOf, numbered}
+use Rattle.index.proofs.More.{below-last}
 use Rattle.place.specs.Mark.{Mark}
 use Rattle.sheet.specs.Records.{apertureIn, apertureOf, apertureRoom, entryRoom}
 use Rattle.sheet.specs.Valid.{isBlock}
@@ -34,38 +34,15 @@ use Rattle.shown.proofs.Apertures.{aperture-more}
 use Rattle.drawing.specs.Counts.{most}
 use Rattle.graphics.specs.Graphics.{noAperture}
 use Rattle.graphics.specs.declared.Selected.{Selected}
-use Rattle.reading.specs.State.{Opened, block, repeat}
 use Rattle.reading.specs.Apertures as reading
-use Rattle.reading.specs.Apertures.{isTaken, selected, apertureFrom, apertureWith, blockOf}
-use Rattle.progress.specs.Tables.{told, ApertureTable, Chosen}
-use Rattle.progress.specs.Around.{Around}
-use Rattle.progress.proofs.Found.{isFound, Picked, first-picked, one-more}
-
--- where a block's entries lie changes neither its number nor what Dn selects
-pub told-number : (r : Aperture) → told r .number ≡ r .number
-unfolding told blockOf
-told-number r = go (eqb (r .kind) reading.block)
-  where
-    go : (b : Bool) → cond b (blockOf (r .number) (r .items) (r .height)) r .number ≡ r .number
-    go true = refl
-    go false = refl
-
-pub selected-told : (i : ℕ) (r : Aperture) → selected i (told r) ≡ selected i r
-unfolding told blockOf selected _and_
-selected-told i r = go (eqb (r .kind) reading.block) refl
-  where
-    go : (b : Bool) → eqb (r .kind) reading.block ≡ b → selected i (cond b (blockOf (r .number) (r .items) (r .height)) r) ≡ selected i r
-    go true e = let k : r .kind ≡ 6 = eqb-true (r .kind) 6 e in rw k
-    go false e = refl
+use Rattle.reading.specs.Apertures.{isTaken, selected, apertureFrom, apertureWith}
+use Rattle.progress.specs.Tables.{asRead, ApertureTable, Chosen}
+use Rattle.progress.proofs.AsRead.{number-as-read}
+use Rattle.progress.proofs.Found.{isFound, Picked, first-picked}
 
 pub number-is : (a : List ℕ) (i : ℕ) → apertureOf a i .number ≡ numberOf a i
 unfolding apertureOf apertureIn
 number-is a i = getD-drop (i * 8) a 0 0 ∙ rw (add-zero (i * 8))
-
--- what is no block is told as it is
-pub told-other : (r : Aperture) → eqb (r .kind) reading.block ≡ false → told r ≡ r
-unfolding told
-told-other r e = rw e
 
 -- ---- found by number
 
@@ -110,11 +87,11 @@ module _ (f : ℕ → Aperture) (is : ℕ → Bool) (n link : ℕ) (same : (i : 
 -- a search that is answered
 module _ (a : List ℕ) (used : ℕ) (known : List Aperture) (t : ApertureTable a used known) (n : ℕ) where
   abbrev f : ℕ → Aperture
-  f i = told (apertureOf a i)
+  f i = asRead (apertureOf a i)
 
   same : (i : ℕ) → eqb (numberOf a i) n ≡ eqb n (f i .number)
   same i =
-      let e = told-number (apertureOf a i) ∙ number-is a i in
+      let e = number-as-read (apertureOf a i) ∙ number-is a i in
       eqb-agree (numberOf a i) n n (f i .number) (λ q. sym q ∙ sym e) (λ q. sym e ∙ sym q)
 
   pub taken-by : isTaken n known ≡ isFound (numbered a used n)
@@ -131,7 +108,7 @@ module _ (a : List ℕ) (used : ℕ) (known : List Aperture) (t : ApertureTable 
   pub taken-free : (link : ℕ) → numbered a used n ≡ Free link → isTaken n known ≡ false
   taken-free link e = taken-by ∙ ap isFound e
 
-  pub with-at : (i : ℕ) → numbered a used n ≡ At i → apertureWith n known ≡ selected i (told (apertureOf a i))
+  pub with-at : (i : ℕ) → numbered a used n ≡ At i → apertureWith n known ≡ selected i (asRead (apertureOf a i))
   with-at i e = chosen-by ∙ ap (chosenBy f) e
 
   pub with-free : (link : ℕ) → numbered a used n ≡ Free link → apertureWith n known ≡ noAperture
@@ -140,7 +117,7 @@ module _ (a : List ℕ) (used : ℕ) (known : List Aperture) (t : ApertureTable 
 -- as many as are in use
 pub known-long : (a : List ℕ) (used : ℕ) (known : List Aperture) → ApertureTable a used known → length known ≡ used
 known-long a used known t =
-    ap length (sym (t .records)) ∙ length-copies (λ i. told (apertureOf a i) ∷ []) 1 0 used (λ i l. refl) ∙ mul-one used
+    ap length (sym (t .records)) ∙ length-copies (λ i. asRead (apertureOf a i) ∷ []) 1 0 used (λ i l. refl) ∙ mul-one used
 
 -- ---- a record more
 
@@ -155,22 +132,22 @@ module _ (a : List ℕ) (used : ℕ) (known : List Aperture) (t : ApertureTable 
   pub record-new : apertureOf a′ used ≡ r
   record-new = aperture-new a used link r room (t .indexed) free
 
-  old-records : run (λ i. told (apertureOf a′ i) ∷ []) 0 used ≡ run (λ i. told (apertureOf a i) ∷ []) 0 used
+  old-records : run (λ i. asRead (apertureOf a′ i) ∷ []) 0 used ≡ run (λ i. asRead (apertureOf a i) ∷ []) 0 used
   old-records =
       let kept : (i : ℕ) → i < used → apertureOf a′ (0 + i) ≡ apertureOf a (0 + i) = λ i l. rw (zero-add i) (record-kept i l) in
-      run-cong (λ i. told (apertureOf a′ i) ∷ []) (λ i. told (apertureOf a i) ∷ []) 0 0 used (λ i l. ap (λ q. told q ∷ []) (kept i l))
+      run-cong (λ i. asRead (apertureOf a′ i) ∷ []) (λ i. asRead (apertureOf a i) ∷ []) 0 0 used (λ i l. ap (λ q. asRead q ∷ []) (kept i l))
 
-  last-record : told (apertureOf a′ (0 + used)) ∷ [] ≡ told r ∷ []
-  last-record = let new : apertureOf a′ (0 + used) ≡ r = rw (zero-add used) record-new in ap (λ q. told q ∷ []) new
+  last-record : asRead (apertureOf a′ (0 + used)) ∷ [] ≡ asRead r ∷ []
+  last-record = let new : apertureOf a′ (0 + used) ≡ r = rw (zero-add used) record-new in ap (λ q. asRead q ∷ []) new
 
-  pub table-more : r .items ≤ most → r .height ≤ 8 → ApertureTable a′ (used + 1) (known ++ (told r ∷ []))
+  pub table-more : r .items ≤ most → r .height ≤ 8 → ApertureTable a′ (used + 1) (known ++ (asRead r ∷ []))
   table-more few low =
       rw (add-one used)
       (record {
         indexed = aperture-numbered a used link r room (t .indexed) free;
-        records = run-snoc (λ i. told (apertureOf a′ i) ∷ []) 0 used ∙ (λ x. old-records x ++ last-record x) ∙ ap (λ l. l ++ (told r ∷ [])) (t .records);
-        few = one-more (λ i. apertureOf a′ i .items ≤ most) used (λ i l. rw (record-kept i l) (t .few i l)) (rw record-new few);
-        low = one-more (λ i. apertureOf a′ i .height ≤ 8) used (λ i l. rw (record-kept i l) (t .low i l)) (rw record-new low);
+        records = run-snoc (λ i. asRead (apertureOf a′ i) ∷ []) 0 used ∙ (λ x. old-records x ++ last-record x) ∙ ap (λ l. l ++ (asRead r ∷ [])) (t .records);
+        few = below-last (λ i. apertureOf a′ i .items ≤ most) used (λ i l. rw (record-kept i l) (t .few i l)) (rw record-new few);
+        low = below-last (λ i. apertureOf a′ i .height ≤ 8) used (λ i l. rw (record-kept i l) (t .low i l)) (rw record-new low);
         unused = λ k l. aperture-behind a used link r room (t .indexed) free k l ∙ t .unused k (omega arith);
       })
 
@@ -191,27 +168,3 @@ chosen-kept a a′ used used′ c same l h = record {
   known = λ s. let k = h .known s in omega arith;
   is = λ s. rw (same (c .slot) (h .known s)) (h .is s);
 }
-
-pub around-kept : (e a a′ : List ℕ) (room limit limit′ : ℕ) (os : List Opened) (start h depth copies sheet : ℕ)
-    → ((i : ℕ) → i < limit → apertureOf a′ i ≡ apertureOf a i) → limit ≤ limit′
-    → Around e a room limit os start h depth copies sheet → Around e a′ room limit′ os start h depth copies sheet
-unfolding Around
-around-kept e a a′ room limit limit′ [] start h depth copies sheet same l o = o
-around-kept e a a′ room limit limit′ (block n around ∷ os) start h depth copies sheet same l o =
-    let b = o .0 in
-    let early = b .early in (
-      record {
-        low = b .low;
-        lower = b .lower;
-        some = b .some;
-        below = b .below;
-        early = omega arith;
-        number = rw (same _ early) (b .number);
-        is-open = rw (same _ early) (b .is-open);
-        level = b .level;
-        counts = b .counts;
-      },
-      around-kept e a a′ room _ _ os _ _ _ _ _ (λ i m. same i (omega arith)) (le-refl _) (o .1),
-    )
-around-kept e a a′ room limit limit′ (repeat around ∷ os) start h depth copies sheet same l o =
-    (o .0, around-kept e a a′ room limit limit′ os 0 10 0 1 0 same l (o .1))

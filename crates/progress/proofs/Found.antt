@@ -3,8 +3,6 @@
 use Prim.Native.Nat.{ℕ, zero, suc, _+_, _<_}
 use mathlib.Core.Path.{_≡_, refl}
 use mathlib.Core.Bool.{Bool, true, false}
-use mathlib.Core.Logic.{⊎-elim}
-use native.Mathlib.Nat.{eq-or-lt-of-le, le-of-suc-le-suc}
 use native.Mathlib.Omega.{arith}
 use Rattle.index.specs.declared.Search.{Search}
 use Rattle.index.specs.declared.Search.the-variants.{At, Free}
@@ -28,7 +26,3 @@ first-picked is p (suc n) link = go (is p) refl (let e : suc p + n ≡ p + suc n
         → Picked is (p + suc n) (elim b [ true ↦ At p | false ↦ firstOf is (suc p) n (Free link) ])
     go true e rest = (omega arith, e)
     go false e rest = rest
-
--- a statement of every record in use, and of one more
-pub one-more : (P : ℕ → Type 0) (n : ℕ) → ((i : ℕ) → i < n → P i) → P n → (i : ℕ) → i < suc n → P i
-one-more P n old new i l = ⊎-elim (λ (q : i ≡ n). rw q new) (λ (b : i < n). old i b) (eq-or-lt-of-le (le-of-suc-le-suc l))

@@ -18,6 +18,7 @@ use Rattle.index.specs.declared.Search.the-variants.{At, Free}
 use Rattle.index.specs.First.{firstOf}
 use Rattle.index.specs.Tree.{lastLink}
 use Rattle.index.specs.Names.{nameOf, keyOf, named}
+use Rattle.index.proofs.More.{below-last}
 use Rattle.tables.specs.Added.{added}
 use Rattle.tables.specs.Macros.{macroRoom, macroOf, macroWords}
 use Rattle.tables.specs.declared.Macro.{Macro}
@@ -25,7 +26,7 @@ use Rattle.tables.proofs.Macros.{macro-named, macro-new, macro-kept, macro-behi
 use Rattle.reading.specs.State.{Template}
 use Rattle.reading.specs.Apertures.{isAmong, namesOf, blocksOf}
 use Rattle.progress.specs.Tables.{templateOf, MacroTable}
-use Rattle.progress.proofs.Found.{isFound, Picked, first-picked, one-more}
+use Rattle.progress.proofs.Found.{isFound, Picked, first-picked}
 
 -- ---- found by name
 
@@ -124,7 +125,7 @@ module _ (file m : List ℕ) (used : ℕ) (known : List Template) (t : MacroTabl
         indexed = macro-named file m used link r room (t .indexed) free;
         records = run-snoc (λ i. templateOf file (macroOf m′ i) ∷ []) 0 used ∙ (λ x. old-records x ++ last-record x)
             ∙ ap (λ l. l ++ (templateOf file r ∷ [])) (t .records);
-        ordered = one-more (λ i. macroOf m′ i .first ≤ macroOf m′ i .end) used (λ i l. rw (kept i l) (t .ordered i l)) (rw new ordered);
-        inside = one-more (λ i. macroOf m′ i .end ≤ length file) used (λ i l. rw (kept i l) (t .inside i l)) (rw new inside);
+        ordered = below-last (λ i. macroOf m′ i .first ≤ macroOf m′ i .end) used (λ i l. rw (kept i l) (t .ordered i l)) (rw new ordered);
+        inside = below-last (λ i. macroOf m′ i .end ≤ length file) used (λ i l. rw (kept i l) (t .inside i l)) (rw new inside);
         unused = λ k l. macro-behind file m used link r room (t .indexed) free k l ∙ t .unused k (omega arith);
       })

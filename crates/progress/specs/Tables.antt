@@ -22,12 +22,12 @@ use Rattle.reading.specs.State.{Template}
 use Rattle.reading.specs.Apertures.{block, blockOf, selected}
 
 -- a record as reading knows it: where a block's entries lie is the store's matter
-unfoldable pub told : Aperture → Aperture
-told r = cond (eqb (r .kind) block) (blockOf (r .number) (r .items) (r .height)) r
+unfoldable pub asRead : Aperture → Aperture
+asRead r = cond (eqb (r .kind) block) (blockOf (r .number) (r .items) (r .height)) r
 
 pub record ApertureTable (a : List ℕ) (used : ℕ) (known : List Aperture) : Type 0 where
   pub indexed : Numbered a used
-  pub records : run (λ i. told (apertureOf a i) ∷ []) 0 used ≡ known
+  pub records : run (λ i. asRead (apertureOf a i) ∷ []) 0 used ≡ known
   pub few : (i : ℕ) → i < used → apertureOf a i .items ≤ most
   pub low : (i : ℕ) → i < used → apertureOf a i .height ≤ 8
   pub unused : (k : ℕ) → used * 8 ≤ k → getD a k 0 ≡ 0
@@ -51,4 +51,4 @@ pub record NumberTable (n : List ℤ) (used : ℕ) (known : List ℤ) : Type 0 w
 pub record Chosen (a : List ℕ) (used : ℕ) (c : Selected) : Type 0 where
   pub unset : c .set ≡ false → c ≡ noAperture
   pub known : c .set ≡ true → c .slot < used
-  pub is : c .set ≡ true → selected (c .slot) (told (apertureOf a (c .slot))) ≡ c
+  pub is : c .set ≡ true → selected (c .slot) (asRead (apertureOf a (c .slot))) ≡ c

@@ -1,16 +1,17 @@
 -- Over rooms of zeros, nothing is known before the first command.
 -- Assumes nothing.
-use Prim.Native.Nat.{ℕ, zero, suc}
+use Prim.Native.Nat.{ℕ}
 use mathlib.Core.Path.{_≡_, refl}
 use mathlib.Core.Bool.{true, false}
 use native.Mathlib.Nat.{sub-zero}
 use native.Mathlib.Omega.{arith}
-use lib.ListN.{length, getD, replicate}
+use lib.ListN.{length}
 use Rattle.base.specs.Run.{run}
 use Rattle.place.specs.Mark.{written}
 use Rattle.graphics.specs.Graphics as graphics
 use Rattle.graphics.specs.Graphics.{origin, unset, noAperture, noRegion}
 use Rattle.drawing.specs.Counts.{counted}
+use Rattle.close.proofs.Clearing.{zeros-read}
 use Rattle.shown.proofs.Ends.{starts}
 use Rattle.reading.specs.State.{outermost, begun}
 use Rattle.progress.specs.Lent.{Lent}
@@ -18,11 +19,6 @@ use Rattle.progress.specs.Levels.{levelAt, levelOf}
 use Rattle.progress.specs.Around.{Around}
 use Rattle.progress.specs.Knows.{Knows}
 use Rattle.reader.specs.Ends.{start, Empty}
-
-zeros : (n k : ℕ) → getD (replicate {A = ℕ} n 0) k 0 ≡ 0
-zeros zero k = refl
-zeros (suc n) zero = refl
-zeros (suc n) (suc k) = zeros n k
 
 pub knows-start : (w : Lent) → Empty w → Knows w start begun
 unfolding start begun outermost graphics.start origin unset noAperture noRegion levelOf levelAt counted Around run written
@@ -47,7 +43,7 @@ knows-start w z = record {
     records = refl;
     few = λ i l. absurd (omega arith);
     low = λ i l. absurd (omega arith);
-    unused = λ k l. rw (z .apertures) (zeros (length (w .apertures)) k);
+    unused = λ k l. rw (z .apertures) (zeros-read 0 (length (w .apertures)) k);
   };
   macros = record {
     indexed = record {
@@ -57,7 +53,7 @@ knows-start w z = record {
     records = refl;
     ordered = λ i l. absurd (omega arith);
     inside = λ i l. absurd (omega arith);
-    unused = λ k l. rw (z .macros) (zeros (length (w .macros)) k);
+    unused = λ k l. rw (z .macros) (zeros-read 0 (length (w .macros)) k);
   };
   numbers = record { long = refl; fits = omega arith; is = rw (sub-zero (length (w .numbers))) (z .numbers) };
   entries = refl;

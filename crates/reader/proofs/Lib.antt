@@ -1,7 +1,6 @@
 pub mod Turns
 pub mod After
 pub mod Running
-pub mod Fill
 pub mod Settling
 pub mod Begun
 pub mod Runs

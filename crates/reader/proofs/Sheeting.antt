@@ -24,7 +24,7 @@ use Rattle.reading.specs.State as opened
 use Rattle.reading.specs.State.{State}
 use Rattle.progress.specs.Lent.{Lent}
 use Rattle.progress.specs.Levels.{levelAt, levelOf, Counted}
-use Rattle.progress.specs.Tables.{told, templateOf}
+use Rattle.progress.specs.Tables.{asRead, templateOf}
 use Rattle.progress.specs.Around.{Around}
 use Rattle.progress.specs.Knows.{Knows}
 use Rattle.progress.specs.declared.Progress.{Progress}
@@ -96,7 +96,7 @@ module _ (w : Lent) (p : Progress) (s : State) (k : Knows w p s) (kept : endFaul
   rooms = let l = k .apertures .indexed .tree .inside in omega arith
 
   apertures-long : length (s .apertures) ≡ p .apertures
-  apertures-long = sym (ap length (k .apertures .records)) ∙ rows (λ i. told (apertureOf (w .apertures) i)) 0 (p .apertures)
+  apertures-long = sym (ap length (k .apertures .records)) ∙ rows (λ i. asRead (apertureOf (w .apertures) i)) 0 (p .apertures)
 
   macros-long : length (s .macros) ≡ p .macros
   macros-long = sym (ap length (k .macros .records)) ∙ rows (λ i. templateOf (w .file) (macroOf (w .macros) i)) 0 (p .macros)

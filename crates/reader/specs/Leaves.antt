@@ -14,7 +14,7 @@ use Rattle.sheet.specs.Meaning.{sheetItems}
 use Rattle.sheet.specs.Valid.{valid}
 use Rattle.tables.specs.Macros.{macroOf}
 use Rattle.reading.specs.State.{State}
-use Rattle.progress.specs.Tables.{told, templateOf}
+use Rattle.progress.specs.Tables.{asRead, templateOf}
 
 abbrev pub macrosUsed : List ℕ → ℕ
 macrosUsed head = getD head 4 0
@@ -30,7 +30,7 @@ pub record Leaves (file head e a m : List ℕ) (n : List ℤ) (s : State) : Type
   pub apertures-used : aperturesUsed head ≡ length (s .apertures)
   pub macros-used : macrosUsed head ≡ length (s .macros)
   pub numbers-used : numbersUsed head ≡ length (s .numbers)
-  pub apertures : run (λ i. told (apertureOf a i) ∷ []) 0 (length (s .apertures)) ≡ s .apertures
+  pub apertures : run (λ i. asRead (apertureOf a i) ∷ []) 0 (length (s .apertures)) ≡ s .apertures
   pub macros : run (λ i. templateOf file (macroOf m i) ∷ []) 0 (length (s .macros)) ≡ s .macros
   pub numbers : n ≡ s .numbers ++ replicate (length n - length (s .numbers)) (pos 0)
   pub entries-behind : (k : ℕ) → s .entries * 15 ≤ k → getD e k 0 ≡ 0

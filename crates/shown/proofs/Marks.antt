@@ -26,7 +26,7 @@ use Rattle.sheet.specs.declared.Aperture.{Aperture}
 use Rattle.sheet.proofs.Stored.{stored-below, stored-above}
 use Rattle.stack.specs.Stack.{hasRoom, pushed}
 use Rattle.stack.proofs.Turning.{room-left}
-use Rattle.building.proofs.Grow.{Raised, not-raised}
+use Rattle.building.proofs.Grow.{MayRise, stays-as-high}
 use Rattle.building.proofs.Push.{push-item, push-flash, open-block, open-repeat}
 use Rattle.build.specs.declared.Builder.{Builder}
 use Rattle.build.specs.Entries.{itemEntry, useEntry, blockEntry, repeatEntry}
@@ -44,24 +44,24 @@ unfolding itemEntry
 item-before before t = refl
 
 -- a flashed block is lower than what it is flashed in, which is raised for it
-raise-above : (h k : ℕ) → k < raised h k
+raised-above : (h k : ℕ) → k < raised h k
 unfolding raised
-raise-above h k = go (leb h k) refl
+raised-above h k = go (leb h k) refl
   where
     go : (x : Bool) → leb h k ≡ x → k < cond x (k + 1) h
     go true q = omega arith
     go false q = leb-false h k q
 
-pub raise-raised : (h k : ℕ) → k ≤ 8 → (h ≤ 8 → k ≤ 7) → Raised h (raised h k)
+pub raised-rises : (h k : ℕ) → k ≤ 8 → (h ≤ 8 → k ≤ 7) → MayRise h (raised h k)
 unfolding raised
-raise-raised h k eight lower = go (leb h k) refl
+raised-rises h k eight lower = go (leb h k) refl
   where
-    go : (x : Bool) → leb h k ≡ x → Raised h (cond x (k + 1) h)
+    go : (x : Bool) → leb h k ≡ x → MayRise h (cond x (k + 1) h)
     go true q =
         let l : h ≤ k = leb-true h k q in
         let low = lower (omega arith) in
         record { rises = omega arith; stays = λ m. absurd (omega arith); lower = λ m. omega arith }
-    go false q = not-raised h
+    go false q = stays-as-high h
 
 module _ (s : Sheet) (e a : List ℕ) (room n : ℕ) (b : Builder) (holds : Holds s e a room n b) (left : hasRoom e (b .closed) (b .high) ≡ true) where
   fits : b .closed + b .high < room
@@ -87,8 +87,8 @@ module _ (s : Sheet) (e a : List ℕ) (room n : ℕ) (b : Builder) (holds : Hold
       rw (pose-shows (b .items) who m place w, ← add-one (b .high)) at
       (push-flash s e a room n (b .closed) (b .high) (b .start) (b .height) (b .items) holds (useEntry (b .items) who m place) _
       (rw (holds .as-long) at (pushed-is e (b .closed) (b .high) (useEntry (b .items) who m place) left)) fits
-      (raised (b .height) (blockOf a who .height)) refl l q (raise-raised (b .height) (blockOf a who .height) eight lower) refl
-      (use-ok (b .items) who m place w a n (raised (b .height) (blockOf a who .height)) l q (raise-above (b .height) (blockOf a who .height)) quarters))
+      (raised (b .height) (blockOf a who .height)) refl l q (raised-rises (b .height) (blockOf a who .height) eight lower) refl
+      (use-ok (b .items) who m place w a n (raised (b .height) (blockOf a who .height)) l q (raised-above (b .height) (blockOf a who .height)) quarters))
 
   -- a block that opens in the next aperture record
   pub opens-block : (m place : ℕ) (a′ : List ℕ) → ((c : ℕ) → c < n → apertureOf a c ≡ apertureOf a′ c) → apertureOf a′ n .number ≡ m → isBlock a′ n ≡ false →

@@ -2,23 +2,22 @@
 -- Assumes nothing.
 use Prim.Native.Nat.{_-_, _≤_}
 use mathlib.Core.Path.{_≡_, refl, _∙_}
-use mathlib.Core.List.{_++_}
 use lib.IntN.{pos}
-use lib.ListN.{length, drop, replicate, length-set}
+use lib.ListN.{length, length-set}
 use native.Mathlib.Omega.{arith}
-use Rattle.base.proofs.Lists.{filled}
-use Rattle.reader.proofs.Fill.{fill-more}
+use native.Mathlib.Nat.{sub-zero}
+use Rattle.close.proofs.Clearing.{cleared, cleared-none, cleared-more, cleared-all}
 use Rattle.reader.proofs.clear_numbers.Statement.{statement}
 use Rattle.reader.proofs.clear_numbers.Tie as tie
 
 abbrev Inv-loop : tie.InvT-loop
-Inv-loop numbers₀ i₀ numbers i = (numbers ≡ replicate i (pos 0) ++ drop i numbers₀) × (length numbers ≡ length numbers₀) × (i ≤ length numbers₀)
+Inv-loop numbers₀ i₀ numbers i = (numbers ≡ cleared (pos 0) numbers₀ 0 i) × (length numbers ≡ length numbers₀) × (i ≤ length numbers₀)
 
 abbrev μ-loop : tie.MeasureT-loop
 μ-loop numbers₀ i₀ numbers i = length numbers₀ - i
 
 loop-holds : tie.Need-loop-holds Inv-loop μ-loop
-loop-holds c = (refl, refl, omega arith)
+loop-holds c = (cleared-none (pos 0) (c .args .numbers .now) 0, refl, omega arith)
 
 mul-numbers : tie.Need-mul-numbers Inv-loop μ-loop
 mul-numbers c = omega arith
@@ -35,7 +34,7 @@ loop-less c = omega arith
 loop-again : tie.Need-loop-again Inv-loop μ-loop
 loop-again c =
     let p = c .before .loop .inv in (
-      rw (p .0) (fill-more (c .before .loop .i) (pos 0) (c .before .before .args .numbers .now) (omega (arith, p .1, p .2))),
+      rw (p .0) (cleared-more (pos 0) (c .before .before .args .numbers .now) 0 (c .before .loop .i) (omega arith) (omega (arith, p .1, p .2))),
       simp length-set (p .1),
       omega (arith, p .1, p .2),
     )
@@ -47,7 +46,7 @@ returns : tie.Need-returns Inv-loop μ-loop
 returns c =
     let p = c .before .loop .inv in
     let h = c .loop-test .left in
-    p .0 ∙ filled (pos 0) (c .before .loop .i) (c .before .before .args .numbers .now) (p .2) (omega (arith, p .1))
+    p .0 ∙ cleared-all (pos 0) (c .before .before .args .numbers .now) 0 (c .before .loop .i) (p .2) (omega (arith, p .1)) ∙ rw (sub-zero (length (c .before .before .args .numbers .now)))
 
 pub clear-numbers-spec : {M : Type 1} → statement M
 clear-numbers-spec =
