@@ -46,7 +46,7 @@ length-block : (a : List ℕ) (b : ℕ) → isBlock a b ≡ true → blockLength
 unfolding blockLength
 length-block a b q = rw q
 
-length-none : (a : List ℕ) (b : ℕ) → isBlock a b ≡ false → blockLength a b ≡ 0
+pub length-none : (a : List ℕ) (b : ℕ) → isBlock a b ≡ false → blockLength a b ≡ 0
 unfolding blockLength
 length-none a b q = rw q
 

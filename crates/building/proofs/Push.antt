@@ -36,9 +36,9 @@ nothing-yet e a room n start h =
     rw none (record { ok = ok-none a n h (stacked e room start); shows = refl })
 
 -- an aperture more that is no block adds no length
-added : (a a′ : List ℕ) (n : ℕ) → ((b : ℕ) → b < n → apertureOf a b ≡ apertureOf a′ b) → isBlock a′ n ≡ false → sums (blockLength a′) 0 (suc n) ≡ sums (blockLength a) 0 n
+pub lengths-added : (a a′ : List ℕ) (n : ℕ) → ((b : ℕ) → b < n → apertureOf a b ≡ apertureOf a′ b) → isBlock a′ n ≡ false → sums (blockLength a′) 0 (suc n) ≡ sums (blockLength a) 0 n
 unfolding blockLength
-added a a′ n same none =
+lengths-added a a′ n same none =
     let each = sums-cong (blockLength a) (blockLength a′) 0 n (λ i l. rw (zero-add i, same-kind a a′ i (same i l), same-block a a′ i (same i l))) in
     sums-snoc (blockLength a′) 0 n ∙ rw (zero-add n, none, add-zero) (sym each)
 
@@ -89,7 +89,7 @@ module _ (s : Sheet) (e a : List ℕ) (room n closed high start h t : ℕ) (buil
       let agree = agrees n a′ same (le-refl _) in
       let one : suc high - 1 ≡ high = omega arith in
       let k = built-same s e a room n closed high start h t built (suc n) e′ a′ agree (pushed .as-long ∙ built .as-long) (omega arith)
-      (λ b l m. let z : b ≡ n = omega arith in rw z none) distinct (added a a′ n same none) in
+      (λ b l m. let z : b ≡ n = omega arith in rw z none) distinct (lengths-added a a′ n same none) in
       let outer : Opened e′ a′ room (suc n) closed (r .who) (s .around) (s .here) (suc high - 1) (r .sx) (r .sy) (r .before) (built .bodies) =
       rw (one, who, sx, sy, b) (opened-same e a room closed high n n (built .blocks-ok) (suc n) closed e′ a′ agree (omega arith) (le-refl _)
       (s .around) (s .here) high start h t (built .bodies) n n (le-refl _) (le-refl _) (le-refl _) (built .opened)) in
@@ -100,7 +100,7 @@ module _ (s : Sheet) (e a : List ℕ) (room n closed high start h t : ℕ) (buil
         blocks-show = k .blocks-show;
         distinct = k .distinct;
         bodies = built .bodies;
-        lengths = ap (λ x. x + built .bodies) (added a a′ n same none) ∙ built .lengths;
+        lengths = ap (λ x. x + built .bodies) (lengths-added a a′ n same none) ∙ built .lengths;
         opened = rw (pushed .new) (
           record {
             some = omega arith;

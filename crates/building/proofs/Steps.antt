@@ -11,7 +11,7 @@ use borrow.Author.Tests.{le-leb, ltb-true, ltb-false}
 use Rattle.base.specs.Run.{sums}
 use Rattle.base.proofs.And.{and-i}
 use Rattle.place.specs.declared.Item.{Item}
-use Rattle.place.specs.Mark.{block, repeat, Sheet, itemsOf, put}
+use Rattle.place.specs.Mark.{Sheet, itemsOf, put}
 use Rattle.sheet.specs.Records.{entryOf, apertureOf, roleOf, entryRoom}
 use Rattle.sheet.specs.Containers.{blockOf}
 use Rattle.sheet.specs.Meaning.{drawn, puts, entryItems, items}

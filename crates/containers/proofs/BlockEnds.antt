@@ -15,7 +15,7 @@ use Rattle.graphics.specs.Graphics.{origin, unset, withPoint}
 use Rattle.command.specs.declared.Command.the-variants as command
 use Rattle.changes.specs.After.{after}
 use Rattle.fits.specs.declared.Level.{Level}
-use Rattle.drawing.specs.Counts.{most, counted}
+use Rattle.drawing.specs.Counts.{most}
 use Rattle.drawing.proofs.Faults.{unbroken}
 use Rattle.rules.specs.Rules.{closingFault}
 use Rattle.marks.specs.Marks.{marksOf}
@@ -40,7 +40,7 @@ use Rattle.progress.specs.Around.{Around}
 use Rattle.progress.specs.Knows.{Knows, Known, Follows, StepsTo}
 use Rattle.progress.specs.declared.Stepped.the-variants.{Next, Fault}
 use Rattle.progress.proofs.Around.{start-low, openers-kept, around-kept}
-use Rattle.progress.proofs.Levels.{block-level}
+use Rattle.progress.proofs.Levels.{block-level, items-known}
 use Rattle.containers.proofs.Faults.{no-contour}
 use Rattle.containers.proofs.Levels.{inside-block, AroundBlock, around-block}
 use Rattle.containers.proofs.Tables.{closing-room, closing-kept, table-closed, chosen-closed}
@@ -78,8 +78,7 @@ module _ (w : Lent) (s : State) (p : Progress) (k : Knows w p s) where
     level-is = sym (k .level) ∙ block-level (p .builder .height) (p .builder .items) (p .depth) (p .copies) (p .sheet) low
 
     few : p .builder .items ≤ most
-    unfolding counted
-    few = let c = (rw level-is at (k .counts)) .within in omega arith
+    few = items-known w p s k
 
     inner : AroundBlock (w .entries) (w .apertures) (entryRoom (w .entries)) (p .apertures) (s .opened) (p .builder .start) (p .builder .height) (p .depth) (p .copies) (p .sheet)
     inner = around-block (w .entries) (w .apertures) (entryRoom (w .entries)) (p .apertures) (s .opened) (p .builder .start) (p .builder .height) (p .depth) (p .copies) (p .sheet) low (k .around)

@@ -28,6 +28,7 @@ use Rattle.index.specs.Numbers.{numbered, Numbered}
 use Rattle.sheet.specs.Records.{entryRoom, apertureOf, apertureRoom}
 use Rattle.sheet.specs.Valid.{isBlock}
 use Rattle.sheet.specs.declared.Aperture.{Aperture}
+use Rattle.sheet.proofs.Apertures.{aperture-number}
 use Rattle.stack.specs.Stack.{hasRoom, pushed}
 use Rattle.stack.proofs.Turning.{room-left}
 use Rattle.tables.specs.Added.{added}
@@ -58,7 +59,7 @@ use Rattle.progress.specs.Knows.{Knows, Known, Follows, StepsTo}
 use Rattle.progress.specs.declared.Stepped.the-variants.{Next, Fault}
 use Rattle.progress.proofs.Around.{start-low, around-kept}
 use Rattle.progress.proofs.Levels.{block-level}
-use Rattle.progress.proofs.Apertures.{number-is, taken-at, taken-free, known-long, record-kept, record-new, table-more, chosen-kept}
+use Rattle.progress.proofs.Apertures.{taken-at, taken-free, known-long, record-kept, record-new, table-more, chosen-kept}
 use Rattle.containers.proofs.Faults.{no-contour, full-is}
 
 -- a number that is taken is a fault
@@ -184,7 +185,7 @@ module _ (w : Lent) (s : State) (p : Progress) (k : Knows w p s) (place n : ℕ)
         (opens-block (written (s .marks) blank) (w .entries) (w .apertures) (entryRoom (w .entries)) (p .apertures) (p .builder) (k .shows) block-room
         n place records (λ i l. sym (kept i l)) (ap (λ (x : Aperture). x .number) new) (ap (λ (x : Aperture). eqb (x .kind) 6) new)
         (λ c d l m q. aperture-numbered (w .apertures) (p .apertures) link (opening n) record-room (k .apertures .indexed) opening-free .distinct c d l m
-        (sym (number-is records c) ∙ q ∙ number-is records d)))
+        (sym (aperture-number records c) ∙ q ∙ aperture-number records d)))
 
     table-then : ApertureTable records (p .apertures + 1) (s .apertures ++ (opening n ∷ []))
     unfolding asRead opening

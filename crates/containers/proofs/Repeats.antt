@@ -47,7 +47,7 @@ use Rattle.progress.specs.Levels.{levelOf, Counted}
 use Rattle.progress.specs.Around.{Around}
 use Rattle.progress.specs.Knows.{Knows, Known, Follows, StepsTo}
 use Rattle.progress.specs.declared.Stepped.the-variants.{Next, Fault}
-use Rattle.progress.proofs.Levels.{repeat-level, top-level}
+use Rattle.progress.proofs.Levels.{repeat-level, top-level, items-known}
 use Rattle.containers.proofs.Levels.{inside-top, around-top}
 use Rattle.containers.proofs.Faults.{no-contour, full-is}
 
@@ -125,8 +125,7 @@ module _ (w : Lent) (s : State) (p : Progress) (k : Knows w p s) (place nx ny : 
     level-is = sym (k .level) ∙ top-level (p .builder .height) (p .builder .items) (p .depth) (p .copies) (p .sheet) (at-top .0) (at-top .1)
 
     few : p .builder .items ≤ most
-    unfolding counted
-    few = let c = (rw level-is at (k .counts)) .within in omega arith
+    few = items-known w p s k
 
     level-then : levelOf (repeated p nx ny dx dy) ≡ inRepeat nx ny (s .level)
     unfolding levelOf inner inRepeat

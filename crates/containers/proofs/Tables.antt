@@ -14,16 +14,15 @@ use Rattle.index.specs.Numbers.{Numbered}
 use Rattle.index.proofs.Seek.{link-words}
 use Rattle.sheet.specs.Records.{apertureOf, apertureRoom, stored}
 use Rattle.sheet.specs.declared.Aperture.{Aperture}
-use Rattle.sheet.proofs.Stored.{stored-below, stored-above}
-use Rattle.shown.proofs.Entries.{stored-long}
-use Rattle.shown.proofs.Marks.{block-written, others-kept}
+use Rattle.sheet.proofs.Stored.{stored-below, stored-above, stored-long}
+use Rattle.sheet.proofs.Apertures.{aperture-number}
+use Rattle.shown.proofs.Closed.{block-written, others-kept}
 use Rattle.tables.proofs.Numbers.{numbered-agree}
 use Rattle.drawing.specs.Counts.{most}
 use Rattle.graphics.specs.declared.Selected.{Selected}
 use Rattle.reading.specs.Apertures.{selected, blockOf, closing}
 use Rattle.progress.specs.Tables.{asRead, ApertureTable, Chosen}
 use Rattle.progress.proofs.AsRead.{block-as-read, number-as-read}
-use Rattle.progress.proofs.Apertures.{number-is}
 
 -- `closing` goes over the records one by one
 closing-run : (f g : ℕ → Aperture) (n items height p k : ℕ) → ((j : ℕ) → p ≤ j → j < p + k → cond (eqb n (f j .number)) (blockOf n items height) (f j) ≡ g j) →
@@ -83,7 +82,7 @@ module _ (a : List ℕ) (used : ℕ) (known : List Aperture) (t : ApertureTable 
   each : (j : ℕ) → j < used → cond (eqb n (asRead (apertureOf a j) .number)) (blockOf n items height) (asRead (apertureOf a j)) ≡ asRead (apertureOf a′ j)
   each = either (λ j. j < used → cond (eqb n (asRead (apertureOf a j) .number)) (blockOf n items height) (asRead (apertureOf a j)) ≡ asRead (apertureOf a′ j))
       (λ l. rw (eq-eqb n (asRead (apertureOf a i) .number) (sym (number-as-read (apertureOf a i))), closed) (sym (block-as-read (record { number = n; kind = 6; first = first; len = len; items = items; height = height }) refl)))
-      (λ j ne l. rw (ne-eqb n (asRead (apertureOf a j) .number) (λ q. ne (t .indexed .distinct j i l inside (sym (number-is a j) ∙ sym (number-as-read (apertureOf a j)) ∙ sym q ∙ number-is a i))), closing-kept j ne))
+      (λ j ne l. rw (ne-eqb n (asRead (apertureOf a j) .number) (λ q. ne (t .indexed .distinct j i l inside (sym (aperture-number a j) ∙ sym (number-as-read (apertureOf a j)) ∙ sym q ∙ aperture-number a i))), closing-kept j ne))
 
   pub table-closed : items ≤ most → height ≤ 8 → ApertureTable a′ used (closing n items height known)
   table-closed few low = record {

@@ -1,6 +1,6 @@
 -- Counting an edge leaves the room as it is, and the contour with one edge more.
 -- Assumes nothing.
-use Prim.Native.Nat.{ℕ, suc, _-_, _*_}
+use Prim.Native.Nat.{ℕ, suc, _-_, _*_, _<_}
 use mathlib.Core.Path.{_≡_, sym, ap, _∙_}
 use mathlib.Core.Bool.{Bool, true, false}
 use mathlib.Core.List.{List}
@@ -8,6 +8,7 @@ use native.Mathlib.Omega.{arith}
 use lib.ListN.{length}
 use Rattle.place.specs.declared.Item.{Item}
 use Rattle.sheet.specs.Records.{entryOf, entryRoom, entryWords, stored}
+use Rattle.sheet.proofs.Stored.{stored-long}
 use Rattle.stack.specs.Stack.{hasRoom, pushed}
 use Rattle.build.specs.declared.Builder.{Builder}
 use Rattle.build.specs.declared.Put.{Put}
@@ -15,6 +16,10 @@ use Rattle.build.specs.declared.Put.the-variants.{Full}
 use Rattle.build.specs.Builder.{added}
 use Rattle.build.specs.Entries.{itemEntry}
 use Rattle.contours.specs.Counted.{counted, countedAt, edged}
+
+pub counted-long : (e : List ℕ) (at : ℕ) → at < entryRoom e → length (countedAt e at) ≡ length e
+unfolding countedAt entryWords
+counted-long e at inside = stored-long e ((entryRoom e - suc at) * 15) (entryWords (counted (entryOf e (entryRoom e - suc at)))) (omega arith)
 
 -- a store of the same length has the same room
 same-room : (e e₁ : List ℕ) (closed high : ℕ) → length e₁ ≡ length e → hasRoom e₁ closed high ≡ hasRoom e closed high

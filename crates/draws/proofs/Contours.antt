@@ -1,6 +1,6 @@
 -- A contour begun, and an edge more: what is known behind a D01 in a region.
 -- Assumes nothing.
-use Prim.Native.Nat.{ℕ, suc, _+_, _-_, _*_, _/_, _≤_, _<_}
+use Prim.Native.Nat.{ℕ, suc, _+_, _-_, _/_, _≤_, _<_}
 use mathlib.Core.Path.{_≡_, refl, sym, ap, _∙_}
 use mathlib.Core.List.{List, [], _∷_, _++_, map, append-assoc}
 use native.Mathlib.Omega.{arith}
@@ -10,7 +10,7 @@ use Rattle.place.specs.Mark as mark
 use Rattle.place.specs.Mark.{Mark, written, withCount}
 use Rattle.place.specs.Placing.{ItemWithin}
 use Rattle.sheet.specs.Valid.{far}
-use Rattle.sheet.specs.Records.{entryOf, entryRoom, entryWords}
+use Rattle.sheet.specs.Records.{entryOf, entryRoom}
 use Rattle.sheet.specs.Meaning as meaning
 use Rattle.sheet.proofs.Stored.{entry-kept}
 use Rattle.stack.specs.Stack.{pushed}
@@ -19,11 +19,11 @@ use Rattle.building.proofs.Starts.{starts-below}
 use Rattle.build.specs.Entries.{itemEntry}
 use Rattle.build.specs.declared.Builder.{Builder}
 use Rattle.build.specs.Builder.{grown}
-use Rattle.contours.specs.Counted.{counted, countedAt, edged}
+use Rattle.contours.specs.Counted.{countedAt, edged}
+use Rattle.contours.proofs.Counting.{counted-long}
 use Rattle.shown.specs.Shown.{blank, Shows}
 use Rattle.shown.proofs.Contours.{edge-draws, contour-opens, contour-shown}
 use Rattle.progress.specs.Contour.{Contour}
-use Rattle.shown.proofs.Entries.{stored-long}
 use Rattle.draws.proofs.Items.{has-room, below-pushed}
 
 -- what is drawn of a contour is shown
@@ -80,14 +80,10 @@ module _ (e a : List ℕ) (n : ℕ) (b : Builder) (at : ℕ) (ms : List Mark) (d
 
 -- an edge counted and put leaves the stack below its contour
 module _ (e : List ℕ) (b : Builder) (at : ℕ) (t : Item) (left : b .closed + b .high < entryRoom e) (low : at < b .high) where
-  counted-long : length (countedAt e at) ≡ length e
-  unfolding countedAt entryWords
-  counted-long = stored-long e ((entryRoom e - suc at) * 15) (entryWords (counted (entryOf e (entryRoom e - suc at)))) (omega arith)
-
   pub below-edged : (start : ℕ) → start ≤ at → (q : ℕ) → q < start → entryOf e (entryRoom e - suc q) ≡ entryOf (edged e b at t) (entryRoom e - suc q)
   unfolding edged countedAt
   below-edged start l q m =
-      let long : entryRoom (countedAt e at) ≡ entryRoom e = ap (λ x. x / 15) counted-long in
+      let long : entryRoom (countedAt e at) ≡ entryRoom e = ap (λ x. x / 15) (counted-long e at (omega arith)) in
       let i : entryRoom e - suc at < entryRoom e = omega arith in
       rw (has-room e (b .closed) (b .high) left)
       (sym (entry-kept e (entryRoom e - suc at) _ i (entryRoom e - suc q) (λ z. let z′ : entryRoom e - suc q ≡ entryRoom e - suc at = z in absurd (omega arith)))

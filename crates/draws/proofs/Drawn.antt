@@ -43,9 +43,10 @@ use Rattle.progress.specs.Knows.{Knows, Known, StepsTo}
 use Rattle.progress.specs.declared.Progress.{Progress}
 use Rattle.progress.specs.declared.Stepped.the-variants.{Next, Fault}
 use Rattle.progress.proofs.Around.{start-low}
+use Rattle.progress.proofs.Levels.{items-few}
 use Rattle.draws.specs.Draws.{leftOf, advanced, Leads, MayDraw}
 use Rattle.draws.proofs.Faults.{and-rest, draw-mode, draw-counts, draw-room}
-use Rattle.draws.proofs.Levels.{items-few, items-level}
+use Rattle.draws.proofs.Levels.{items-level}
 use Rattle.draws.proofs.Within.{drawn-near, edge-near, contour-near}
 use Rattle.draws.proofs.Grown.{grown-knows}
 use Rattle.draws.proofs.Operations.{draw-moves}

@@ -16,12 +16,12 @@ use Rattle.drawing.specs.Faults.{drawFault, flashFault}
 use Rattle.reading.specs.State.{Room, State}
 use Rattle.reading.specs.Steps.{Step, drawStep, flashStep}
 use Rattle.progress.specs.Lent.{Lent, roomOf, withEntries}
-use Rattle.progress.specs.Levels.{levelAt, levelOf}
+use Rattle.progress.specs.Levels.{levelOf}
 use Rattle.progress.specs.Knows.{Knows, Known, Follows, StepsTo}
 use Rattle.progress.specs.declared.Progress.{Progress}
 use Rattle.progress.specs.declared.Stepped.the-variants.{Next, Fault}
+use Rattle.progress.proofs.Levels.{items-kept, items-known}
 use Rattle.draws.specs.Draws.{leftOf, Leads}
-use Rattle.draws.proofs.Levels.{items-kept}
 use Rattle.draws.proofs.Selected.{selected-few}
 
 module _ (e : List ℕ) (p : Progress) (known : Known (λ w. w .entries ≡ e) p) where
@@ -32,8 +32,7 @@ module _ (e : List ℕ) (p : Progress) (known : Known (λ w. w .entries ≡ e) p
   known-kept = rw (known .knows .level) (items-kept _ (known .knows .counts))
 
   pub known-items : p .builder .items ≤ most
-  unfolding levelOf levelAt
-  known-items = known-kept .items-kept
+  known-items = items-known (known .lent) p (known .state) (known .knows)
 
   pub known-few : p .graphics .aperture .items ≤ most
   known-few = let k = known .knows in rw (k .graphics) (selected-few _ _ _ _ (k .apertures) (k .aperture))

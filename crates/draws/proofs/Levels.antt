@@ -1,31 +1,18 @@
 -- What is counted, with more items: the level that reading knows is the one that the builder's numbers give.
 -- Assumes nothing.
-use Prim.Native.Nat.{ℕ, _+_, _*_, _≤_, _<_}
+use Prim.Native.Nat.{ℕ, _+_, _≤_, _<_}
 use mathlib.Core.Path.{_≡_, refl, sym}
 use mathlib.Core.Bool.{Bool, true, false, cond}
-use native.Mathlib.Nat.{add-zero, mul-le-mul-right}
+use native.Mathlib.Nat.{add-zero}
 use native.Mathlib.Omega.{arith}
 use lib.Dec.{eqb, leb}
 use borrow.Author.Tests.{eqb-true, eqb-false, leb-true, leb-false, le-leb, lt-leb, le-ltb, lt-ltb}
-use Rattle.fits.specs.Level.{repeat}
 use Rattle.fits.specs.declared.Level.{Level}
-use Rattle.drawing.specs.Counts.{most, counted, Kept}
+use Rattle.drawing.specs.Counts.{most, counted}
 use Rattle.build.specs.Builder.{raised}
 use Rattle.reading.specs.Levels.{higher, raisedTo, withItems}
 use Rattle.progress.specs.Levels.{levelAt, Counted}
 use Rattle.progress.proofs.Levels.{block-level, repeat-level, top-level}
-
--- the items alone are within the count
-pub items-few : (l : Level) (n : ℕ) → 1 ≤ l .copies → counted l n ≤ most → l .items + n ≤ most
-unfolding counted
-items-few l n some k = go (eqb (l .inside) repeat) k
-  where
-    go : (t : Bool) → cond t (l .sheet + l .copies * (l .items + n)) (l .items + n) ≤ most → l .items + n ≤ most
-    go true k = let one = mul-le-mul-right (l .items + n) some in omega arith
-    go false k = k
-
-pub items-kept : (l : Level) → Counted l → Kept l
-items-kept l c = record { items-kept = (let k = items-few l 0 (c .some) (c .within) in omega arith); sheet-kept = c .before; copies-some = c .some }
 
 -- with the items of a step that is counted
 pub items-counted : (l : Level) (n h : ℕ) → Counted l → counted l n ≤ most → Counted (withItems n h l)

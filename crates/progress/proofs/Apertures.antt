@@ -1,16 +1,14 @@
 -- The table of apertures as reading knows it: a number is found where the table has it, and with a record more all that stood stays.
 -- Assumes nothing.
-use Prim.Native.Nat.{ℕ, zero, suc, _+_, _*_, _≤_, _<_}
+use Prim.Native.Nat.{ℕ, zero, suc, _+_, _≤_, _<_}
 use mathlib.Core.Path.{_≡_, refl, sym, ap, _∙_}
 use mathlib.Core.Bool.{Bool, true, false, cond}
 use mathlib.Core.List.{List, [], _∷_, _++_}
-use native.Mathlib.Nat.{add-zero, zero-add, mul-one}
+use native.Mathlib.Nat.{zero-add, mul-one}
 use native.Mathlib.Numerals.{add-one}
 use native.Mathlib.Omega.{arith}
 use lib.Dec.{eqb}
 use lib.ListN.{length}
-use lib.Seq.{getD-drop}
-use borrow.Author.Tests.{eqb-true}
 use Rattle.base.specs.Or.{_or_}
 use Rattle.base.specs.Run.{run}
 use Rattle.base.proofs.Run.{run-snoc, run-cong, length-copies}
@@ -22,9 +20,10 @@ use Rattle.index.specs.Tree.{lastLink}
 use Rattle.index.specs.Numbers.{numberOf, numbered}
 use Rattle.index.proofs.More.{below-last}
 use Rattle.place.specs.Mark.{Mark}
-use Rattle.sheet.specs.Records.{apertureIn, apertureOf, apertureRoom, entryRoom}
+use Rattle.sheet.specs.Records.{apertureOf, apertureRoom, entryRoom}
 use Rattle.sheet.specs.Valid.{isBlock}
 use Rattle.sheet.specs.declared.Aperture.{Aperture}
+use Rattle.sheet.proofs.Apertures.{aperture-number}
 use Rattle.tables.specs.Added.{added}
 use Rattle.tables.specs.Apertures.{apertureWords}
 use Rattle.tables.proofs.Apertures.{aperture-numbered, aperture-new, aperture-kept, aperture-behind}
@@ -40,13 +39,9 @@ use Rattle.progress.specs.Tables.{asRead, ApertureTable, Chosen}
 use Rattle.progress.proofs.AsRead.{number-as-read}
 use Rattle.progress.proofs.Found.{isFound, Picked, first-picked}
 
-pub number-is : (a : List ℕ) (i : ℕ) → apertureOf a i .number ≡ numberOf a i
-unfolding apertureOf apertureIn
-number-is a i = getD-drop (i * 8) a 0 0 ∙ rw (add-zero (i * 8))
-
 -- ---- found by number
 
--- the record found is in use, and has the number
+-- the record found is in use
 module _ (a : List ℕ) (used n i : ℕ) (at : numbered a used n ≡ At i) where
   picked : Picked (λ i. eqb (numberOf a i) n) used (At i)
   unfolding numbered
@@ -54,9 +49,6 @@ module _ (a : List ℕ) (used n i : ℕ) (at : numbered a used n ≡ At i) where
 
   pub at-below : i < used
   at-below = picked .0
-
-  pub at-number : apertureOf a i .number ≡ n
-  at-number = number-is a i ∙ eqb-true (numberOf a i) n (picked .1)
 
 abbrev chosenBy : (ℕ → Aperture) → Search → Selected
 chosenBy f (At i) = selected i (f i)
@@ -91,7 +83,7 @@ module _ (a : List ℕ) (used : ℕ) (known : List Aperture) (t : ApertureTable 
 
   same : (i : ℕ) → eqb (numberOf a i) n ≡ eqb n (f i .number)
   same i =
-      let e = number-as-read (apertureOf a i) ∙ number-is a i in
+      let e = number-as-read (apertureOf a i) ∙ aperture-number a i in
       eqb-agree (numberOf a i) n n (f i .number) (λ q. sym q ∙ sym e) (λ q. sym e ∙ sym q)
 
   pub taken-by : isTaken n known ≡ isFound (numbered a used n)
@@ -157,7 +149,7 @@ module _ (a : List ℕ) (used : ℕ) (known : List Aperture) (t : ApertureTable 
   shows-more ms e b other shows =
       rw (add-one used)
       (aperture-more _ e a (entryRoom e) used b shows a′ (λ c l. sym (record-kept c l)) (rw record-new other)
-      (λ c d l m q. aperture-numbered a used link r room (t .indexed) free .distinct c d l m (sym (number-is a′ c) ∙ q ∙ number-is a′ d)))
+      (λ c d l m q. aperture-numbered a used link r room (t .indexed) free .distinct c d l m (sym (aperture-number a′ c) ∙ q ∙ aperture-number a′ d)))
 
 -- ---- what stays where records stay
 

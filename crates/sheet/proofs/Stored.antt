@@ -7,7 +7,7 @@ use mathlib.Core.Bool.{Bool, true, false}
 use native.Mathlib.Omega.{arith}
 use lib.Dec.{ltb}
 use borrow.Author.Tests.{ltb-true, ltb-false}
-use lib.ListN.{length, getD, take, drop, length-append, List·getD-append}
+use lib.ListN.{length, getD, take, drop, length-append, length-drop, List·getD-append}
 use lib.Seq.{length-take-le, drop-at, getD-drop, getD-take, getD-append-add}
 use Rattle.base.specs.Moved.{Moved}
 use Rattle.sheet.specs.Records.{entryIn, entryOf, entryRoom, entryWords, stored}
@@ -39,7 +39,7 @@ unfolding entryOf
 entry-same-words l l′ i j h = in-same (drop (i * 15) l) (drop (j * 15) l′)
     (λ m lm. getD-drop (i * 15) l m 0 ∙ h m lm ∙ sym (getD-drop (j * 15) l′ m 0))
 
--- a store leaves what lies before it and behind it
+-- a store is read back, leaves what lies before it and behind it, and is as long
 module _ (l : List ℕ) (at : ℕ) (w : List ℕ) (fits : at + length w ≤ length l) where
   pub stored-below : (k : ℕ) → k < at → getD (stored l at w) k 0 ≡ getD l k 0
   unfolding stored
@@ -57,6 +57,22 @@ module _ (l : List ℕ) (at : ℕ) (w : List ℕ) (fits : at + length w ≤ leng
 
   pub stored-above : (k : ℕ) → at + length w ≤ k → getD (stored l at w) k 0 ≡ getD l k 0
   stored-above k h = let p : at + length w + (k - (at + length w)) ≡ k = omega arith in rw p at (stored-behind (k - (at + length w)))
+
+  pub stored-at : (m : ℕ) → m < length w → getD (stored l at w) (at + m) 0 ≡ getD w m 0
+  unfolding stored
+  stored-at m h =
+      let t : length (take at l) ≡ at = length-take-le at l (omega arith) in
+      let b = getD-append-add (take at l) (w ++ drop (at + length w) l) m 0 in
+      rw append-assoc (rw t at b ∙ List·getD-append w (drop (at + length w) l) 0 m h)
+
+  pub stored-long : length (stored l at w) ≡ length l
+  unfolding stored
+  stored-long =
+      let t : length (take at l) ≡ at = length-take-le at l (omega arith) in
+      let d = length-drop (at + length w) l in
+      let u = length-append (take at l ++ w) (drop (at + length w) l) in
+      let v = length-append (take at l) w in
+      omega arith
 
 module _ (e : List ℕ) (i : ℕ) (r : Entry) (room : i < entryRoom e) where
   pub entry-stored : entryOf (stored e (i * 15) (entryWords r)) i ≡ r

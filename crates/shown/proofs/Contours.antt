@@ -1,6 +1,6 @@
 -- An edge that is counted and put is drawn behind the others, and its contour has one edge more.
 -- Assumes nothing.
-use Prim.Native.Nat.{ℕ, suc, _+_, _-_, _*_, _/_, _≤_, _<_}
+use Prim.Native.Nat.{ℕ, suc, _+_, _-_, _/_, _≤_, _<_}
 use mathlib.Core.Path.{_≡_, sym, ap, _∙_}
 use mathlib.Core.Bool.{true}
 use mathlib.Core.List.{List, [], _∷_, _++_, map}
@@ -13,7 +13,7 @@ use Rattle.place.specs.declared.Item.{Item}
 use Rattle.place.specs.Mark.{Mark, contour, edge, Sheet, withCount, written}
 use Rattle.place.proofs.Marks.{written-contour}
 use Rattle.place.specs.Placing.{ItemWithin}
-use Rattle.sheet.specs.Records.{entryOf, roleOf, entryRoom, entryWords}
+use Rattle.sheet.specs.Records.{entryOf, roleOf, entryRoom}
 use Rattle.sheet.specs.Meaning.{drawn}
 use Rattle.sheet.specs.Valid.{far, okPoints, okWords, okRole, okEntry}
 use Rattle.sheet.specs.declared.Entry.{Entry}
@@ -28,8 +28,9 @@ use Rattle.building.proofs.Contour.{contour-begins, contour-edge, drawn-built}
 use Rattle.build.specs.declared.Builder.{Builder}
 use Rattle.build.specs.Entries.{itemEntry}
 use Rattle.contours.specs.Counted.{counted, countedAt, edged}
+use Rattle.contours.proofs.Counting.{counted-long}
 use Rattle.shown.specs.Shown.{blank, Holds}
-use Rattle.shown.proofs.Entries.{item-shows, item-role, item-ok, stored-long, pushed-is}
+use Rattle.shown.proofs.Entries.{item-shows, item-role, item-ok, pushed-is}
 use Rattle.shown.proofs.Marks.{item-before}
 
 -- an entry that counts one more draws the same item with one edge more
@@ -69,8 +70,7 @@ module _ (s : Sheet) (c y : Item) (es : List Item) (e a : List ℕ) (n high star
   inside = let f = fits in omega arith
 
   long : length (countedAt e high) ≡ length e
-  unfolding countedAt i entryWords
-  long = let l = inside in stored-long e ((entryRoom e - suc high) * 15) (entryWords (counted (entryOf e (entryRoom e - suc high)))) (omega arith)
+  long = let f = fits in counted-long e high (omega arith)
 
   left-still : hasRoom (countedAt e high) (b .closed) (b .high) ≡ true
   unfolding hasRoom

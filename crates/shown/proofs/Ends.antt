@@ -19,7 +19,7 @@ use Rattle.building.proofs.Finish.{Headed, finish-valid, finish-items}
 use Rattle.build.specs.declared.Builder.{Builder}
 use Rattle.close.specs.Closed.{BlockClosed, RepeatClosed, Ended, headOf}
 use Rattle.shown.specs.Shown.{blank, Holds, Shows}
-use Rattle.shown.proofs.Marks.{block-written, others-kept}
+use Rattle.shown.proofs.Closed.{block-written, others-kept}
 
 -- nothing is put yet
 pub starts : (e a : List ℕ) → Holds blank e a (entryRoom e) 0 (record { closed = 0; high = 0; start = 0; height = 10; items = 0 })

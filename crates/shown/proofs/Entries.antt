@@ -1,14 +1,13 @@
 -- The entries that marks leave are in order, and say what the marks said.
 -- Assumes nothing.
 use Prim.Native.Nat.{ℕ, suc, _+_, _-_, _*_, _%_, _≤_, _<_, _^_}
-use mathlib.Core.Path.{_≡_, refl, ap, _∙_}
+use mathlib.Core.Path.{_≡_, refl, ap}
 use mathlib.Core.Bool.{Bool, true, false}
-use mathlib.Core.List.{List, _++_}
+use mathlib.Core.List.{List}
 use native.Mathlib.Omega.{arith}
 use lib.Dec.{eqb, leb}
 use lib.IntN.{ℤ, natAbs}
-use lib.ListN.{length, take, drop, length-append, length-drop}
-use lib.Seq.{length-take-le}
+use lib.ListN.{length}
 use mir.Syntax.{w64}
 use mir.Val.{ofZ}
 use borrow.Author.Tests.{eq-eqb, le-leb, lt-ltb, ne-eqb}
@@ -20,13 +19,13 @@ use Rattle.points.specs.Points.{pt, Within}
 use Rattle.place.specs.declared.Item.{Item}
 use Rattle.place.specs.declared.Pose.{Pose}
 use Rattle.place.specs.Placing.{quarterTurn, PoseWithin, ItemWithin}
-use Rattle.sheet.specs.Records.{roleOf, entryRoom, entryWords, stored}
+use Rattle.sheet.specs.Records.{roleOf, entryRoom, entryWords}
 use Rattle.sheet.specs.Containers.{blockOf}
 use Rattle.sheet.specs.Meaning.{flagWord, pointOf, drawn, poseOf}
 use Rattle.sheet.specs.Valid.{far, isNear, okPoints, okWords, isBlock, okUse, okRole, okEntry}
 use Rattle.sheet.specs.declared.Entry.{Entry}
 use Rattle.sheet.specs.declared.Role.the-variants.{Draws}
-use Rattle.sheet.proofs.Stored.{entry-stored, entry-kept}
+use Rattle.sheet.proofs.Stored.{stored-long, entry-stored, entry-kept}
 use Rattle.stack.specs.Stack.{hasRoom, pushed}
 use Rattle.stack.proofs.Turning.{room-left}
 use Rattle.building.proofs.Push.{Pushed}
@@ -115,13 +114,6 @@ module _ (before who : ℕ) (m : Pose) (place : ℕ) (w : PoseWithin far m) wher
       (and-i _ _ (and-i _ _ (and-i _ _ (flag-small (m .clear)) (flag-small (m .flip))) (lt-ltb _ _ (w .angle-in)))
       (and-i _ _ (and-i _ _ (and-i _ _ near-zero near-zero) (point-near (m .at) (w .at-in))) (and-i _ _ near-zero near-zero)))
       (and-i _ _ (lt-ltb _ _ l) (and-i _ _ (and-i _ _ q (lt-ltb _ _ lower)) (eq-eqb _ _ quarters)))
-
--- a store keeps its length
-pub stored-long : (l : List ℕ) (at : ℕ) (w : List ℕ) → at + length w ≤ length l → length (stored l at w) ≡ length l
-unfolding stored
-stored-long l at w fits =
-    length-append (take at l ++ w) (drop (at + length w) l)
-    ∙ rw (length-append (take at l) w, length-take-le at l (omega arith), length-drop (at + length w) l) (omega arith)
 
 -- an entry pushed is the next of the stack, and every other stays
 pub pushed-is : (e : List ℕ) (closed high : ℕ) (r : Entry) → hasRoom e closed high ≡ true → Pushed e (pushed e closed high r) (entryRoom e) high r

@@ -1,16 +1,13 @@
 -- Each mark that is put, or closes what is open, is shown by the store behind those before it.
 -- Assumes nothing.
-use Prim.Native.Nat.{ℕ, suc, _+_, _-_, _*_, _%_, _≤_, _<_}
-use mathlib.Core.Path.{_≡_, refl, sym, ap, _∙_}
+use Prim.Native.Nat.{ℕ, suc, _+_, _-_, _%_, _≤_, _<_}
+use mathlib.Core.Path.{_≡_, refl}
 use mathlib.Core.Bool.{Bool, true, false, cond}
 use mathlib.Core.List.{List, [], _∷_, _++_}
-use native.Mathlib.Nat.{add-zero}
 use native.Mathlib.Numerals.{add-one}
 use native.Mathlib.Omega.{arith}
-use lib.Dec.{leb, ltb}
-use lib.ListN.{length, getD, drop, take, length-append, List·getD-append}
-use lib.Seq.{getD-drop, length-take-le, getD-append-add}
-use borrow.Author.Tests.{leb-true, leb-false, le-leb, ltb-true, ltb-false}
+use lib.Dec.{leb}
+use borrow.Author.Tests.{leb-true, leb-false, le-leb}
 use Rattle.base.proofs.And.{and-i}
 use Rattle.place.specs.declared.Item.{Item}
 use Rattle.place.specs.declared.Pose.{Pose}
@@ -18,12 +15,10 @@ use Rattle.place.specs.declared.Repeat.{Repeat}
 use Rattle.place.specs.Mark.{Mark, flash, begin, block, repeat, edges, Sheet, put, closed, marked, written}
 use Rattle.place.specs.Placing.{quarterTurn, PoseWithin, ItemWithin}
 use Rattle.place.proofs.Marks.{written-append}
-use Rattle.sheet.specs.Records.{apertureIn, apertureOf, roleOf, apertureRoom, stored}
+use Rattle.sheet.specs.Records.{apertureOf, roleOf}
 use Rattle.sheet.specs.Containers.{blockOf}
 use Rattle.sheet.specs.Meaning.{repeatOf}
 use Rattle.sheet.specs.Valid.{most, far, isBlock, okCounts}
-use Rattle.sheet.specs.declared.Aperture.{Aperture}
-use Rattle.sheet.proofs.Stored.{stored-below, stored-above}
 use Rattle.stack.specs.Stack.{hasRoom, pushed}
 use Rattle.stack.proofs.Turning.{room-left}
 use Rattle.building.proofs.Grow.{MayRise, stays-as-high}
@@ -110,73 +105,3 @@ module _ (s : Sheet) (e a : List ℕ) (room n : ℕ) (b : Builder) (holds : Hold
       (open-repeat s e a room n (b .closed) (b .high) (b .start) (b .height) (b .items) holds (repeatEntry (b .items) (b .start) r place) _
       (rw (holds .as-long) at (pushed-is e (b .closed) (b .high) (repeatEntry (b .items) (b .start) r place) left)) fits
       r ten refl refl (and-i _ _ (and-i _ _ (le-leb _ _ nx) (le-leb _ _ nx′)) (and-i _ _ (le-leb _ _ ny) (le-leb _ _ ny′))) dx dy refl)
-
--- words stored are read back
-stored-inside : (l : List ℕ) (at : ℕ) (w : List ℕ) (k : ℕ) → at + length w ≤ length l → k < length w → getD (stored l at w) (at + k) 0 ≡ getD w k 0
-unfolding stored
-stored-inside l at w k fit lk =
-    let t : length (take at l) ≡ at = length-take-le at l (omega arith) in
-    let both : length (take at l ++ w) ≡ at + length w = length-append (take at l) w ∙ ap (λ x. x + length w) t in
-    let inside = rw t at (getD-append-add (take at l) w k 0) in
-    List·getD-append (take at l ++ w) (drop (at + length w) l) 0 (at + k) (omega arith) ∙ inside
-
--- an aperture is its six words
-same-words : (l : List ℕ) (i : ℕ) (p : Aperture) → getD l (i * 8) 0 ≡ p .number → getD l (i * 8 + 1) 0 ≡ p .kind → getD l (i * 8 + 2) 0 ≡ p .first → getD l (i * 8 + 3) 0 ≡ p .len →
-    getD l (i * 8 + 4) 0 ≡ p .items → getD l (i * 8 + 5) 0 ≡ p .height → apertureOf l i ≡ p
-unfolding apertureOf apertureIn
-same-words l i p a b c d f g = λ j. record {
-  number = (getD-drop (i * 8) l 0 0 ∙ ap (λ x. getD l x 0) (add-zero (i * 8)) ∙ a) j;
-  kind = (getD-drop (i * 8) l 1 0 ∙ b) j;
-  first = (getD-drop (i * 8) l 2 0 ∙ c) j;
-  len = (getD-drop (i * 8) l 3 0 ∙ d) j;
-  items = (getD-drop (i * 8) l 4 0 ∙ f) j;
-  height = (getD-drop (i * 8) l 5 0 ∙ g) j;
-}
-
-number-word : (l : List ℕ) (i : ℕ) → apertureOf l i .number ≡ getD l (i * 8) 0
-unfolding apertureOf apertureIn
-number-word l i = getD-drop (i * 8) l 0 0 ∙ rw (add-zero (i * 8))
-
-other-words : (l l′ : List ℕ) (j : ℕ) → ((k : ℕ) → k < 6 → getD l (j * 8 + k) 0 ≡ getD l′ (j * 8 + k) 0) → apertureOf l j ≡ apertureOf l′ j
-unfolding apertureOf apertureIn
-other-words l l′ j h = λ i. record {
-  number = (getD-drop (j * 8) l 0 0 ∙ h 0 (omega arith) ∙ sym (getD-drop (j * 8) l′ 0 0)) i;
-  kind = (getD-drop (j * 8) l 1 0 ∙ h 1 (omega arith) ∙ sym (getD-drop (j * 8) l′ 1 0)) i;
-  first = (getD-drop (j * 8) l 2 0 ∙ h 2 (omega arith) ∙ sym (getD-drop (j * 8) l′ 2 0)) i;
-  len = (getD-drop (j * 8) l 3 0 ∙ h 3 (omega arith) ∙ sym (getD-drop (j * 8) l′ 3 0)) i;
-  items = (getD-drop (j * 8) l 4 0 ∙ h 4 (omega arith) ∙ sym (getD-drop (j * 8) l′ 4 0)) i;
-  height = (getD-drop (j * 8) l 5 0 ∙ h 5 (omega arith) ∙ sym (getD-drop (j * 8) l′ 5 0)) i;
-}
-
--- the record of a block that closed, and every other
-module _ (a : List ℕ) (i first len t h : ℕ) (room : i < apertureRoom a) where
-  abbrev a′ : List ℕ
-  a′ = stored a (i * 8 + 1) (6 ∷ first ∷ len ∷ t ∷ h ∷ [])
-
-  fit : i * 8 + 1 + 5 ≤ length a
-  fit = omega arith
-
-  word : (k : ℕ) → k < 5 → getD a′ (i * 8 + 1 + k) 0 ≡ getD (6 ∷ first ∷ len ∷ t ∷ h ∷ []) k 0
-  word k l = stored-inside a (i * 8 + 1) (6 ∷ first ∷ len ∷ t ∷ h ∷ []) k fit l
-
-  pub block-written : apertureOf a′ i ≡ record { number = apertureOf a i .number; kind = 6; first = first; len = len; items = t; height = h }
-  block-written = same-words a′ i _
-      (stored-below a (i * 8 + 1) (6 ∷ first ∷ len ∷ t ∷ h ∷ []) fit (i * 8) (omega arith) ∙ sym (number-word a i))
-      (rw (add-zero (i * 8 + 1)) at (word 0 (omega arith)))
-      (at-word 1 2 (omega arith) (omega arith))
-      (at-word 2 3 (omega arith) (omega arith))
-      (at-word 3 4 (omega arith) (omega arith))
-      (at-word 4 5 (omega arith) (omega arith))
-    where
-      at-word : (k m : ℕ) → k < 5 → i * 8 + 1 + k ≡ i * 8 + m → getD a′ (i * 8 + m) 0 ≡ getD (6 ∷ first ∷ len ∷ t ∷ h ∷ []) k 0
-      at-word k m l q = rw q at (word k l)
-
-  pub others-kept : (j : ℕ) → (j ≡ i → ⊥) → apertureOf a′ j ≡ apertureOf a j
-  others-kept j ne = other-words a′ a j (λ k l. go k l (ltb j i) refl)
-    where
-      go : (k : ℕ) → k < 6 → (x : Bool) → ltb j i ≡ x → getD a′ (j * 8 + k) 0 ≡ getD a (j * 8 + k) 0
-      go k l true q = let lt = ltb-true j i q in stored-below a (i * 8 + 1) (6 ∷ first ∷ len ∷ t ∷ h ∷ []) fit (j * 8 + k) (omega arith)
-      go k l false q = let ge = ltb-false j i q in let apart : i < j = above ge in stored-above a (i * 8 + 1) (6 ∷ first ∷ len ∷ t ∷ h ∷ []) fit (j * 8 + k) (omega arith)
-        where
-          above : i ≤ j → i < j
-          above ge = omega arith

@@ -3,16 +3,16 @@
 use Prim.Native.Nat.{ℕ, zero, suc, _+_, _*_, _/_, _≤_, _<_}
 use mathlib.Core.Path.{_≡_, refl, sym, ap, _∙_}
 use mathlib.Core.Bool.{Bool, true, false, cond}
-use mathlib.Core.List.{List, _++_, append-assoc}
+use mathlib.Core.List.{List}
 use native.Mathlib.Omega.{arith}
-use lib.ListN.{length, getD, set, take, drop, length-append, length-drop, length-set, List·getD-append}
-use lib.Seq.{length-take-le, getD-append-add, getD-set-other}
+use lib.ListN.{length, getD, set, length-set}
+use lib.Seq.{getD-set-other}
 use borrow.Author.Tests.{lt-ltb, le-ltb}
 use Rattle.index.specs.Tree.{isHigh, linkWord, linkOf, next, lastLink}
 use Rattle.index.specs.Indexed.{Indexed}
 use Rattle.index.proofs.Seek.{link-words, link-place, link-other, last-is}
 use Rattle.sheet.specs.Records.{stored}
-use Rattle.sheet.proofs.Stored.{stored-below, stored-above}
+use Rattle.sheet.proofs.Stored.{stored-below, stored-above, stored-at, stored-long}
 use Rattle.tables.specs.Added.{hasRoom, added}
 
 -- what the code does, in either case
@@ -28,24 +28,6 @@ put-room s s′ s″ used link w h p q = (sym (lt-ltb used (length s / 8) h), q 
 pub put-none : (s : List ℕ) (used link : ℕ) (w : List ℕ) → length s / 8 ≤ used → (false ≡ hasRoom s used) × (s ≡ added s used link w)
 unfolding added hasRoom
 put-none s used link w h = let e = le-ltb used (length s / 8) h in (sym e, rw e)
-
--- words that are stored
-module _ (l : List ℕ) (at : ℕ) (w : List ℕ) (fits : at + length w ≤ length l) where
-  pub stored-at : (m : ℕ) → m < length w → getD (stored l at w) (at + m) 0 ≡ getD w m 0
-  unfolding stored
-  stored-at m h =
-      let t : length (take at l) ≡ at = length-take-le at l (omega arith) in
-      let b = getD-append-add (take at l) (w ++ drop (at + length w) l) m 0 in
-      rw append-assoc (rw t at b ∙ List·getD-append w (drop (at + length w) l) 0 m h)
-
-  pub stored-long : length (stored l at w) ≡ length l
-  unfolding stored
-  stored-long =
-      let t : length (take at l) ≡ at = length-take-le at l (omega arith) in
-      let d = length-drop (at + length w) l in
-      let u = length-append (take at l ++ w) (drop (at + length w) l) in
-      let v = length-append (take at l) w in
-      omega arith
 
 -- the words of a record that is put behind those in use
 module _ (s : List ℕ) (used : ℕ) (w : List ℕ) (eight : length w ≡ 8) (room : used < length s / 8) where

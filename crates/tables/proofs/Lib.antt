@@ -3,7 +3,6 @@ pub mod Free
 pub mod Adding
 pub mod Numbers
 pub mod Apertures
-pub mod Blocks
 pub mod Names
 pub mod Macros
 pub mod Worked

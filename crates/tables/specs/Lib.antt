@@ -1,4 +1,3 @@
 pub mod Added
 pub mod Apertures
-pub mod Blocks
 pub mod Macros

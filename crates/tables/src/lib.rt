@@ -5,7 +5,6 @@ ghost use Prim.Native.Nat.{_≤_};
 ghost use lib.ListN.{length};
 ghost use Rattle.tables.specs.Added.{hasRoom, added};
 ghost use Rattle.tables.specs.Apertures.{apertureWords};
-ghost use Rattle.tables.specs.Blocks.{blockSet};
 ghost use Rattle.tables.specs.Macros.{macroRoom, macroOf, macroWords};
 
 // Where a macro's name and its blocks begin and end in the file.
@@ -35,16 +34,6 @@ pub fn put_aperture(a: &mut [u64], used: usize, link: usize, r: Aperture) -> boo
 {
     let w = [r.number, r.kind, r.first, r.len, r.items, r.height, 0, 0];
     put_record(a, used, link, &w)
-}
-
-// What a block holds, known when it closes.
-pub fn set_block(a: &mut [u64], i: usize, first: u64, len: u64, items: u64, height: u64)
-    ensures { λ _. ⌜ now (a .exit) ≡ blockSet (now (a .entry)) i first len items height ⌝ }
-{
-    if i < a.len() / 8 {
-        let w = [first, len, items, height];
-        sheet::put_words(a, i * 8 + 2, &w);
-    }
 }
 
 // Macro record i.
