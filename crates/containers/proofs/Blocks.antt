@@ -58,9 +58,10 @@ use Rattle.progress.specs.Around.{Around}
 use Rattle.progress.specs.Knows.{Knows, Known, Follows, StepsTo}
 use Rattle.progress.specs.declared.Stepped.the-variants.{Next, Fault}
 use Rattle.progress.proofs.Around.{start-low, around-kept}
+use Rattle.progress.proofs.Outside.{no-contour}
 use Rattle.progress.proofs.Levels.{block-level}
 use Rattle.progress.proofs.Apertures.{taken-at, taken-free, known-long, record-kept, record-new, table-more, chosen-kept}
-use Rattle.containers.proofs.Faults.{no-contour, full-is}
+use Rattle.containers.proofs.Full.{full-is}
 
 -- a number that is taken is a fault
 pub taken-fault : (g : Graphics) (l : Level) (full : Bool) → 1 ≤ blockStartFault g l true full
@@ -209,7 +210,7 @@ module _ (w : Lent) (s : State) (p : Progress) (k : Knows w p s) (place n : ℕ)
           numbers = k .numbers;
           entries = omega arith;
           shows = shows-then;
-          contour = λ q. absurd (no-contour w p s k (passes .0) q);
+          contour = λ q. absurd (no-contour w p s k (rw (k .graphics) at (passes .0)) q);
         }
 
 -- the table that is lent is searched

@@ -1,4 +1,4 @@
-pub mod Faults
+pub mod Full
 pub mod Levels
 pub mod Tables
 pub mod Repeats

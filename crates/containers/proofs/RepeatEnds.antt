@@ -39,8 +39,8 @@ use Rattle.progress.specs.Around.{Around}
 use Rattle.progress.specs.Knows.{Knows, Known, Follows, StepsTo}
 use Rattle.progress.specs.declared.Stepped.the-variants.{Next, Fault}
 use Rattle.progress.proofs.Around.{start-low, around-kept}
+use Rattle.progress.proofs.Outside.{no-contour}
 use Rattle.progress.proofs.Levels.{repeat-level, top-level}
-use Rattle.containers.proofs.Faults.{no-contour}
 use Rattle.containers.proofs.Levels.{inside-repeat, AroundRepeat, around-repeat}
 
 -- how far reading has come behind the SR that closes
@@ -160,7 +160,7 @@ module _ (w : Lent) (s : State) (p : Progress) (k : Knows w p s) where
             numbers = k .numbers;
             entries = entries-then;
             shows = shows-then;
-            contour = λ q. absurd (no-contour w p s k (passes .0) q);
+            contour = λ q. absurd (no-contour w p s k (rw (k .graphics) at (passes .0)) q);
           })
 
 -- the SR that closes comes to its fault, or to what is known behind it; what the calls answer is handed in

@@ -47,9 +47,10 @@ use Rattle.progress.specs.Levels.{levelOf, Counted}
 use Rattle.progress.specs.Around.{Around}
 use Rattle.progress.specs.Knows.{Knows, Known, Follows, StepsTo}
 use Rattle.progress.specs.declared.Stepped.the-variants.{Next, Fault}
+use Rattle.progress.proofs.Outside.{no-contour}
 use Rattle.progress.proofs.Levels.{repeat-level, top-level, items-known}
 use Rattle.containers.proofs.Levels.{inside-top, around-top}
-use Rattle.containers.proofs.Faults.{no-contour, full-is}
+use Rattle.containers.proofs.Full.{full-is}
 
 -- the bounds of SR
 pub record Counts (nx ny : ℕ) : Type 0 where
@@ -191,7 +192,7 @@ module _ (w : Lent) (s : State) (p : Progress) (k : Knows w p s) (place nx ny : 
           numbers = k .numbers;
           entries = omega arith;
           shows = shows-then;
-          contour = λ q. absurd (no-contour w p s k (neither _ _ (passes .0) .0) q);
+          contour = λ q. absurd (no-contour w p s k (rw (k .graphics) at (neither _ _ (passes .0) .0)) q);
         }
 
 -- SR comes to its fault, or to what is known behind it; what the calls answer is handed in

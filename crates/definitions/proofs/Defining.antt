@@ -37,6 +37,7 @@ use Rattle.progress.specs.Knows.{Knows, Follows}
 use Rattle.progress.specs.declared.Progress.{Progress}
 use Rattle.progress.specs.declared.Stepped.the-variants.{Next, Fault}
 use Rattle.progress.proofs.Around.{around-kept}
+use Rattle.progress.proofs.Outside.{no-contour}
 use Rattle.progress.proofs.AsRead.{other-as-read}
 use Rattle.progress.proofs.Apertures.{
   taken-at,
@@ -253,6 +254,6 @@ module _ (w : Lent) (p : Progress) (s : State) (k : Knows w p s) (file a m : Lis
                 numbers = more-numbers;
                 entries = k .entries;
                 shows = rw ea (shows-more a (p .apertures) (s .apertures) table link r there free (s .marks) (w .entries) (p .builder) other (rw (lends .apertures-are) at (k .shows)));
-                contour = λ c. absurd (let q : true ≡ false = sym (k .inside c) ∙ outside in let y : _≡_ {A = ℕ} 0 1 = cc in omega arith);
+                contour = λ c. absurd (no-contour w p s k outside c);
               },
             )

@@ -2,7 +2,7 @@
 -- Assumes nothing.
 use Prim.Native.Nat.{ℕ, _+_, _-_, _%_, _≤_, _<_, _^_}
 use mathlib.Core.Path.{_≡_, refl, sym, ap, _∙_}
-use mathlib.Core.Bool.{true, false, false≢true}
+use mathlib.Core.Bool.{true, false}
 use mathlib.Core.List.{List, [], _∷_}
 use native.Mathlib.Omega.{arith}
 use borrow.Author.Tests.{not-false, eqb-true, leb-false, eq-eqb}
@@ -44,6 +44,7 @@ use Rattle.progress.specs.declared.Progress.{Progress}
 use Rattle.progress.specs.declared.Stepped.the-variants.{Next, Fault}
 use Rattle.progress.proofs.Levels.{block-level}
 use Rattle.progress.proofs.Around.{start-low}
+use Rattle.progress.proofs.Outside.{no-contour}
 use Rattle.draws.specs.Draws.{leftOf, advanced, Leads, MayFlash}
 use Rattle.draws.proofs.Faults.{and-rest, flash-outside, flash-set, flash-straight, flash-low, flash-counts, flash-room}
 use Rattle.draws.proofs.Levels.{flash-level}
@@ -72,9 +73,9 @@ module _ (w : Lent) (p : Progress) (s : State) (k : Knows w p s) (place : ℕ) (
   counts : counted (s .level) (flashItems (s .graphics)) ≤ most
   counts = flash-counts _ _ _ _ _ none-there
 
-  no-contour : after (command.Flash x y) (s .graphics) .region .contour ≡ true → ⊥
+  none-drawn : after (command.Flash x y) (s .graphics) .region .contour ≡ true → ⊥
   unfolding after goingTo withPoint
-  no-contour q = false≢true (sym (flash-outside _ _ _ _ _ none-there) ∙ k .inside q)
+  none-drawn q = no-contour w p s k (flash-outside _ _ _ _ _ none-there) q
 
   -- an aperture that is no block
   module _ (plain : s .graphics .aperture .block ≡ false) where
@@ -98,7 +99,7 @@ module _ (w : Lent) (p : Progress) (s : State) (k : Knows w p s) (place : ℕ) (
         (grown-knows w p s (command.Flash x y) place 1 1 0 _ _ _ k (flash-moves w p s x y k near)
         (item-grows w p s k left (command.Flash x y) place (flashed (s .graphics) (target (s .graphics) x y) place)
         (flashed-near (s .graphics) (k .point) (target (s .graphics) x y) there place) (omega arith) (omega arith) refl
-        item-marks no-contour (rw one-item at counts)))
+        item-marks none-drawn (rw one-item at counts)))
 
   -- a block
   module _ (is-block : s .graphics .aperture .block ≡ true) where
@@ -158,7 +159,7 @@ module _ (w : Lent) (p : Progress) (s : State) (k : Knows w p s) (place : ℕ) (
           entries = omega arith;
           shows = rw (block-marks, one-more (s .marks) (mark.flash (s .graphics .aperture .number) (pose (s .graphics) (target (s .graphics) x y)) place) refl)
               (rw (b .number, b .items, b .height) at shown);
-          contour = λ q. absurd (no-contour q);
+          contour = λ q. absurd (none-drawn q);
         }))
 
 -- as the code has it: by the progress, and the entries at the call

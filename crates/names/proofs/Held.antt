@@ -20,7 +20,7 @@ use Rattle.tables.specs.Added.{added}
 use Rattle.tables.specs.Macros.{macroOf, macroWords}
 use Rattle.tables.specs.declared.Macro.{Macro}
 use Rattle.tables.proofs.Names.{name-new}
-use Rattle.tables.proofs.Macros.{macro-named, macro-new, macro-kept, macro-long}
+use Rattle.tables.proofs.Macros.{macro-named, macro-new, macro-kept}
 use Rattle.reading.specs.Apertures.{isAmong}
 use Rattle.names.specs.Kept.{nameAt}
 
@@ -121,6 +121,3 @@ module _ (file s : List ℕ) (used : ℕ) (names : List (List ℕ)) (h : Held fi
           (eq-or-lt-of-le (le-of-suc-le-suc l));
       all = λ r. among-all;
     }
-
-    pub held-long : length s′ ≡ length s
-    held-long = macro-long file s used link (nameAt from to) room (h .table) free

@@ -27,18 +27,13 @@ use Rattle.commands.specs.declared.Placed.{Placed}
 use Rattle.commands.specs.declared.Turn.the-variants as turn
 use Rattle.reading.specs.Apertures.{isAmong}
 use Rattle.names.specs.Settings.{settingOf}
-use Rattle.names.specs.Twice.{seen, looked, lookAt, namedFrom, twiceFrom, twiceIn, twiceAt}
+use Rattle.names.specs.Twice.{seen, looked, lookAt, namedFrom, twiceFrom, twiceIn}
 use Rattle.names.specs.declared.Look.{Look}
 use Rattle.names.specs.declared.Look.the-variants.{End, Other, Naming}
 use Rattle.names.specs.declared.Setting.the-variants.{Nothing, Name}
 use Rattle.names.proofs.Settings.{setting-any}
 use Rattle.names.proofs.Inside.{Inside, setting-inside}
 use Rattle.names.proofs.Walk.{Onward, look-onward, naming-onward, twice-other, twice-again, twice-new}
-
--- before the first command
-pub again-start : (file : List ℕ) → twiceIn file 0 [] ≡ twiceAt file
-unfolding twiceAt
-again-start file = refl
 
 -- a part of a part
 take-drop : (b n : ℕ) (l : List ℕ) → take b (drop n l) ≡ drop n (take (n + b) l)

@@ -4,14 +4,13 @@ use Prim.Native.Nat.{ℕ, zero, suc, _+_, _≤_, _<_}
 use mathlib.Core.Path.{_≡_, refl, sym, ap, _∙_}
 use mathlib.Core.Bool.{Bool, true, false, cond}
 use mathlib.Core.List.{List, [], _∷_, _++_}
-use native.Mathlib.Nat.{zero-add, mul-one}
+use native.Mathlib.Nat.{zero-add}
 use native.Mathlib.Numerals.{add-one}
 use native.Mathlib.Omega.{arith}
 use lib.Dec.{eqb}
 use lib.ListN.{length}
 use Rattle.base.specs.Or.{_or_}
 use Rattle.base.specs.Run.{run}
-use Rattle.base.proofs.Run.{run-snoc, run-cong, length-copies}
 use Rattle.base.proofs.Tests.{eqb-agree}
 use Rattle.index.specs.declared.Search.{Search}
 use Rattle.index.specs.declared.Search.the-variants.{At, Free}
@@ -37,6 +36,7 @@ use Rattle.reading.specs.Apertures as reading
 use Rattle.reading.specs.Apertures.{isTaken, selected, apertureFrom, apertureWith}
 use Rattle.progress.specs.Tables.{asRead, ApertureTable, Chosen}
 use Rattle.progress.proofs.AsRead.{number-as-read}
+use Rattle.progress.proofs.Records.{records-long, records-more}
 use Rattle.progress.proofs.Found.{isFound, Picked, first-picked}
 
 -- ---- found by number
@@ -108,8 +108,7 @@ module _ (a : List ℕ) (used : ℕ) (known : List Aperture) (t : ApertureTable 
 
 -- as many as are in use
 pub known-long : (a : List ℕ) (used : ℕ) (known : List Aperture) → ApertureTable a used known → length known ≡ used
-known-long a used known t =
-    ap length (sym (t .records)) ∙ length-copies (λ i. asRead (apertureOf a i) ∷ []) 1 0 used (λ i l. refl) ∙ mul-one used
+known-long a used known t = ap length (sym (t .records)) ∙ records-long (λ i. asRead (apertureOf a i)) used
 
 -- ---- a record more
 
@@ -124,20 +123,13 @@ module _ (a : List ℕ) (used : ℕ) (known : List Aperture) (t : ApertureTable 
   pub record-new : apertureOf a′ used ≡ r
   record-new = aperture-new a used link r room (t .indexed) free
 
-  old-records : run (λ i. asRead (apertureOf a′ i) ∷ []) 0 used ≡ run (λ i. asRead (apertureOf a i) ∷ []) 0 used
-  old-records =
-      let kept : (i : ℕ) → i < used → apertureOf a′ (0 + i) ≡ apertureOf a (0 + i) = λ i l. rw (zero-add i) (record-kept i l) in
-      run-cong (λ i. asRead (apertureOf a′ i) ∷ []) (λ i. asRead (apertureOf a i) ∷ []) 0 0 used (λ i l. ap (λ q. asRead q ∷ []) (kept i l))
-
-  last-record : asRead (apertureOf a′ (0 + used)) ∷ [] ≡ asRead r ∷ []
-  last-record = let new : apertureOf a′ (0 + used) ≡ r = rw (zero-add used) record-new in ap (λ q. asRead q ∷ []) new
-
   pub table-more : r .items ≤ most → r .height ≤ 8 → ApertureTable a′ (used + 1) (known ++ (asRead r ∷ []))
   table-more few low =
       rw (add-one used)
       (record {
         indexed = aperture-numbered a used link r room (t .indexed) free;
-        records = run-snoc (λ i. asRead (apertureOf a′ i) ∷ []) 0 used ∙ (λ x. old-records x ++ last-record x) ∙ ap (λ l. l ++ (asRead r ∷ [])) (t .records);
+        records = records-more (λ i. asRead (apertureOf a i)) used (λ i. asRead (apertureOf a′ i)) known (λ i l. ap asRead (record-kept i l)) (t .records)
+            ∙ ap (λ q. known ++ (asRead q ∷ [])) record-new;
         few = below-last (λ i. apertureOf a′ i .items ≤ most) used (λ i l. rw (record-kept i l) (t .few i l)) (rw record-new few);
         low = below-last (λ i. apertureOf a′ i .height ≤ 8) used (λ i l. rw (record-kept i l) (t .low i l)) (rw record-new low);
         unused = λ k l. aperture-behind a used link r room (t .indexed) free k l ∙ t .unused k (omega arith);

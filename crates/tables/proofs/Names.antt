@@ -9,17 +9,15 @@ use native.Mathlib.Omega.{arith}
 use lib.ListN.{length, getD, set}
 use lib.Seq.{slice}
 use Rattle.base.specs.Bytes.{sameBytes}
-use Rattle.base.proofs.Lists.{same-refl}
-use Rattle.index.specs.declared.Search.the-variants.{At, Free}
+use Rattle.index.specs.declared.Search.the-variants.{Free}
 use Rattle.index.specs.Tree.{next, lastLink, linked}
 use Rattle.index.specs.Names.{nameOf, keyOf, named, Named}
-use Rattle.index.proofs.Seek.{first-at}
 use Rattle.index.proofs.More.{named-more}
 use Rattle.sheet.specs.Records.{stored}
 use Rattle.tables.specs.Added.{added}
 use Rattle.tables.proofs.Agree.{indexed-agree, end-agree}
 use Rattle.tables.proofs.Free.{first-free}
-use Rattle.tables.proofs.Adding.{added-room, more-long, more-below, more-at, more-links, more-free, word-new}
+use Rattle.tables.proofs.Adding.{added-room, more-long, more-below, more-at, more-links, more-free}
 
 -- a search that found no name
 module _ (file s : List ℕ) (used : ℕ) (name : List ℕ) (link : ℕ) (free : named file s used name ≡ Free link) where
@@ -69,19 +67,3 @@ module _ (file s : List ℕ) (used : ℕ) (name : List ℕ) (link : ℕ) (w : Li
       (named-agree file s t used n (let h = more-long s used w eight room in omega arith) (more-links s used w eight room) old)
       (more-long s used w eight room) (more-free s used w eight room low high)
       (λ j l e. name-new file s used name link free j l (rw (old j l, own) at e)))
-
-  name-at : nameOf file (added s used link w) used ≡ name
-  unfolding nameOf
-  name-at =
-      let a = added s used link w in
-      let new = word-new s used w eight room (n .tree) (keyOf name) link (name-ends file s used name link free) in
-      let p : getD a (used * 8) 0 ≡ getD w 0 0 = rw (add-zero (used * 8)) at (new 0 (omega arith)) in
-      let q : getD a (used * 8 + 1) 0 ≡ getD w 1 0 = new 1 (omega arith) in
-      (λ x. slice (p x) (q x) file) ∙ is
-
-  pub name-found : named file (added s used link w) (suc used) name ≡ At used
-  unfolding named
-  name-found =
-      let a = added s used link w in
-      first-at (λ i. sameBytes (nameOf file a i) name) _ 0 (suc used) used (omega arith) (omega arith) (rw name-at (same-refl name))
-      (λ m l e. named-added .distinct m used (omega arith) (omega arith) (rw name-at e))

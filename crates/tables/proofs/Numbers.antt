@@ -7,17 +7,16 @@ use native.Mathlib.Nat.{add-zero, le-refl}
 use native.Mathlib.Omega.{arith}
 use lib.Dec.{eqb}
 use lib.ListN.{length, getD, set}
-use borrow.Author.Tests.{eqb-true, eq-eqb}
-use Rattle.index.specs.declared.Search.the-variants.{At, Free}
+use borrow.Author.Tests.{eq-eqb}
+use Rattle.index.specs.declared.Search.the-variants.{Free}
 use Rattle.index.specs.Tree.{next, lastLink, linked}
 use Rattle.index.specs.Numbers.{numberOf, numbered, Numbered}
-use Rattle.index.proofs.Seek.{first-at}
 use Rattle.index.proofs.More.{numbered-more}
 use Rattle.sheet.specs.Records.{stored}
 use Rattle.tables.specs.Added.{added}
 use Rattle.tables.proofs.Agree.{indexed-agree, end-agree}
 use Rattle.tables.proofs.Free.{first-free}
-use Rattle.tables.proofs.Adding.{added-room, more-long, more-below, more-at, more-links, more-free, word-new}
+use Rattle.tables.proofs.Adding.{added-room, more-long, more-below, more-at, more-links, more-free}
 
 -- a search that found no number
 module _ (s : List ℕ) (used number link : ℕ) (free : numbered s used number ≡ Free link) where
@@ -61,13 +60,3 @@ module _ (s : List ℕ) (used number link : ℕ) (w : List ℕ) (eight : length 
       (numbered-agree s t used n (let h = more-long s used w eight room in omega arith) (more-links s used w eight room) old)
       (more-long s used w eight room) (more-free s used w eight room low high)
       (λ j l e. number-new s used number link free j l (sym (old j l) ∙ e ∙ own)))
-
-  number-at : numberOf (added s used link w) used ≡ number
-  number-at = rw (add-zero (used * 8)) at (word-new s used w eight room (n .tree) number link (number-ends s used number link free) 0 (omega arith)) ∙ is
-
-  pub number-found : numbered (added s used link w) (suc used) number ≡ At used
-  unfolding numbered
-  number-found =
-      let a = added s used link w in
-      first-at (λ i. eqb (numberOf a i) number) _ 0 (suc used) used (omega arith) (omega arith) (eq-eqb (numberOf a used) number number-at)
-      (λ m l e. numbered-added .distinct m used (omega arith) (omega arith) (eqb-true (numberOf a m) number e ∙ sym number-at))
