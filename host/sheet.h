@@ -29,7 +29,7 @@
 extern "C" {
 #endif
 
-/* Document 01, "Numbers the reader answers"; the last is the host calls' own. */
+/* Document 01, "Numbers the reader answers", and document 02; the last is the host calls' own. */
 enum sheet_number {
     SHEET_ACCEPTED = 0,         /* accepted */
     SHEET_TOO_LONG = 1,         /* file longer than 16,777,216 bytes; place 0 */
@@ -55,6 +55,7 @@ enum sheet_number {
     SHEET_NOT_SHEET = 21,       /* lent store is not a sheet */
     SHEET_NO_COMMAND = 22,      /* no command begins at the place asked */
     SHEET_NOT_HELD = 23,        /* attribute name not held there */
+    SHEET_OWN_MOVE = 29,        /* in a region, a first D01 without a D02 since its G36; after 11 and before 12 (document 02, [7]) */
     SHEET_SHORT = 100           /* the words lent for items do not hold one item; before all else (decision 281) */
 };
 
@@ -145,8 +146,8 @@ static inline size_t sheet_numbers_for(size_t n) { return n / 2 + n * n / 72; }
  *   macros, macros_words          room for macros_words / SHEET_MACRO_WORDS macros
  *   numbers, numbers_count        room for so many numbers
  *   place, unit                   one word each
- * Answers 0 (then unit is 1 mm or 2 inch, place 0, and head, entries and apertures are a sheet; words not used are 0) or 1 to 19 (then
- * place says where, unit is 0, and every word lent is 0 to its full length). */
+ * Answers 0 (then unit is 1 mm or 2 inch, place 0, and head, entries and apertures are a sheet; words not used are 0), or 1 to 19 or 29
+ * (then place says where, unit is 0, and every word lent is 0 to its full length). */
 uint64_t sheet_read(const uint8_t *file, size_t file_bytes, uint64_t *head, uint64_t *entries, size_t entries_words,
                     uint64_t *apertures, size_t apertures_words, uint64_t *macros, size_t macros_words, int64_t *numbers,
                     size_t numbers_count, uint64_t *place, uint64_t *unit);

@@ -62,6 +62,9 @@ beside() { # ARCHIVE FOLDER
     fi
 }
 beside ../shared/cases/cases.tgz "$room"
+if [ -n "$(ls "$room/cases")" ]; then
+    tests/cases/replace "$room/cases" || faults=$((faults + 1))
+fi
 beside ../shared/corpus/kicad-layers.tgz "$room/layers"
 find "$room/cases" -name '*.gbr' | sort >"$room/all_cases"
 find "$room/layers" -name '*.gbr' | sort >"$room/all_layers"
@@ -85,7 +88,7 @@ if [ -f host/imager.c ]; then
     by_batch "generated" "$room/all_generated" --room 3,2,1,4
     by_batch "generated" "$room/all_generated" --room 8,3,1,10
     # Files of 16,777,217 bytes are tried elsewhere (1).
-    for number in 2 3 4 5 6 7 8 9 10 11 12 13 14 15 16 17 18 19; do
+    for number in 2 3 4 5 6 7 8 9 10 11 12 13 14 15 16 17 18 19 29; do
         grep -q "^refused $number " "$room/answers" || tell "refused with $number" "no file, 1 differ"
     done
 fi

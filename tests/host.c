@@ -147,6 +147,7 @@ static const struct refusal refusals[] = {
     {FS MO "%ABD10*%%ABD11*%%ABD12*%%ABD13*%%ABD14*%%ABD15*%%ABD16*%%ABD17*%%ABD18*%M02*", 15, 84},
     {FS MO "M02*\nG04*", 18, 25},
     {FS MO "%TFa*%%TFa*%M02*", 19, 26},
+    {FS MO "G01*X0Y0D02*G36*D01*G37*M02*", 29, 36},
 };
 
 static void every_refusal(void)

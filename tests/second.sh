@@ -15,6 +15,7 @@ fi
 room=$(mktemp -d)
 trap 'rm -rf "$room"' EXIT
 tar xzf "$cases" -C "$room"
+tests/cases/replace "$room/cases"
 told=$("$made/release/second" check-cases "$room/cases" --base)
 echo "second: $told"
 case $told in *", 0 differ") ;; *) exit 1 ;; esac

@@ -92,7 +92,7 @@ pub fn census(folder: &Path, room: Room, out: &mut dyn Write) -> io::Result<()> 
         };
         *counts.entry(number).or_insert(0u64) += 1;
     }
-    for number in 0..=19 {
+    for number in (0..=19).chain([29]) {
         let count = counts.get(&number).copied().unwrap_or(0);
         writeln!(out, "{number}\t{count}")?;
     }

@@ -119,7 +119,7 @@ impl Reading {
                 Ok(())
             }
             Command::RegionBegin => {
-                self.region = Some(Region { contour: None });
+                self.region = Some(Region::default());
                 Ok(())
             }
             Command::RegionEnd => {
@@ -289,10 +289,13 @@ impl Reading {
                 Some(Point::new(i.value, j.value))
             }
         };
+        let starts_contour = self.region.as_ref().is_some_and(|region| region.contour.is_none());
+        // Document 02, [7]: "29 at that D01, tested after 11 and before 12".
+        let has_own_move = self.region.as_ref().is_none_or(|region| region.moved);
+        require(!starts_contour || has_own_move, 29)?;
         require(offset.is_none_or(|offset| !is_nonsensical(start, end, offset)), 12)?;
 
         // "each contour (at its first D01)" is an entry and an item of its own (decision 93).
-        let starts_contour = self.region.as_ref().is_some_and(|region| region.contour.is_none());
         let new = if starts_contour { 2 } else { 1 };
         require(self.has_items_left(new), 16)?;
         self.use_room(Room { entries: new, ..Room::NONE })?;
@@ -360,6 +363,9 @@ impl Reading {
     fn go(&mut self, operation: &Operation) -> Result<(), u32> {
         let target = self.target(operation)?;
         self.end_contour()?;
+        if let Some(region) = &mut self.region {
+            region.moved = true;
+        }
         self.graphics.point = Some(target);
         Ok(())
     }
@@ -407,17 +413,19 @@ impl Reading {
 
     // ------------------------------------------------------------ regions
 
-    /// "The first D01 starts a contour at the current point, however set (house, as 000)."
+    /// "The first D01 starts a contour at the current point", which a D02 since G36 has set.
     fn begin_contour(&mut self, place: usize, start: Point) {
         let item = Item { start, ..self.plain_item(Kind::Contour, place) };
         let body = self.body();
         let entry = body.entries.len();
         body.push(Source::Item(item), 1);
-        self.region = Some(Region { contour: Some(Contour { start, entry }) });
+        if let Some(region) = &mut self.region {
+            region.contour = Some(Contour { start, entry });
+        }
     }
 
     fn count_edge(&mut self) {
-        let Some(Region { contour: Some(contour) }) = &self.region else {
+        let Some(Region { contour: Some(contour), .. }) = &self.region else {
             return;
         };
         let entry = contour.entry;
@@ -577,6 +585,20 @@ mod tests {
     }
 
     #[test]
+    fn a_contour_begins_with_its_own_move() {
+        refused("X0Y0D02*G36*|X1D01*X0D01*G37*", 29);
+        refused("G36*X0Y0D02*G37*G36*|D01*G37*", 29);
+        refused("G36*X0Y0D02*D01*G37*G36*|D01*G37*", 29);
+        accepted("G36*X0Y0D02*D01*D02*D01*G37*");
+        accepted("X0Y0D02*G36*D02*D01*G37*");
+        // After 11 and before 12.
+        refused("G36*|X1Y1D01*G37*", 11);
+        refused("X0Y0D02*G75*G02*G36*|X1Y0D01*G37*", 11);
+        refused("X0Y0D02*G75*G02*G36*|X1Y0I0J0D01*G37*", 29);
+        refused("X0Y0D02*G75*G02*G36*D02*|X1Y0I0J0D01*G37*", 12);
+    }
+
+    #[test]
     fn a_block_of_height_eight_is_flashed_at_top_level_only() {
         let mut blocks = String::from("%ABD11*%D10*X0Y0D03*%AB*%");
         for number in 12..=18 {
@@ -589,9 +611,9 @@ mod tests {
 
     #[test]
     fn a_contour_needs_two_entries() {
-        let file = format!("{HEAD}X0Y0D02*G36*D01*G37*M02*");
+        let file = format!("{HEAD}G36*X0Y0D02*D01*G37*M02*");
         let room = |entries| Room { entries, ..Room::UNLIMITED };
-        let first = HEAD.len() + "X0Y0D02*G36*".len();
+        let first = HEAD.len() + "G36*X0Y0D02*".len();
         assert_eq!(read(file.as_bytes(), room(1)).err(), Some(Refusal::new(17, first)));
         let sheet = read(file.as_bytes(), room(2)).expect("room enough");
         assert_eq!((sheet.used.entries, sheet.total()), (2, 2));

@@ -59,8 +59,10 @@ pub enum Open {
     Repeat { grid: Grid, body: Body },
 }
 
-/// A region: the contour begun in it, if any.
+/// A region: whether a D02 stood since its G36 (request [7] of document 02), and the contour begun in it, if any.
+#[derive(Default)]
 pub struct Region {
+    pub moved: bool,
     pub contour: Option<Contour>,
 }
 

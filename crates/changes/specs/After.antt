@@ -29,20 +29,20 @@ target g x y = pt (along x (g .point .at .x)) (along y (g .point .at .y))
 unfoldable pub goingTo : Point → Graphics → Graphics
 goingTo p = withPoint (record { set = true; at = p })
 
--- a region in which no contour has begun
+-- a region in which no contour has begun, nor a D02 stood
 unfoldable pub emptyRegion : Region
-emptyRegion = record { on = true; contour = false; first = origin }
+emptyRegion = record { on = true; moved = false; contour = false; first = origin }
 
 -- "The first D01 starts a contour at the current point": whether a D01 here is the first of a contour
 unfoldable pub startsContour : Region → Bool
 startsContour r = r .on and not (r .contour)
 
 unfoldable pub drawing : Region → Point → Region
-drawing r p = record { on = r .on; contour = r .on; first = cond (startsContour r) p (r .first) }
+drawing r p = record { on = r .on; moved = r .moved; contour = r .on; first = cond (startsContour r) p (r .first) }
 
--- "D02 or G37 ends it"
+-- "D02 or G37 ends it"; in a region a D02 is the move that the next contour begins with (02, [7])
 unfoldable pub ended : Region → Region
-ended r = record { on = r .on; contour = false; first = origin }
+ended r = record { on = r .on; moved = r .on; contour = false; first = origin }
 
 -- the parts of FS and MO, and of LP, LM, LR and LS
 unfoldable pub withDigits : ℕ → Format → Format

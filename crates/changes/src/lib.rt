@@ -58,6 +58,7 @@ fn drawing(r: Region, p: Point) -> Region
     if starts_contour(r) {
         return Region {
             on: r.on,
+            moved: r.moved,
             contour: r.on,
             first: p,
         };
@@ -65,6 +66,7 @@ fn drawing(r: Region, p: Point) -> Region
     let first = r.first;
     Region {
         on: r.on,
+        moved: r.moved,
         contour: r.on,
         first,
     }
@@ -153,6 +155,7 @@ fn begin_region(g: Graphics) -> Graphics
 {
     let r = Region {
         on: true,
+        moved: false,
         contour: false,
         first: Point { x: 0, y: 0 },
     };
@@ -165,6 +168,7 @@ fn end_region(g: Graphics) -> Graphics
 {
     let r = Region {
         on: false,
+        moved: false,
         contour: false,
         first: Point { x: 0, y: 0 },
     };
@@ -204,6 +208,7 @@ fn moved(x: Axis, y: Axis, g: Graphics) -> Graphics
 {
     let r = Region {
         on: g.region.on,
+        moved: g.region.on,
         contour: false,
         first: Point { x: 0, y: 0 },
     };

@@ -1,4 +1,5 @@
--- The rules of D01, D02, D03 and G37, in the order of their numbers (01, Numbers the reader answers; decisions 52 and 81 to 101).
+-- The rules of D01, D02, D03 and G37, in the order of their numbers, 29 between 11 and 12 (01, Numbers the reader answers; 02, [7];
+-- decisions 52, 81 to 101 and 312).
 use Prim.Native.Nat.{ℕ}
 use mathlib.Core.Bool.{Bool, cond, not}
 use mathlib.Core.List.{List, [], _∷_}
@@ -9,7 +10,7 @@ use Rattle.command.specs.declared.Offset.{Offset}
 use Rattle.graphics.specs.declared.Graphics.{Graphics}
 use Rattle.changes.specs.After.{target, startsContour}
 use Rattle.drawing.specs.Counts.{tooMany}
-use Rattle.fits.specs.Fits.{unready, placeless, drawMisfits, flashMisfits, badCentre, unclosed, askew, tooTall}
+use Rattle.fits.specs.Fits.{unready, placeless, drawMisfits, flashMisfits, moveless, badCentre, unclosed, askew, tooTall}
 use Rattle.fits.specs.declared.Level.{Level}
 
 -- "within one command the lowest number decides": the first test that holds, 0 where none does
@@ -26,6 +27,7 @@ drawFault g l room x y o =
     firstFault
     ((unready g, 6)
     ∷ (drawMisfits g o, 11)
+    ∷ (moveless g, 29)
     ∷ (badCentre g (target g x y) o, 12)
     ∷ (tooMany l (drawItems g), 16)
     ∷ (ltb room (drawItems g), 17)

@@ -63,7 +63,8 @@ pub fn draw_fault(g: Graphics, l: Level, room: u64, x: Axis, y: Axis, o: Offset)
     let room_used = fault(room < n, 17, 0);
     let count = fault(too_many(l, n), 16, room_used);
     let centre = fault(fits::bad_centre(g, changes::target(g, x, y), o), 12, count);
-    let misfit = fault(fits::draw_misfits(g, o), 11, centre);
+    let own_move = fault(fits::is_moveless(g), 29, centre);
+    let misfit = fault(fits::draw_misfits(g, o), 11, own_move);
     fault(fits::is_unready(g), 6, misfit)
 }
 

@@ -34,7 +34,8 @@ module _ (g : Graphics) (l : Level) (room : ℕ) (x y : Axis) (o : Offset) (none
   draw-passes =
       let ready = unbroken (lit≤ tt) none in
       let fits = unbroken (lit≤ tt) (ready .1) in
-      let centred = unbroken (lit≤ tt) (fits .1) in
+      let moved = unbroken (lit≤ tt) (fits .1) in
+      let centred = unbroken (lit≤ tt) (moved .1) in
       let counts = unbroken (lit≤ tt) (centred .1) in
       let rooms = unbroken (lit≤ tt) (counts .1) in
       (fits .0, counts .0, rooms .0)

@@ -1,4 +1,4 @@
--- Whether an operation fits the state (01, State: numbers 11 to 15).
+-- Whether an operation fits the state (01, State: numbers 11 to 15; 02, [7]: 29).
 use Prim.Native.Nat.{_%_}
 use mathlib.Core.Bool.{Bool, true, false, not, xor}
 use lib.Dec.{eqb, leb}
@@ -15,6 +15,7 @@ use Rattle.command.specs.declared.Offset.the-variants as offset
 use Rattle.graphics.specs.Graphics.{origin}
 use Rattle.graphics.specs.Orientation.{orientation}
 use Rattle.graphics.specs.declared.Graphics.{Graphics}
+use Rattle.changes.specs.After.{startsContour}
 use Rattle.fits.specs.Level.{block}
 use Rattle.fits.specs.declared.Level.{Level}
 
@@ -52,6 +53,10 @@ drawMisfits g o = not (g .point .set) or eqb (g .mode) 0 or brushless g or arcle
 -- 11 at D03
 unfoldable pub flashMisfits : Graphics → Axis → Axis → Bool
 flashMisfits g x y = placeless g x y or not (g .aperture .set)
+
+-- 29 (02, [7]): "Inside a region, the first D01 needs a D02 since that G36"
+unfoldable pub moveless : Graphics → Bool
+moveless g = startsContour (g .region) and not (g .region .moved)
 
 -- "Arc centre is start plus (I, J)"
 unfoldable pub offsetOf : Offset → Point

@@ -1,8 +1,8 @@
-// Whether an operation fits the state: each test is one of document 01's sentences about 6 and 11 to 15.
+// Whether an operation fits the state: each test is one of document 01's sentences about 6 and 11 to 15, or document 02's about 29.
 ghost use mathlib.Core.Path.{_≡_};
 ghost use Prim.Native.Nat.{_^_};
 ghost use Rattle.points.specs.Points.{Within};
-ghost use Rattle.fits.specs.Fits.{isMissing, unready, placeless, brushless, circular, hasOffset, arcless, drawMisfits, flashMisfits, offsetOf, badCentre, unclosed, askew, tooTall};
+ghost use Rattle.fits.specs.Fits.{isMissing, unready, placeless, brushless, circular, hasOffset, arcless, drawMisfits, flashMisfits, moveless, offsetOf, badCentre, unclosed, askew, tooTall};
 use command::Axis;
 use command::Offset;
 use graphics::Graphics;
@@ -101,6 +101,14 @@ pub fn flash_misfits(g: Graphics, x: Axis, y: Axis) -> bool
     ensures { λ r. ⌜ r ≡ flashMisfits g x y ⌝ }
 {
     base::either(is_placeless(g, x, y), !g.aperture.set)
+}
+
+// 29: a contour begins here, and no D02 stood since G36.
+pub fn is_moveless(g: Graphics) -> bool
+    ensures { λ r. ⌜ r ≡ moveless g ⌝ }
+{
+    let r = g.region;
+    base::both(changes::starts_contour(r), !g.region.moved)
 }
 
 // 12: the centre of the arc to end is nonsensical.

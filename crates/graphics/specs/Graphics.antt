@@ -21,7 +21,7 @@ unfoldable pub noAperture : Selected
 noAperture = record { set = false; number = 0; slot = 0; circle = false; block = false; items = 0; height = 0 }
 
 unfoldable pub noRegion : Region
-noRegion = record { on = false; contour = false; first = origin }
+noRegion = record { on = false; moved = false; contour = false; first = origin }
 
 -- "At the start: point, aperture and mode unset; dark; no mirror; angle 0; scale 1"
 unfoldable pub start : Graphics

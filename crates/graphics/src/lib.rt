@@ -42,9 +42,10 @@ pub struct Transform {
     pub scale: u64,
 }
 
-// A region, and the first point of the contour that is open in it.
+// A region, whether a D02 stood since its G36, and the first point of the contour that is open in it.
 pub struct Region {
     pub on: bool,
+    pub moved: bool,
     pub contour: bool,
     pub first: Point,
 }
@@ -96,6 +97,7 @@ pub fn start() -> Graphics
         },
         region: Region {
             on: false,
+            moved: false,
             contour: false,
             first: origin,
         },

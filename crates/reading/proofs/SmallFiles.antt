@@ -35,7 +35,7 @@ use Rattle.graphics.specs.Graphics.{origin, unset, noAperture, noRegion, withFo
 use Rattle.graphics.specs.Graphics as graphics-Graphics
 use Rattle.graphics.specs.Orientation.{angleOf, angleAfter, orientation}
 use Rattle.changes.specs.After.{along, target, goingTo, emptyRegion, startsContour, drawing, ended, withDigits, withUnit, withClear, withMirror, withRotation, withScale, after}
-use Rattle.fits.specs.Fits.{isMissing, unready, placeless, brushless, circular, hasOffset, arcless, drawMisfits, flashMisfits, centreOf, badCentre, unclosed, askew, tooTall}
+use Rattle.fits.specs.Fits.{isMissing, unready, placeless, brushless, circular, hasOffset, arcless, drawMisfits, flashMisfits, moveless, centreOf, badCentre, unclosed, askew, tooTall}
 use Rattle.fits.specs.Fits as fits-Fits
 use Rattle.drawing.specs.Faults.{drawItems, drawFault, moveFault, flashItems, flashFault, regionEndFault}
 use Rattle.decimal.specs.Amounts.{aboveZero}
@@ -58,5 +58,5 @@ pub small-files :
     ("" ∷ "D9*M02*" ∷ "M02*" ∷ "D10*M02*" ∷ "%FSLAX26Y26*%%MOMM*%G36*M02*" ∷ "%FSLAX26Y26*%%MOMM*%M02*A" ∷ "%FSLAX26Y26*%%MOIN*%M02*" ∷ [])
     ≡ refused 3 0 ∷ refused 4 0 ∷ refused 6 0 ∷ refused 8 0 ∷ refused 7 24 ∷ refused 18 24
     ∷ accepted (withGraphics (withFormat (record { digits = 2; unit = 2 }) graphics-Graphics.start) begun) ∷ []
-unfolding room _and_ sameBytes _or_ signed isNeg isDigit allDigits isNumber valueOf naturalOf hasMinus afterSign dropLeading keptBefore dropTrailing firstIn beforeByte afterByte letter nameStart nameByte nameBytes isName among fits printable breaksAfter mayBreak permitted badIn textFrom endOf commandFrom commandAt nextCommand tailOf pick judged inRange anySize sizedAs commentOf selectOf wordOf formatOf unitOf oneBlock dataOf extendedOf commandOf commandsFrom commandsOf leadOf led turnOf tailFault origin unset noAperture noRegion withFormat withPoint withAperture withMode withQuadrants withTransform withRegion angleOf angleAfter orientation along target goingTo emptyRegion startsContour drawing ended withDigits withUnit withClear withMirror withRotation withScale after isMissing unready placeless brushless circular hasOffset arcless drawMisfits flashMisfits centreOf badCentre unclosed askew tooTall drawItems drawFault moveFault flashItems flashFault regionEndFault aboveZero isCount isRepeat regionFault formatFault unitFault scaleFault selectFault apertureFault macroFault blockStartFault closingFault repeatStartFault fileAttributeFault endFault drawMarks flashMarks marksOf isTaken selected apertureFrom apertureWith isAmong namesOf blocksOf isStandard valuesOf outcomeOf defined opening closing readOn outermost begun passed withGraphics withLevel withOpened withApertures withMacros withNames withNumbers drawStep flashHeight flashStep selectStep apertureStep macroStep blockStartStep repeatStartStep blockEnds repeatEnds blockEndStep repeatEndStep fileAttributeStep stepOf scan-Scan.kindOf words-Words.codeOf commands-Turns.turned graphics-Graphics.start fits-Fits.offsetOf marks-Marks.repeatOf reading-Apertures.blockOf reading-Reading.reading
+unfolding room _and_ sameBytes _or_ signed isNeg isDigit allDigits isNumber valueOf naturalOf hasMinus afterSign dropLeading keptBefore dropTrailing firstIn beforeByte afterByte letter nameStart nameByte nameBytes isName among fits printable breaksAfter mayBreak permitted badIn textFrom endOf commandFrom commandAt nextCommand tailOf pick judged inRange anySize sizedAs commentOf selectOf wordOf formatOf unitOf oneBlock dataOf extendedOf commandOf commandsFrom commandsOf leadOf led turnOf tailFault origin unset noAperture noRegion withFormat withPoint withAperture withMode withQuadrants withTransform withRegion angleOf angleAfter orientation along target goingTo emptyRegion startsContour drawing ended withDigits withUnit withClear withMirror withRotation withScale after isMissing unready placeless brushless circular hasOffset arcless drawMisfits flashMisfits moveless centreOf badCentre unclosed askew tooTall drawItems drawFault moveFault flashItems flashFault regionEndFault aboveZero isCount isRepeat regionFault formatFault unitFault scaleFault selectFault apertureFault macroFault blockStartFault closingFault repeatStartFault fileAttributeFault endFault drawMarks flashMarks marksOf isTaken selected apertureFrom apertureWith isAmong namesOf blocksOf isStandard valuesOf outcomeOf defined opening closing readOn outermost begun passed withGraphics withLevel withOpened withApertures withMacros withNames withNumbers drawStep flashHeight flashStep selectStep apertureStep macroStep blockStartStep repeatStartStep blockEnds repeatEnds blockEndStep repeatEndStep fileAttributeStep stepOf scan-Scan.kindOf words-Words.codeOf commands-Turns.turned graphics-Graphics.start fits-Fits.offsetOf marks-Marks.repeatOf reading-Apertures.blockOf reading-Reading.reading
 small-files = refl

@@ -49,7 +49,7 @@ use Rattle.graphics.specs.Graphics.{origin, unset, noAperture, noRegion, withFo
 use Rattle.graphics.specs.Graphics as graphics-Graphics
 use Rattle.graphics.specs.Orientation.{angleOf, angleAfter, orientation}
 use Rattle.changes.specs.After.{along, target, goingTo, emptyRegion, startsContour, drawing, ended, withDigits, withUnit, withClear, withMirror, withRotation, withScale, after}
-use Rattle.fits.specs.Fits.{isMissing, unready, placeless, brushless, circular, hasOffset, arcless, drawMisfits, flashMisfits, centreOf, badCentre, unclosed, askew, tooTall}
+use Rattle.fits.specs.Fits.{isMissing, unready, placeless, brushless, circular, hasOffset, arcless, drawMisfits, flashMisfits, moveless, centreOf, badCentre, unclosed, askew, tooTall}
 use Rattle.fits.specs.Fits as fits-Fits
 use Rattle.drawing.specs.Counts.{counted, tooMany}
 use Rattle.drawing.specs.Faults.{drawItems, drawFault, moveFault, flashItems, flashFault, regionEndFault}
@@ -125,7 +125,7 @@ unfolding answer said listed ample strip item output xor run
     graphics-Graphics.start
     angleOf angleAfter orientation
     along target goingTo emptyRegion startsContour drawing ended withDigits withUnit withClear withMirror withRotation withScale after
-    isMissing unready placeless brushless circular hasOffset arcless drawMisfits flashMisfits centreOf badCentre unclosed askew tooTall
+    isMissing unready placeless brushless circular hasOffset arcless drawMisfits flashMisfits moveless centreOf badCentre unclosed askew tooTall
     fits-Fits.offsetOf
     counted tooMany
     drawItems drawFault moveFault flashItems flashFault regionEndFault

@@ -28,33 +28,41 @@ bad-centre-requires c κs =
 fault-requires-3 : tie.Need-fault-requires-3
 fault-requires-3 c κs = search needs
 
-draw-misfits-requires : tie.Need-draw-misfits-requires
-draw-misfits-requires c κs = search needs
+is-moveless-requires : tie.Need-is-moveless-requires
+is-moveless-requires c κs = search needs
 
 fault-requires-4 : tie.Need-fault-requires-4
 fault-requires-4 c κs = search needs
 
-is-unready-requires : tie.Need-is-unready-requires
-is-unready-requires c κs = search needs
+draw-misfits-requires : tie.Need-draw-misfits-requires
+draw-misfits-requires c κs = search needs
 
 fault-requires-5 : tie.Need-fault-requires-5
 fault-requires-5 c κs = search needs
+
+is-unready-requires : tie.Need-is-unready-requires
+is-unready-requires c κs = search needs
+
+fault-requires-6 : tie.Need-fault-requires-6
+fault-requires-6 c κs = search needs
 
 returns : tie.Need-returns
 unfolding drawFault
 returns c =
     simp (
-      c .fault5 .ensures,
+      c .fault6 .ensures,
       c .before .is-unready .ensures,
-      c .before .before .fault4 .ensures,
+      c .before .before .fault5 .ensures,
       c .before .before .before .draw-misfits .ensures,
-      c .before .before .before .before .fault3 .ensures,
-      c .before .before .before .before .before .bad-centre .ensures,
-      c .before .before .before .before .before .before .target .ensures,
-      c .before .before .before .before .before .before .before .fault2 .ensures,
-      c .before .before .before .before .before .before .before .before .too-many .ensures,
-      c .before .before .before .before .before .before .before .before .before .fault .ensures,
-      c .before .before .before .before .before .before .before .before .before .before .draw-items .ensures,
+      c .before .before .before .before .fault4 .ensures,
+      c .before .before .before .before .before .is-moveless .ensures,
+      c .before .before .before .before .before .before .fault3 .ensures,
+      c .before .before .before .before .before .before .before .bad-centre .ensures,
+      c .before .before .before .before .before .before .before .before .target .ensures,
+      c .before .before .before .before .before .before .before .before .before .fault2 .ensures,
+      c .before .before .before .before .before .before .before .before .before .before .too-many .ensures,
+      c .before .before .before .before .before .before .before .before .before .before .before .fault .ensures,
+      c .before .before .before .before .before .before .before .before .before .before .before .before .draw-items .ensures,
     )
 
 pub draw-fault-spec : {M : Type 1} → statement M
@@ -68,8 +76,10 @@ draw-fault-spec =
     target-requires
     bad-centre-requires
     fault-requires-3
-    draw-misfits-requires
+    is-moveless-requires
     fault-requires-4
-    is-unready-requires
+    draw-misfits-requires
     fault-requires-5
+    is-unready-requires
+    fault-requires-6
     returns)

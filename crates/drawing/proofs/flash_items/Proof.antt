@@ -5,11 +5,11 @@ use Rattle.drawing.proofs.flash_items.Tie as tie
 
 returns : tie.Need-returns
 unfolding flashItems
-returns c = cc
+returns c = rw (c .if1 .taken)
 
 returns-2 : tie.Need-returns-2
 unfolding flashItems
-returns-2 c = cc
+returns-2 c = rw (c .if1 .left)
 
 pub flash-items-spec : {M : Type 1} → statement M
 flash-items-spec = tie.close (tie.spec returns returns-2)

@@ -153,7 +153,7 @@ fn one_more(writer: &mut Writer) {
         1 => {
             writer.word("G01");
             writer.mode = "G01";
-            writer.file.extend(b"X0Y0D02*G36*X0Y0D01*G37*");
+            writer.file.extend(b"G36*X0Y0D02*X0Y0D01*G37*");
         }
         2..=3 => {
             writer.extended(&format!("ADD{number}C,1"));

@@ -11,7 +11,7 @@ use super::random::Random;
 use super::writer::Writer;
 
 /// The numbers that a file of a few thousand bytes can be aimed at, room aside.
-pub const AIMS: [u32; 17] = [2, 3, 4, 5, 6, 7, 8, 9, 10, 11, 12, 13, 14, 15, 16, 18, 19];
+pub const AIMS: [u32; 18] = [2, 3, 4, 5, 6, 7, 8, 9, 10, 11, 12, 13, 14, 15, 16, 18, 19, 29];
 
 pub fn whole(random: Random) -> Vec<u8> {
     let mut writer = Writer::new(random);
@@ -36,6 +36,7 @@ pub fn whole(random: Random) -> Vec<u8> {
         15 => blocks::depths(&mut writer),
         16 => blocks::totals(&mut writer),
         19 => places::file_attributes(&mut writer),
+        29 => operations::own_moves(&mut writer),
         _ => {}
     }
     let steps = writer.random.below(4);

@@ -92,10 +92,10 @@ pub fn centres(writer: &mut Writer) {
     let step = Point::new(small(writer) * unit, small(writer) * unit);
     let (length, along) = (writer.random.between(0, 5), writer.random.between(-1, 6));
     let off = writer.random.pick(&[0, 0, 0, 1, -1]);
-    writer.operate("D02", start, None);
     if in_region {
         writer.word("G36");
     }
+    writer.operate("D02", start, None);
     let end = Point::new(start.x + length * step.x, start.y + length * step.y);
     let offset = Point::new(along * step.x, along * step.y + off);
     writer.operate("D01", end, Some(offset));
@@ -106,10 +106,29 @@ pub fn centres(writer: &mut Writer) {
     }
 }
 
+/// D02 before G36, after it, on both sides or not at all; a centre that makes sense or none; one region behind another.
+pub fn own_moves(writer: &mut Writer) {
+    let mode = writer.random.pick(&["G01", "G02", "G03"]);
+    writer.take_mode(mode);
+    for _ in 0..writer.random.between(1, 3) {
+        if writer.random.percent(50) {
+            writer.take_point();
+        }
+        writer.word("G36");
+        if writer.random.percent(60) {
+            writer.go();
+        }
+        let offset = writer.random.pick(&["", "I1J0", "I0J0"]);
+        let first = format!("{}D01", if mode == "G01" { "" } else { offset });
+        writer.word(&first);
+        writer.word("G37");
+    }
+}
+
 pub fn contours(writer: &mut Writer) {
     writer.word("G36");
-    for _ in 0..writer.random.below(3) {
-        writer.contour();
+    for nth in 0..writer.random.below(3) {
+        writer.contour(nth == 0);
     }
     writer.go();
     let start = writer.point.unwrap_or_default();

@@ -35,7 +35,7 @@ pub fn not_here(writer: &mut Writer) {
         0..=1 => {
             writer.word("G36");
             if writer.random.percent(50) {
-                writer.contour();
+                writer.contour(true);
             }
             let command = wild::command(&mut writer.random);
             writer.file.extend(command.bytes());

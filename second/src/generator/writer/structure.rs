@@ -10,15 +10,15 @@ impl Writer {
     pub fn region(&mut self) {
         self.header();
         self.word("G36");
-        for _ in 0..self.random.below(4) {
-            self.contour();
+        for nth in 0..self.random.below(4) {
+            self.contour(nth == 0);
         }
         self.word("G37");
     }
 
-    /// A closed contour of one to five edges.
-    pub fn contour(&mut self) {
-        if self.point.is_none() || self.random.percent(80) {
+    /// A closed contour of one to five edges; the first of its region begins with a D02.
+    pub fn contour(&mut self, first: bool) {
+        if first || self.random.percent(80) {
             self.go();
         }
         let Some(start) = self.point else {

@@ -1,0 +1,18 @@
+-- `fits::is_moveless` meets its contract: its tests are those of `moveless`.
+use Rattle.fits.specs.Fits.{moveless}
+use borrow.Author.Needs.{needs}
+use Rattle.fits.proofs.is_moveless.Statement.{statement}
+use Rattle.fits.proofs.is_moveless.Tie as tie
+
+starts-contour-requires : tie.Need-starts-contour-requires
+starts-contour-requires c κs = search needs
+
+both-requires : tie.Need-both-requires
+both-requires c κs = search needs
+
+returns : tie.Need-returns
+unfolding moveless
+returns c = cc
+
+pub is-moveless-spec : {M : Type 1} → statement M
+is-moveless-spec = tie.close (tie.spec starts-contour-requires both-requires returns)
