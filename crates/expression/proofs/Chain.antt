@@ -17,12 +17,12 @@ use Rattle.expression.specs.declared.Sign.{Sign}
 use Rattle.expression.specs.declared.Worked.{Worked}
 
 module _ (rank : Token → Sign) (op : Bool → ℤ → ℤ → Reckoned) (operand : List Token → Reading) where
-  chain-stop : (n : ℕ) (w : Reading) → after rank w ≡ stop → chain rank op operand n w ≡ w
+  pub chain-stop : (n : ℕ) (w : Reading) → after rank w ≡ stop → chain rank op operand n w ≡ w
   unfolding chain
   chain-stop zero w e = refl
   chain-stop (suc n) w e = rw (chain, e)
 
-  chain-go : (n : ℕ) (w : Reading) (second : Bool) (ts : List Token) → after rank w ≡ go second ts →
+  pub chain-go : (n : ℕ) (w : Reading) (second : Bool) (ts : List Token) → after rank w ≡ go second ts →
       chain rank op operand (suc n) w ≡ chain rank op operand n (joined (op second) w (operand ts))
   unfolding chain
   chain-go n w second ts e = rw (chain, e)

@@ -1,0 +1,292 @@
+-- Tokens of good form are those of a tree. The tree grows with the walk: beside the walk's state goes what has been read so far, a part of
+-- a tree that waits for an operand or has it, inside the parts around its open parentheses.
+-- Assumes nothing.
+use Prim.Native.Nat.{ℕ, zero, suc, _+_, _-_}
+use mathlib.Core.Path.{_≡_, refl, sym, ap, _∙_}
+use mathlib.Core.Bool.{Bool, true, false, not, false≢true}
+use mathlib.Core.List.{List, [], _∷_}
+use native.Mathlib.Omega.{arith}
+use lib.Dec.{eqb, leb}
+use borrow.Author.Tests.{le-leb}
+use Rattle.base.specs.Or.{_or_}
+use Rattle.tokens.specs.declared.Token.{Token}
+use Rattle.tokens.specs.declared.Token.the-variants as token
+use Rattle.form.specs.Expression.{start, afterOperand, afterOperator, opened, closed, unknown, step, walked, finished}
+use Rattle.form.specs.declared.Walk.{Walk}
+use Rattle.trees.specs.Sound.{Sound}
+use Rattle.trees.specs.Tree.{Row, first, more, Factor, number, variable, inside, Lead, bare, plus, minus, Nothing, nothing, Term, Inner, Expression, deepest}
+use Rattle.trees.specs.Written.{plusOr, timesOr, rowWritten, leadWritten, unled, factorWritten, termWritten, sumWritten, innerWritten, written}
+
+-- ---- what is wrong once is wrong at the end
+
+no : {A : Type 0} → true ≡ false → A
+no e = absurd (false≢true (sym e))
+
+pub or-l : (a b : Bool) → (a or b) ≡ false → a ≡ false
+unfolding _or_
+or-l true b e = e
+or-l false b e = refl
+
+abbrev Good : Walk → Type 0
+Good w = (w .formless ≡ false) × (w .deep ≡ false)
+
+good-before : (w : Walk) (t : Token) → Good (step w t) → Good w
+unfolding step afterOperand afterOperator opened closed unknown
+good-before w token.End e = no (e .0)
+good-before w (token.Number n) e = (or-l _ _ (or-l _ _ (e .0)), e .1)
+good-before w (token.Variable n) e = (or-l _ _ (or-l _ _ (e .0)), e .1)
+good-before w token.Plus e = (or-l _ _ (e .0), e .1)
+good-before w token.Minus e = (or-l _ _ (e .0), e .1)
+good-before w token.Times e = (or-l _ _ (e .0), e .1)
+good-before w token.Over e = (or-l _ _ (e .0), e .1)
+good-before w token.Open e = (or-l _ _ (e .0), or-l _ _ (e .1))
+good-before w token.Close e = (or-l _ _ (or-l _ _ (e .0)), e .1)
+good-before w token.Unknown e = no (e .0)
+
+good-so-far : (w : Walk) (ts : List Token) → Sound (finished (walked w ts)) → Good w
+unfolding walked finished
+good-so-far w [] s = (or-l _ _ (or-l _ _ (s .form)), s .depth)
+good-so-far w (t ∷ ts) s = good-before w t (good-so-far (step w t) ts s)
+
+-- ---- what has been read
+
+-- what stands before an operand of a row
+data Ahead (L X : Type 0) : Type 0 where
+  begun : L → Ahead L X
+  behind : Row L X → Bool → Ahead L X
+
+plugged : {L X : Type 0} → Ahead L X → X → Row L X
+plugged (begun l) x = first l x
+plugged (behind r second) x = more r second x
+
+module _ {L X : Type 0} (operator : Bool → Token) (led : L → List Token → List Token) (operand : X → List Token → List Token) where
+  aheadWritten : Ahead L X → List Token → List Token
+  aheadWritten (begun l) ts = led l ts
+  aheadWritten (behind r second) ts = rowWritten operator led operand r (operator second ∷ ts)
+
+  plugged-written : (a : Ahead L X) (x : X) (ts : List Token) → rowWritten operator led operand (plugged a x) ts ≡ aheadWritten a (operand x ts)
+  unfolding plugged aheadWritten rowWritten
+  plugged-written (begun l) x ts = refl
+  plugged-written (behind r second) x ts = refl
+
+abbrev Terms : ℕ → Type 0
+Terms d = Ahead Lead (Term (Inner d))
+
+abbrev Factors : ℕ → Type 0
+Factors d = Ahead Nothing (Factor (Inner d))
+
+abbrev termsWritten : (d : ℕ) → Terms d → List Token → List Token
+termsWritten d = aheadWritten plusOr leadWritten (termWritten (innerWritten d))
+
+abbrev factorsWritten : (d : ℕ) → Factors d → List Token → List Token
+factorsWritten d = aheadWritten timesOr unled (factorWritten (innerWritten d))
+
+-- in an expression: an operand is to come, or stands before
+data Here (d : ℕ) : Type 0 where
+  wants : Terms d → Factors d → Here d
+  has : Terms d → Term (Inner d) → Here d
+
+hereWritten : (d : ℕ) → Here d → List Token → List Token
+hereWritten d (wants terms factors) ts = termsWritten d terms (factorsWritten d factors ts)
+hereWritten d (has terms t) ts = termsWritten d terms (termWritten (innerWritten d) t ts)
+
+-- the parts around the parentheses that are open, where D may be and d still can
+data Around (D : ℕ) : ℕ → Type 0 where
+  outermost : Around D D
+  within : {d : ℕ} → Around D (suc d) → Terms (suc d) → Factors (suc d) → Around D d
+
+aroundWritten : {D d : ℕ} → Around D d → List Token → List Token
+aroundWritten outermost ts = ts
+aroundWritten (within {d = d} o terms factors) ts = aroundWritten o (termsWritten (suc d) terms (factorsWritten (suc d) factors (token.Open ∷ ts)))
+
+open-in : {D d : ℕ} → Around D d → ℕ
+open-in outermost = 0
+open-in (within o terms factors) = open-in o + 1
+
+open-and-left : {D d : ℕ} (o : Around D d) → open-in o + d ≡ D
+unfolding open-in
+open-and-left outermost = omega arith
+open-and-left (within o terms factors) = let h = open-and-left o in omega arith
+
+-- nothing of the expression stands before
+is-start : {E : Type 0} → Ahead Lead (Term E) → Ahead Nothing (Factor E) → Bool
+is-start terms (behind r second) = false
+is-start (begun bare) (begun l) = true
+is-start (begun plus) (begun l) = false
+is-start (begun minus) (begun l) = false
+is-start (behind r second) (begun l) = false
+
+start-written : (d : ℕ) (terms : Terms d) (factors : Factors d) (ts : List Token) → not (is-start terms factors) ≡ false → ts ≡ termsWritten d terms (factorsWritten d factors ts)
+unfolding is-start aheadWritten leadWritten
+start-written d terms (behind r second) ts e = no e
+start-written d (begun bare) (begun l) ts e = refl
+start-written d (begun plus) (begun l) ts e = no e
+start-written d (begun minus) (begun l) ts e = no e
+start-written d (behind r second) (begun l) ts e = no e
+
+-- the walk's state
+walk-at : {D d : ℕ} → Around D d → Here d → Bool → Walk
+walk-at o (wants terms factors) long =
+    record { formless = false; long = long; deep = false; depth = open-in o; operand = false; sign = is-start terms factors }
+walk-at o (has terms t) long =
+    record { formless = false; long = long; deep = false; depth = open-in o; operand = true; sign = false }
+
+-- ---- one token more
+
+record Goes {D d : ℕ} (o : Around D d) (p : Here d) (long : Bool) (t : Token) : Type 0 where
+  left : ℕ
+  around : Around D left
+  here : Here left
+  any-long : Bool
+  walks : step (walk-at o p long) t ≡ walk-at around here any-long
+  writes : (ts : List Token) → aroundWritten around (hereWritten left here ts) ≡ aroundWritten o (hereWritten d p (t ∷ ts))
+
+module _ {D d : ℕ} (o : Around D d) (terms : Terms d) (long : Bool) where
+  -- a number or a variable
+  leaf-goes : (factors : Factors d) (x : Factor (Inner d)) (t : Token) (l : Bool) →
+      step (walk-at o (wants terms factors) long) t ≡ walk-at o (has terms (plugged factors x)) l →
+      ((ts : List Token) → factorWritten (innerWritten d) x ts ≡ t ∷ ts) → Goes o (wants terms factors) long t
+  unfolding hereWritten termWritten
+  leaf-goes factors x t l walks token =
+      record {
+        left = d;
+        around = o;
+        here = has terms (plugged factors x);
+        any-long = l;
+        walks = walks;
+        writes =
+            λ ts.
+            ap (λ (us : List Token). aroundWritten o (termsWritten d terms us))
+            (plugged-written timesOr unled (factorWritten (innerWritten d)) factors x ts ∙ ap (factorsWritten d factors) (token ts));
+      }
+
+  sign-goes : (factors : Factors d) (l : Lead) (t : Token) →
+      step (walk-at o (wants terms factors) long) t ≡ walk-at o (wants (begun l) (begun nothing)) long →
+      ((ts : List Token) → leadWritten l ts ≡ t ∷ ts) → not (is-start terms factors) ≡ false → Goes o (wants terms factors) long t
+  unfolding hereWritten aheadWritten
+  sign-goes factors l t walks token e =
+      record {
+        left = d;
+        around = o;
+        here = wants (begun l) (begun nothing);
+        any-long = long;
+        walks = walks;
+        writes = λ ts. ap (aroundWritten o) (token ts ∙ start-written d terms factors (t ∷ ts) e);
+      }
+
+  plus-goes : (x : Term (Inner d)) (second : Bool) (t : Token) →
+      step (walk-at o (has terms x) long) t ≡ walk-at o (wants (behind (plugged terms x) second) (begun nothing)) long →
+      plusOr second ≡ t → Goes o (has terms x) long t
+  unfolding hereWritten aheadWritten
+  plus-goes x second t walks token =
+      record {
+        left = d;
+        around = o;
+        here = wants (behind (plugged terms x) second) (begun nothing);
+        any-long = long;
+        walks = walks;
+        writes =
+            λ ts.
+            ap (aroundWritten o)
+            (plugged-written plusOr leadWritten (termWritten (innerWritten d)) terms x (plusOr second ∷ ts)
+            ∙ ap (λ (u : Token). termsWritten d terms (termWritten (innerWritten d) x (u ∷ ts))) token);
+      }
+
+  times-goes : (x : Term (Inner d)) (second : Bool) (t : Token) →
+      step (walk-at o (has terms x) long) t ≡ walk-at o (wants terms (behind x second)) long →
+      timesOr second ≡ t → Goes o (has terms x) long t
+  unfolding hereWritten aheadWritten termWritten
+  times-goes x second t walks token =
+      record {
+        left = d;
+        around = o;
+        here = wants terms (behind x second);
+        any-long = long;
+        walks = walks;
+        writes = λ ts. ap (λ (u : Token). aroundWritten o (termsWritten d terms (termWritten (innerWritten d) x (u ∷ ts)))) token;
+      }
+
+open-goes : {D d : ℕ} → D ≡ deepest → (o : Around D d) (terms : Terms d) (factors : Factors d) (long : Bool) → leb (suc deepest) (open-in o + 1) ≡ false → Goes o (wants terms factors) long token.Open
+unfolding hereWritten aroundWritten aheadWritten leadWritten walk-at open-in is-start step opened _or_
+open-goes {d = zero} q o terms factors long e = let h = open-and-left o in no (sym (le-leb (suc deepest) (open-in o + 1) (omega arith)) ∙ e)
+open-goes {d = suc d} q o terms factors long e =
+    record {
+      left = d;
+      around = within o terms factors;
+      here = wants (begun bare) (begun nothing);
+      any-long = long;
+      walks = rw e;
+      writes = λ ts. refl;
+    }
+
+close-goes : {D d : ℕ} (o : Around D d) (terms : Terms d) (x : Term (Inner d)) (long : Bool) → eqb (open-in o) 0 ≡ false → Goes o (has terms x) long token.Close
+unfolding hereWritten aroundWritten walk-at open-in step closed factorWritten termWritten sumWritten innerWritten _or_
+close-goes outermost terms x long e = no e
+close-goes (within {d = d} o around-terms factors) terms x long e =
+    let z : open-in o + 1 - 1 ≡ open-in o = omega arith in
+    record {
+      left = suc d;
+      around = o;
+      here = has around-terms (plugged factors (inside (plugged terms x)));
+      any-long = long;
+      walks = rw (e, z);
+      writes =
+          λ ts.
+          ap (λ (us : List Token). aroundWritten o (termsWritten (suc d) around-terms us))
+          (plugged-written timesOr unled (factorWritten (innerWritten (suc d))) factors (inside (plugged terms x)) ts
+          ∙ ap (λ (us : List Token). factorsWritten (suc d) factors (token.Open ∷ us))
+          (plugged-written plusOr leadWritten (termWritten (innerWritten d)) terms x (token.Close ∷ ts)));
+    }
+
+goes : {D d : ℕ} → D ≡ deepest → (o : Around D d) (p : Here d) (long : Bool) (t : Token) → Good (step (walk-at o p long) t) → Goes o p long t
+unfolding walk-at is-start step afterOperand afterOperator opened closed unknown factorWritten leadWritten plusOr timesOr _or_
+goes q o (wants terms factors) long token.End e = no (e .0)
+goes q o (wants terms factors) long (token.Number n) e =
+    let f : n .formless ≡ false = e .0 in
+    leaf-goes o terms long factors (number n) (token.Number n) (long or n .long) (rw f) (λ ts. refl)
+goes q o (wants terms factors) long (token.Variable n) e =
+    let f : n .formless ≡ false = e .0 in
+    leaf-goes o terms long factors (variable n) (token.Variable n) (long or n .long) (rw f) (λ ts. refl)
+goes q o (wants terms factors) long token.Plus e =
+    let f : not (is-start terms factors) ≡ false = e .0 in
+    sign-goes o terms long factors plus token.Plus (rw f) (λ ts. refl) f
+goes q o (wants terms factors) long token.Minus e =
+    let f : not (is-start terms factors) ≡ false = e .0 in
+    sign-goes o terms long factors minus token.Minus (rw f) (λ ts. refl) f
+goes q o (wants terms factors) long token.Times e = no (e .0)
+goes q o (wants terms factors) long token.Over e = no (e .0)
+goes q o (wants terms factors) long token.Open e = open-goes q o terms factors long (e .1)
+goes q o (wants terms factors) long token.Close e = no (e .0)
+goes q o (wants terms factors) long token.Unknown e = no (e .0)
+goes q o (has terms x) long token.End e = no (e .0)
+goes q o (has terms x) long (token.Number n) e = no (e .0)
+goes q o (has terms x) long (token.Variable n) e = no (e .0)
+goes q o (has terms x) long token.Plus e = plus-goes o terms long x false token.Plus refl refl
+goes q o (has terms x) long token.Minus e = plus-goes o terms long x true token.Minus refl refl
+goes q o (has terms x) long token.Times e = times-goes o terms long x false token.Times refl refl
+goes q o (has terms x) long token.Over e = times-goes o terms long x true token.Over refl refl
+goes q o (has terms x) long token.Open e = no (e .0)
+goes q o (has terms x) long token.Close e = close-goes o terms x long (e .0)
+goes q o (has terms x) long token.Unknown e = no (e .0)
+
+-- ---- to the end
+
+ended : {D d : ℕ} (o : Around D d) (p : Here d) (long : Bool) → Sound (finished (walk-at o p long)) → (e : Expression D) × (written D e [] ≡ aroundWritten o (hereWritten d p []))
+unfolding finished walk-at open-in aroundWritten hereWritten written sumWritten _or_
+ended o (wants terms factors) long s = no (s .form)
+ended {D = D} outermost (has terms x) long s = (plugged terms x, plugged-written plusOr leadWritten (termWritten (innerWritten D)) terms x [])
+ended (within o around-terms factors) (has terms x) long s = no (sym (le-leb 1 (open-in o + 1) (omega arith)) ∙ s .form)
+
+built : {D : ℕ} → D ≡ deepest → (ts : List Token) {d : ℕ} (o : Around D d) (p : Here d) (long : Bool) → Sound (finished (walked (walk-at o p long) ts)) →
+    (e : Expression D) × (written D e [] ≡ aroundWritten o (hereWritten d p ts))
+unfolding walked
+built q [] o p long s = ended o p long s
+built q (t ∷ ts) o p long s =
+    let g = goes q o p long t (good-so-far (step (walk-at o p long) t) ts s) in
+    let s′ : Sound (finished (walked (step (walk-at o p long) t) ts)) = s in
+    let b = built q ts (g .around) (g .here) (g .any-long) (rw (g .walks) at s′) in
+    (b .0, b .1 ∙ g .writes ts)
+
+pub tokens-tree : (ts : List Token) → Sound (finished (walked start ts)) → (e : Expression deepest) × (written deepest e [] ≡ ts)
+unfolding start walk-at open-in is-start aroundWritten hereWritten aheadWritten leadWritten
+tokens-tree ts s = built refl ts outermost (wants (begun bare) (begun nothing)) false s

@@ -1,0 +1,4 @@
+pub mod Built
+pub mod Evaluated
+pub mod Examples
+pub mod Trees

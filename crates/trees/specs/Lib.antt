@@ -1,0 +1,5 @@
+pub mod Sound
+pub mod Tree
+pub mod Understood
+pub mod Worth
+pub mod Written

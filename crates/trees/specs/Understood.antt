@@ -1,0 +1,15 @@
+-- What it is for a text to be an expression: a tree is written so, and what the text comes to for AD is what the tree does.
+use Prim.Native.Nat.{ℕ}
+use mathlib.Core.Path.{_≡_}
+use mathlib.Core.List.{List, []}
+use lib.IntN.{ℤ}
+use Rattle.tokens.specs.Tokens.{tokens}
+use Rattle.expression.specs.Value.{valueOf}
+use Rattle.trees.specs.Tree.{Expression, deepest}
+use Rattle.trees.specs.Worth.{comesTo}
+use Rattle.trees.specs.Written.{written}
+
+pub record Understood (t : List ℕ) : Type 0 where
+  pub tree : Expression deepest
+  pub text : written deepest tree [] ≡ tokens t
+  pub value : (variables : List ℤ) → valueOf variables t ≡ comesTo variables deepest tree
