@@ -1,12 +1,12 @@
 -- Over rooms of zeros, nothing is known before the first command.
 -- Assumes nothing.
-use Prim.Native.Nat.{ℕ}
-use mathlib.Core.Path.{_≡_, refl}
-use mathlib.Core.Bool.{true, false}
+use mathlib.Core.Path.{refl}
+use mathlib.Core.Bool.{false≢true}
 use native.Mathlib.Nat.{sub-zero}
 use native.Mathlib.Omega.{arith}
 use lib.ListN.{length}
 use Rattle.base.specs.Run.{run}
+use Rattle.index.proofs.More.{numbered-none, named-none}
 use Rattle.place.specs.Mark.{written}
 use Rattle.graphics.specs.Graphics as graphics
 use Rattle.graphics.specs.Graphics.{origin, unset, noAperture, noRegion}
@@ -26,30 +26,24 @@ knows-start w z = record {
   graphics = refl;
   point = record { across = omega arith; up = omega arith };
   mode = omega arith;
-  inside = λ q. let y : false ≡ true = q in absurd (let x : _≡_ {A = ℕ} 0 1 = cc in omega arith);
+  inside = λ q. absurd (false≢true q);
   aperture = record {
     unset = λ q. refl;
-    known = λ q. absurd (let y : false ≡ true = q in let x : _≡_ {A = ℕ} 0 1 = cc in omega arith);
-    is = λ q. absurd (let y : false ≡ true = q in let x : _≡_ {A = ℕ} 0 1 = cc in omega arith);
+    known = λ q. absurd (false≢true q);
+    is = λ q. absurd (false≢true q);
   };
   level = refl;
   counts = record { within = omega arith; before = omega arith; some = omega arith };
   around = (refl, refl, refl);
   apertures = record {
-    indexed = record {
-      tree = record { inside = omega arith; later = λ i key l. absurd (omega arith); found = λ j l. absurd (omega arith) };
-      distinct = λ i j l. absurd (omega arith);
-    };
+    indexed = numbered-none (w .apertures);
     records = refl;
     few = λ i l. absurd (omega arith);
     low = λ i l. absurd (omega arith);
     unused = λ k l. rw (z .apertures) (zeros-read 0 (length (w .apertures)) k);
   };
   macros = record {
-    indexed = record {
-      tree = record { inside = omega arith; later = λ i key l. absurd (omega arith); found = λ j l. absurd (omega arith) };
-      distinct = λ i j l. absurd (omega arith);
-    };
+    indexed = named-none (w .file) (w .macros);
     records = refl;
     ordered = λ i l. absurd (omega arith);
     inside = λ i l. absurd (omega arith);
@@ -58,5 +52,5 @@ knows-start w z = record {
   numbers = record { long = refl; fits = omega arith; is = rw (sub-zero (length (w .numbers))) (z .numbers) };
   entries = refl;
   shows = starts (w .entries) (w .apertures);
-  contour = λ q. absurd (let y : false ≡ true = q in let x : _≡_ {A = ℕ} 0 1 = cc in omega arith);
+  contour = λ q. absurd (false≢true q);
 }

@@ -38,7 +38,7 @@ use Rattle.progress.specs.declared.Stepped.the-variants.{Next, Fault}
 use Rattle.steps.specs.Steps.{Sound, Again}
 use Rattle.reader.specs.declared.End.the-variants as end
 use Rattle.reader.specs.Ends.{settled, Ends}
-use Rattle.reader.proofs.Turns.{Told, told}
+use Rattle.reader.proofs.Turns.{SoundTurn, turn-sound}
 use Rattle.reader.proofs.After.{unit-after, named, names-after}
 
 -- from `at` on, after FS with this n, 0 before it; s is what is known, and what is left to read comes to the answer
@@ -126,35 +126,35 @@ module _ (file : List ℕ) (room : Room) (twice : ℕ) (answer : Answer) (w : Le
     (r : Running file room twice answer w p n at s) where
   -- a fault of the bytes
   pub stops : {f : Refusal} → turnOf n file at ≡ turn.Fault f → answer ≡ refused (f .number) (f .place)
-  unfolding Told
-  stops {f} e = read-stops room file f s answer (rw (walk-fault n file at e) at (r .leads)) (fault-some (turnOf n file at) e (told n file at (r .within)))
+  unfolding SoundTurn
+  stops {f} e = read-stops room file f s answer (rw (walk-fault n file at e) at (r .leads)) (fault-some (turnOf n file at) e (turn-sound n file at (r .within)))
     where
-      fault-some : (t : Turn) → t ≡ turn.Fault f → Told file t → eqb (f .number) 0 ≡ false
-      fault-some t e h = subst (Told file) e h
+      fault-some : (t : Turn) → t ≡ turn.Fault f → SoundTurn file t → eqb (f .number) 0 ≡ false
+      fault-some t e h = subst (SoundTurn file) e h
 
   -- M02
   module _ {c : Placed} {next : ℕ} (e : turnOf n file at ≡ turn.Last c next) where
-    last-told : Sound file c × (c .command ≡ cmd.End)
-    unfolding Told
-    last-told = subst (Told file) e (told n file at (r .within))
+    last-says : Sound file c × (c .command ≡ cmd.End)
+    unfolding SoundTurn
+    last-says = subst (SoundTurn file) e (turn-sound n file at (r .within))
 
     pub last-sound : Sound file c
-    last-sound = last-told .0
+    last-sound = last-says .0
 
     pub last-again : (again : Bool) → Again file c again s
     unfolding Again
-    last-again again name value q = let z : _≡_ {A = Command} cmd.End (cmd.FileAttribute name value) = sym (last-told .1) ∙ q in let y : _≡_ {A = ℕ} 0 1 = cc in absurd (omega arith)
+    last-again again name value q = let z : _≡_ {A = Command} cmd.End (cmd.FileAttribute name value) = sym (last-says .1) ∙ q in let y : _≡_ {A = ℕ} 0 1 = cc in absurd (omega arith)
 
     leads-last : readOn room file (c ∷ []) (tailFault (tailOf file next)) s ≡ answer
     leads-last = rw (walk-last n file at e) at (r .leads)
 
     same-state : stepAt room file c s .next ≡ s
     unfolding stepOf
-    same-state = ap (λ k. stepOf room (slice (c .from) (c .end) file) (c .place) k s .next) (last-told .1)
+    same-state = ap (λ k. stepOf room (slice (c .from) (c .end) file) (c .place) k s .next) (last-says .1)
 
     end-fault : stepAt room file c s .fault ≡ endFault (s .graphics) (s .level)
     unfolding stepOf
-    end-fault = ap (λ k. stepOf room (slice (c .from) (c .end) file) (c .place) k s .fault) (last-told .1)
+    end-fault = ap (λ k. stepOf room (slice (c .from) (c .end) file) (c .place) k s .fault) (last-says .1)
 
     pub ends : (w′ : Lent) (x : Stepped) → Follows (Knows w′) (stepAt room file c s) x → Ends answer w′ (settled x (c .place) (tailFault (tailOf file next)))
     unfolding Follows settled Ends
@@ -177,8 +177,8 @@ module _ (file : List ℕ) (room : Room) (twice : ℕ) (answer : Answer) (w : Le
   -- any other command
   module _ {c : Placed} {m next : ℕ} (e : turnOf n file at ≡ turn.More c m next) where
     pub more-sound : Sound file c
-    unfolding Told
-    more-sound = subst (Told file) e (told n file at (r .within))
+    unfolding SoundTurn
+    more-sound = subst (SoundTurn file) e (turn-sound n file at (r .within))
 
     pub more-again : Again file c (eqb (c .place) twice) s
     unfolding Again
