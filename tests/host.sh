@@ -53,6 +53,7 @@ fi
 base() { awk -F '\t' -v OFS='\t' 'NF == 16 && $4 ~ /^(dark|clear)$/ { NF-- } 1'; }
 if [ -f ../shared/cases/cases.tgz ]; then
     tar xzf ../shared/cases/cases.tgz -C "$room"
+    tests/cases/replace "$room/cases"
     same=0
     for file in "$room"/cases/*.gbr; do
         name=${file%.gbr}

@@ -1,4 +1,5 @@
--- The items that D01 and D03 draw, each its own place in both (01, Items; 02, [6]; decisions 93 to 95).
+-- The items that D01 and D03 draw (01, Items; decisions 93 to 95). No flash has brought them yet: their own place is the outer one too
+-- (02, [6]).
 use Prim.Native.Nat.{ℕ, _+_}
 use mathlib.Core.Bool.{false, cond}
 use Rattle.points.specs.declared.Point.{Point}
