@@ -17,12 +17,9 @@ use Rattle.index.specs.Numbers.{numberOf, Numbered}
 use Rattle.index.specs.Names.{nameOf, keyOf, Named}
 use Rattle.base.specs.Bytes.{sameBytes}
 use Rattle.base.proofs.Lists.{same-is, same-refl}
+use Rattle.base.proofs.Run.{below-snoc}
 use lib.Seq.{slice}
 use Rattle.index.proofs.Seek.{LinkBelow, link-words, link-place, link-other, leads-kept, leads-new, last-is, last-free}
-
--- a statement of each record below `suc n`: of those below n, and of n
-pub below-last : (P : ℕ → Type 0) (n : ℕ) → ((i : ℕ) → i < n → P i) → P n → (i : ℕ) → i < suc n → P i
-below-last P n old last i l = ⊎-elim (λ (q : i ≡ n). rw q last) (λ (h : i < n). old i h) (eq-or-lt-of-le (le-of-suc-le-suc l))
 
 module _ (s : List ℕ) (keyOf : ℕ → ℕ) (m : ℕ) (t : Indexed s keyOf (suc m)) (room : suc (suc m) * 8 ≤ length s)
     (free : (key : ℕ) → next s (suc m) key ≡ 0) (w : ℕ) (is : w ≡ lastLink s (suc m) 0 (keyOf (suc m))) where
@@ -52,7 +49,7 @@ module _ (s : List ℕ) (keyOf : ℕ → ℕ) (m : ℕ) (t : Indexed s keyOf (su
   indexed-set = record {
     inside = rw (length-set s w (suc m)) room;
     later = λ i key l h. set-later i key l (eqb (linkOf i key) w) refl h;
-    found = below-last (λ j. Leads (set s w (suc m)) (keyOf j) 0 j) (suc m)
+    found = below-snoc (λ j. Leads (set s w (suc m)) (keyOf j) 0 j) (suc m)
         (λ j l. leads-kept s w (suc m) new-free (t .found j l))
         (leads-new t (suc m) (omega arith) (suc m) 0 (keyOf (suc m)) (omega arith) (omega arith) w is);
   }
@@ -61,8 +58,8 @@ module _ (s : List ℕ) (keyOf : ℕ → ℕ) (m : ℕ) (t : Indexed s keyOf (su
 pub indexed-first : (s : List ℕ) (keyOf : ℕ → ℕ) → 8 ≤ length s → ((key : ℕ) → next s 0 key ≡ 0) → Indexed s keyOf 1
 indexed-first s keyOf room free = record {
   inside = omega arith;
-  later = λ i key l. below-last (λ i. (key : ℕ) → 0 < next s i key → (i < next s i key) × (next s i key < 1)) 0 (λ i l. absurd (omega arith)) (λ key h. absurd (let z = free key in omega arith)) i l key;
-  found = below-last (λ j. Leads s (keyOf j) 0 j) 0 (λ j l. absurd (omega arith)) here;
+  later = λ i key l. below-snoc (λ i. (key : ℕ) → 0 < next s i key → (i < next s i key) × (next s i key < 1)) 0 (λ i l. absurd (omega arith)) (λ key h. absurd (let z = free key in omega arith)) i l key;
+  found = below-snoc (λ j. Leads s (keyOf j) 0 j) 0 (λ j l. absurd (omega arith)) here;
 }
 
 -- and linking it changes nothing

@@ -4,13 +4,13 @@
 use Prim.Native.Nat.{ℕ, zero, suc, _+_, _-_, _≤_}
 use mathlib.Core.Path.{_≡_, refl, sym, ap, _∙_}
 use mathlib.Core.Bool.{Bool, true, false}
-use mathlib.Core.List.{List, [], _∷_}
-use native.Mathlib.Nat.{zero-add, suc-add}
+use mathlib.Core.List.{List, _∷_}
 use native.Mathlib.Omega.{arith}
 use lib.Dec.{eqb}
-use lib.ListN.{length, take, drop}
-use lib.Seq.{slice, length-slice, take-nil, take-take, drop-drop}
+use lib.ListN.{length}
+use lib.Seq.{slice, length-slice}
 use borrow.Author.Tests.{eq-eqb, ne-eqb}
+use Rattle.base.proofs.Lists.{part-of-part}
 use Rattle.scan.specs.Scan.{nextCommand}
 use Rattle.scan.specs.declared.Scan.{Scan}
 use Rattle.scan.specs.declared.Scan.the-variants as scan
@@ -34,16 +34,6 @@ use Rattle.names.specs.declared.Setting.the-variants.{Nothing, Name}
 use Rattle.names.proofs.Settings.{setting-any}
 use Rattle.names.proofs.Inside.{Inside, setting-inside}
 use Rattle.names.proofs.Walk.{Onward, look-onward, naming-onward, twice-other, twice-again, twice-new}
-
--- a part of a part
-take-drop : (b n : ℕ) (l : List ℕ) → take b (drop n l) ≡ drop n (take (n + b) l)
-take-drop b zero l = ap (λ (k : ℕ). take k l) (sym (zero-add b))
-take-drop b (suc n) [] = take-nil b ∙ sym (ap (drop (suc n)) (take-nil (suc n + b)))
-take-drop b (suc n) (x ∷ l) = take-drop b n l ∙ sym (ap (λ (k : ℕ). drop (suc n) (take k (x ∷ l))) (suc-add n b))
-
-part-of-part : (a b from end : ℕ) (file : List ℕ) → from + b ≤ end → slice a b (slice from end file) ≡ slice (from + a) (from + b) file
-part-of-part a b from end file h =
-    ap (drop a) (take-drop b from (take end file)) ∙ drop-drop a from (take (from + b) (take end file)) ∙ ap (drop (from + a)) (take-take (from + b) end file h)
 
 -- the place stands from `at` on
 twice-from : (file : List ℕ) (k at : ℕ) (names : List (List ℕ)) → at ≤ length file → at ≤ twiceFrom (length file) (namedFrom k file at) names

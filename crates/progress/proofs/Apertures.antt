@@ -17,7 +17,7 @@ use Rattle.index.specs.declared.Search.the-variants.{At, Free}
 use Rattle.index.specs.First.{firstOf}
 use Rattle.index.specs.Tree.{lastLink}
 use Rattle.index.specs.Numbers.{numberOf, numbered}
-use Rattle.index.proofs.More.{below-last}
+use Rattle.base.proofs.Run.{below-snoc}
 use Rattle.place.specs.Mark.{Mark}
 use Rattle.sheet.specs.Records.{apertureOf, apertureRoom, entryRoom}
 use Rattle.sheet.specs.Valid.{isBlock}
@@ -130,8 +130,8 @@ module _ (a : List ℕ) (used : ℕ) (known : List Aperture) (t : ApertureTable 
         indexed = aperture-numbered a used link r room (t .indexed) free;
         records = records-more (λ i. asRead (apertureOf a i)) used (λ i. asRead (apertureOf a′ i)) known (λ i l. ap asRead (record-kept i l)) (t .records)
             ∙ ap (λ q. known ++ (asRead q ∷ [])) record-new;
-        few = below-last (λ i. apertureOf a′ i .items ≤ most) used (λ i l. rw (record-kept i l) (t .few i l)) (rw record-new few);
-        low = below-last (λ i. apertureOf a′ i .height ≤ 8) used (λ i l. rw (record-kept i l) (t .low i l)) (rw record-new low);
+        few = below-snoc (λ i. apertureOf a′ i .items ≤ most) used (λ i l. rw (record-kept i l) (t .few i l)) (rw record-new few);
+        low = below-snoc (λ i. apertureOf a′ i .height ≤ 8) used (λ i l. rw (record-kept i l) (t .low i l)) (rw record-new low);
         unused = λ k l. aperture-behind a used link r room (t .indexed) free k l ∙ t .unused k (omega arith);
       })
 

@@ -17,7 +17,7 @@ use Rattle.index.specs.declared.Search.the-variants.{At, Free}
 use Rattle.index.specs.First.{firstOf}
 use Rattle.index.specs.Tree.{lastLink}
 use Rattle.index.specs.Names.{nameOf, keyOf, named}
-use Rattle.index.proofs.More.{below-last}
+use Rattle.base.proofs.Run.{below-snoc}
 use Rattle.tables.specs.Added.{added}
 use Rattle.tables.specs.Macros.{macroRoom, macroOf, macroWords}
 use Rattle.tables.specs.declared.Macro.{Macro}
@@ -116,7 +116,7 @@ module _ (file m : List ℕ) (used : ℕ) (known : List Template) (t : MacroTabl
         indexed = macro-named file m used link r room (t .indexed) free;
         records = records-more (λ i. templateOf file (macroOf m i)) used (λ i. templateOf file (macroOf m′ i)) known (λ i l. ap (templateOf file) (kept i l)) (t .records)
             ∙ ap (λ q. known ++ (templateOf file q ∷ [])) new;
-        ordered = below-last (λ i. macroOf m′ i .first ≤ macroOf m′ i .end) used (λ i l. rw (kept i l) (t .ordered i l)) (rw new ordered);
-        inside = below-last (λ i. macroOf m′ i .end ≤ length file) used (λ i l. rw (kept i l) (t .inside i l)) (rw new inside);
+        ordered = below-snoc (λ i. macroOf m′ i .first ≤ macroOf m′ i .end) used (λ i l. rw (kept i l) (t .ordered i l)) (rw new ordered);
+        inside = below-snoc (λ i. macroOf m′ i .end ≤ length file) used (λ i l. rw (kept i l) (t .inside i l)) (rw new inside);
         unused = λ k l. macro-behind file m used link r room (t .indexed) free k l ∙ t .unused k (omega arith);
       })

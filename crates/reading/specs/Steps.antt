@@ -13,6 +13,7 @@ use Rattle.command.specs.declared.Axis.{Axis}
 use Rattle.command.specs.declared.Offset.{Offset}
 use Rattle.command.specs.declared.Command.{Command}
 use Rattle.command.specs.declared.Command.the-variants as command
+use Rattle.place.specs.Mark.{Mark}
 use Rattle.graphics.specs.Graphics.{withAperture}
 use Rattle.graphics.specs.declared.Graphics.{Graphics}
 use Rattle.graphics.specs.declared.Selected.{Selected}
@@ -60,111 +61,38 @@ pub record Step : Type 0 where
 abbrev pub does : ℕ → State → Step
 does fault next = record { fault = fault; next = next }
 
+-- a state by its parts
+abbrev pub state : Graphics → Level → List Opened → List Aperture → List Template → List (List ℕ) → List ℤ → ℕ → List Mark → State
+state g l o a m names n e marks =
+    record { graphics = g; level = l; opened = o; apertures = a; macros = m; names = names; numbers = n; entries = e; marks = marks }
+
 -- the graphics state behind a command, and the marks that it leaves at its place; n entries are used
 unfoldable pub passed : Command → ℕ → ℕ → State → State
-passed c place n s = record {
-  graphics = after c (s .graphics);
-  level = s .level;
-  opened = s .opened;
-  apertures = s .apertures;
-  macros = s .macros;
-  names = s .names;
-  numbers = s .numbers;
-  entries = s .entries + n;
-  marks = s .marks ++ marksOf c (s .graphics) place;
-}
+passed c place n s =
+    state (after c (s .graphics)) (s .level) (s .opened) (s .apertures) (s .macros) (s .names) (s .numbers) (s .entries + n)
+    (s .marks ++ marksOf c (s .graphics) place)
 
 -- with one part set anew
 unfoldable pub withGraphics : Graphics → State → State
-withGraphics v s = record {
-  graphics = v;
-  level = s .level;
-  opened = s .opened;
-  apertures = s .apertures;
-  macros = s .macros;
-  names = s .names;
-  numbers = s .numbers;
-  entries = s .entries;
-  marks = s .marks;
-}
+withGraphics v s = state v (s .level) (s .opened) (s .apertures) (s .macros) (s .names) (s .numbers) (s .entries) (s .marks)
 
 unfoldable pub withLevel : Level → State → State
-withLevel v s = record {
-  graphics = s .graphics;
-  level = v;
-  opened = s .opened;
-  apertures = s .apertures;
-  macros = s .macros;
-  names = s .names;
-  numbers = s .numbers;
-  entries = s .entries;
-  marks = s .marks;
-}
+withLevel v s = state (s .graphics) v (s .opened) (s .apertures) (s .macros) (s .names) (s .numbers) (s .entries) (s .marks)
 
 unfoldable pub withOpened : List Opened → State → State
-withOpened v s = record {
-  graphics = s .graphics;
-  level = s .level;
-  opened = v;
-  apertures = s .apertures;
-  macros = s .macros;
-  names = s .names;
-  numbers = s .numbers;
-  entries = s .entries;
-  marks = s .marks;
-}
+withOpened v s = state (s .graphics) (s .level) v (s .apertures) (s .macros) (s .names) (s .numbers) (s .entries) (s .marks)
 
 unfoldable pub withApertures : List Aperture → State → State
-withApertures v s = record {
-  graphics = s .graphics;
-  level = s .level;
-  opened = s .opened;
-  apertures = v;
-  macros = s .macros;
-  names = s .names;
-  numbers = s .numbers;
-  entries = s .entries;
-  marks = s .marks;
-}
+withApertures v s = state (s .graphics) (s .level) (s .opened) v (s .macros) (s .names) (s .numbers) (s .entries) (s .marks)
 
 unfoldable pub withMacros : List Template → State → State
-withMacros v s = record {
-  graphics = s .graphics;
-  level = s .level;
-  opened = s .opened;
-  apertures = s .apertures;
-  macros = v;
-  names = s .names;
-  numbers = s .numbers;
-  entries = s .entries;
-  marks = s .marks;
-}
+withMacros v s = state (s .graphics) (s .level) (s .opened) (s .apertures) v (s .names) (s .numbers) (s .entries) (s .marks)
 
 unfoldable pub withNames : List (List ℕ) → State → State
-withNames v s = record {
-  graphics = s .graphics;
-  level = s .level;
-  opened = s .opened;
-  apertures = s .apertures;
-  macros = s .macros;
-  names = v;
-  numbers = s .numbers;
-  entries = s .entries;
-  marks = s .marks;
-}
+withNames v s = state (s .graphics) (s .level) (s .opened) (s .apertures) (s .macros) v (s .numbers) (s .entries) (s .marks)
 
 unfoldable pub withNumbers : List ℤ → State → State
-withNumbers v s = record {
-  graphics = s .graphics;
-  level = s .level;
-  opened = s .opened;
-  apertures = s .apertures;
-  macros = s .macros;
-  names = s .names;
-  numbers = v;
-  entries = s .entries;
-  marks = s .marks;
-}
+withNumbers v s = state (s .graphics) (s .level) (s .opened) (s .apertures) (s .macros) (s .names) v (s .entries) (s .marks)
 
 -- a command that uses no entry
 abbrev pub sets : Command → ℕ → ℕ → State → Step
