@@ -163,10 +163,10 @@ static double reading(struct text t, struct store *s)
 {
     double best = 1e9;
     for (int i = 0; i < ROUNDS; i++) {
-        uint64_t place, unit;
+        uint64_t place, unit, rounded;
         double from = now();
         uint64_t number = sheet_read((const uint8_t *)t.at, t.count, s->head, s->entries, s->e, s->apertures, s->a, s->macros, s->m,
-                                     s->numbers, s->n, &place, &unit);
+                                     s->numbers, s->n, &place, &unit, &rounded);
         double took = now() - from;
         if (number != 0) {
             printf("refused %" PRIu64 " at %" PRIu64 "\n", number, place);

@@ -5,7 +5,8 @@
  *   imager items K COUNT                the listing's lines of those items
  *   imager numbers                      a line for each AD: its aperture, then the numbers kept
  *   imager attribute TA|TO PLACE NAME   attribute, place, length of the value (`attr` answers with attr)
- *   imager batch [--room E,A,M,N]       for each file named on standard input: name, sheet or refusal, hash of its first 2000 lines
+ *   imager batch [--room E,A,M,N]       for each file named on standard input: name, sheet or refusal, hash of its first 2000 lines,
+ *                                       decimals rounded
  *
  * The file stands on standard input but for batch; fields are parted by tabs. A refusal prints refused, number and place; of an
  * attribute, refused and number. */
@@ -38,7 +39,7 @@ struct store {
     uint64_t *entries, *apertures, *macros;
     int64_t *numbers;
     size_t entries_words, apertures_words, macros_words, numbers_count;
-    uint64_t number, place, unit;
+    uint64_t number, place, unit, rounded;
 };
 
 static void fail(const char *what)
@@ -104,7 +105,7 @@ static struct store read_sheet(struct bytes file, const struct room *asked)
     s.macros = lend(s.macros_words, sizeof *s.macros);
     s.numbers = lend(s.numbers_count, sizeof *s.numbers);
     s.number = sheet_read(file.at, file.count, s.head, s.entries, s.entries_words, s.apertures, s.apertures_words, s.macros,
-                          s.macros_words, s.numbers, s.numbers_count, &s.place, &s.unit);
+                          s.macros_words, s.numbers, s.numbers_count, &s.place, &s.unit, &s.rounded);
     return s;
 }
 
@@ -262,7 +263,7 @@ static void batch_line(const char *name, const struct room *room)
     if (s.number == SHEET_ACCEPTED) {
         uint64_t total = s.head[SHEET_HEAD_TOTAL];
         each_line(&s, 0, total < HASHED ? total : HASHED, hash_line, &hash);
-        printf("\t%016" PRIx64 "\n", hash);
+        printf("\t%016" PRIx64 "\t%" PRIu64 "\n", hash, s.rounded);
     } else {
         printf("\t-\n");
     }

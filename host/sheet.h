@@ -12,11 +12,11 @@
  *   - A call answers a number: 0, or why not (enum sheet_number). It sets everything that it was lent to be written, whatever it
  *     answers.
  *
- *   uint64_t head[SHEET_HEAD_WORDS], place, unit, item[SHEET_ITEM_WORDS];
+ *   uint64_t head[SHEET_HEAD_WORDS], place, unit, rounded, item[SHEET_ITEM_WORDS];
  *   size_t e = sheet_entries_for(n) * SHEET_ENTRY_WORDS, a = sheet_apertures_for(n) * SHEET_APERTURE_WORDS;
  *   size_t m = sheet_macros_for(n) * SHEET_MACRO_WORDS, v = numbers;
  *   .. lend entries of e words, apertures of a, macros of m, numbers of v ..
- *   if (sheet_read(file, n, head, entries, e, apertures, a, macros, m, values, v, &place, &unit) == SHEET_ACCEPTED)
+ *   if (sheet_read(file, n, head, entries, e, apertures, a, macros, m, values, v, &place, &unit, &rounded) == SHEET_ACCEPTED)
  *       sheet_item(head, entries, e, apertures, a, 40000, item, SHEET_ITEM_WORDS);
  */
 #ifndef SHEET_H
@@ -145,12 +145,13 @@ static inline size_t sheet_numbers_for(size_t n) { return n / 2 + n * n / 72; }
  *   apertures, apertures_words    room for apertures_words / SHEET_APERTURE_WORDS apertures
  *   macros, macros_words          room for macros_words / SHEET_MACRO_WORDS macros
  *   numbers, numbers_count        room for so many numbers
- *   place, unit                   one word each
- * Answers 0 (then unit is 1 mm or 2 inch, place 0, and head, entries and apertures are a sheet; words not used are 0), or 1 to 19 or 29
- * (then place says where, unit is 0, and every word lent is 0 to its full length). */
+ *   place, unit, rounded          one word each
+ * Answers 0 (then unit is 1 mm or 2 inch, rounded how many decimals of the file have more than six digits after the point, each counted
+ * once, place 0, and head, entries and apertures are a sheet; words not used are 0), or 1 to 19 or 29 (then place says where, unit and
+ * rounded are 0, and every word lent is 0 to its full length). */
 uint64_t sheet_read(const uint8_t *file, size_t file_bytes, uint64_t *head, uint64_t *entries, size_t entries_words,
                     uint64_t *apertures, size_t apertures_words, uint64_t *macros, size_t macros_words, int64_t *numbers,
-                    size_t numbers_count, uint64_t *place, uint64_t *unit);
+                    size_t numbers_count, uint64_t *place, uint64_t *unit, uint64_t *rounded);
 
 /* The number of items of a sheet. The store may be any words: it is looked at first, in one pass over its records, here and in the two
  * calls below.

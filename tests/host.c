@@ -42,7 +42,7 @@ static const uint64_t garbage = UINT64_C(0xa5a5a5a5a5a5a5a5), guard = UINT64_C(0
 struct lent {
     uint64_t *head, *entries, *apertures, *macros, *numbers;
     size_t e, a, m, n;
-    uint64_t number, place, unit;
+    uint64_t number, place, unit, rounded;
 };
 
 static uint64_t *guarded(size_t words)
@@ -81,9 +81,9 @@ static void read_with(struct lent *l, const uint8_t *file, size_t bytes)
     soil(l->apertures, l->a);
     soil(l->macros, l->m);
     soil(l->numbers, l->n);
-    l->place = l->unit = garbage;
+    l->place = l->unit = l->rounded = garbage;
     l->number = sheet_read(file, bytes, l->head, l->entries, l->e, l->apertures, l->a, l->macros, l->m, (int64_t *)(void *)l->numbers,
-                           l->n, &l->place, &l->unit);
+                           l->n, &l->place, &l->unit, &l->rounded);
     expect(guards_hold(l->head) && guards_hold(l->entries) && guards_hold(l->apertures) && guards_hold(l->macros) &&
                guards_hold(l->numbers),
            "a guard word was written", l->number);
@@ -158,7 +158,7 @@ static void every_refusal(void)
         read_with(&l, (const uint8_t *)r->file, strlen(r->file));
         expect(l.number == r->number, "another number is due", r->number);
         expect(l.place == r->place, "another place is due", r->number);
-        expect(l.unit == SHEET_NO_UNIT && all_zeros(&l), "a refusal leaves something", r->number);
+        expect(l.unit == SHEET_NO_UNIT && l.rounded == 0 && all_zeros(&l), "a refusal leaves something", r->number);
     }
     uint8_t *large = malloc(SHEET_FILE_LIMIT + 1);
     if (!large)
@@ -205,10 +205,23 @@ static struct lent read_layer(void)
     struct lent l = rooms(ENTRIES * 15, APERTURES * 8, MACROS * 8, NUMBERS);
     read_with(&l, (const uint8_t *)layer, strlen(layer));
     expect(l.number == SHEET_ACCEPTED && l.place == 0 && l.unit == SHEET_MM, "the layer is accepted", l.number * 1000 + l.place);
+    expect(l.rounded == 0, "a short decimal is rounded", l.rounded);
     expect(zeros(l.entries, l.head[2] * 15, l.e) && zeros(l.apertures, l.head[3] * 8, l.a) && zeros(l.macros, l.head[4] * 8, l.m) &&
                zeros(l.numbers, l.head[5], l.n),
            "unused room is zero", 0);
     return l;
+}
+
+/* Decimals of more than six digits after the point, each counted once: three in the AM, however many AD take it, two in the AD, one each
+ * in SR, LR and LS; none for the code, for `$1`, in the comment, in the macro's name or for zeros at the end. */
+static void rounded_decimals(void)
+{
+    static const char file[] =
+        FS MO "%AMm.1234567*0 0.1234567*$1=$1+0.1234567x2.00000000*1,1,0.0000005,\n0,0.1000000001*%"
+        "%ADD10m.1234567,1*%%ADD11m.1234567,-0.1234567*%%ADD12C,1.0000001*%%SRX2Y1I0.12345678J1*%%SR*%%LR-89.9999999*%%LS0.9999995*%M02*";
+    struct lent l = rooms(ENTRIES * 15, APERTURES * 8, MACROS * 8, NUMBERS);
+    read_with(&l, (const uint8_t *)file, strlen(file));
+    expect(l.number == SHEET_ACCEPTED && l.rounded == 8, "eight decimals are rounded", l.number * 1000 + l.rounded);
 }
 
 /* Rooms exactly right, and each one too small: 17, whole records counted. */
@@ -410,6 +423,7 @@ int main(void)
     expect(sheet_item_words() == SHEET_ITEM_WORDS, "the width of an item", sheet_item_words());
     every_refusal();
     too_many_items();
+    rounded_decimals();
     struct lent l = read_layer();
     exact_rooms(&l);
     any_order(&l);

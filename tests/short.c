@@ -29,12 +29,12 @@ int main(int words, char **word)
         fprintf(stderr, "usage: short N, N at most %d\n", LONGEST);
         return 2;
     }
-    uint64_t head[SHEET_HEAD_WORDS], none[1], place, unit, hash = 0xcbf29ce484222325, count = 0;
+    uint64_t head[SHEET_HEAD_WORDS], none[1], place, unit, rounded, hash = 0xcbf29ce484222325, count = 0;
     int64_t numbers[1];
     for (size_t length = 0; length <= longest; length++) {
         uint8_t file[LONGEST + 1] = {0};
         do {
-            uint64_t number = sheet_read(file, length, head, none, 0, none, 0, none, 0, numbers, 0, &place, &unit);
+            uint64_t number = sheet_read(file, length, head, none, 0, none, 0, none, 0, numbers, 0, &place, &unit, &rounded);
             hash = with_byte(with_byte(hash, number), place);
             count++;
         } while (next(file, length));

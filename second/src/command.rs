@@ -294,6 +294,18 @@ impl Command<'_> {
             _ => false,
         }
     }
+
+    /// How many of its decimals were rounded (document 02, [1]): AD, AM, SR, LR and LS have decimals.
+    pub fn rounded(&self) -> u64 {
+        let count = |numbers: &[Number]| numbers.iter().filter(|number| number.is_rounded()).count() as u64;
+        match self {
+            Command::Rotate(number) | Command::Scale(number) => count(&[*number]),
+            Command::RepeatOpen { dx, dy, .. } => count(&[*dx, *dy]),
+            Command::Define { parameters, .. } => count(parameters),
+            Command::Macro(definition) => definition.rounded,
+            _ => 0,
+        }
+    }
 }
 
 #[cfg(test)]

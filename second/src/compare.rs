@@ -16,7 +16,7 @@ const HASHED_ITEMS: u64 = 2000;
 // ---------------------------------------------------------------- batch
 
 /// Per file named in the list: its name, the `sheet` or `refused` line with spaces for tabs, and
-/// the hash of its first item lines, or `-`.
+/// the hash of its first item lines and how many decimals were rounded, or `-`.
 pub fn batch(list: &str, room: Room, out: &mut dyn Write) -> io::Result<()> {
     for name in list.lines().filter(|name| !name.is_empty()) {
         let file = fs::read(name)?;
@@ -27,7 +27,7 @@ pub fn batch(list: &str, room: Room, out: &mut dyn Write) -> io::Result<()> {
 
 fn batch_line(name: &str, file: &[u8], room: Room) -> String {
     let (line, hash) = match read(file, room) {
-        Ok(sheet) => (listing::sheet_line(&sheet), format!("{:016x}", hash_of_items(&sheet))),
+        Ok(sheet) => (listing::sheet_line(&sheet), format!("{:016x}\t{}", hash_of_items(&sheet), sheet.rounded)),
         Err(refusal) => (listing::refusal_line(refusal), String::from("-")),
     };
     format!("{name}\t{}\t{hash}", line.replace('\t', " "))

@@ -19,6 +19,8 @@ pub struct Macro {
     pub blocks: Vec<Block>,
     /// 5 somewhere in it.
     pub has_number_out_of_range: bool,
+    /// How many of its numbers were rounded.
+    pub rounded: u64,
     /// 15 somewhere in it.
     pub is_too_deep: bool,
 }
@@ -40,6 +42,7 @@ pub enum Block {
 #[derive(Clone, Copy, Default)]
 struct Findings {
     out_of_range: bool,
+    rounded: u64,
     too_deep: bool,
 }
 
@@ -67,6 +70,7 @@ pub fn parse(text: &[u8]) -> Option<Macro> {
         name: name.to_vec(),
         blocks,
         has_number_out_of_range: findings.out_of_range,
+        rounded: findings.rounded,
         is_too_deep: findings.too_deep,
     })
 }
@@ -153,7 +157,9 @@ fn check_expression(text: &[u8], findings: &mut Findings) -> Option<()> {
             }
             (_, _) => {
                 let number = run_of_number(&text[at..]);
-                findings.out_of_range |= unsigned_decimal(number)?.is_out_of_range();
+                let value = unsigned_decimal(number)?;
+                findings.out_of_range |= value.is_out_of_range();
+                findings.rounded += u64::from(value.is_rounded());
                 expecting = Expecting::Operator;
                 at += number.len();
             }

@@ -6,13 +6,17 @@ pub const ONE: i64 = 1_000_000;
 /// "12 before FS".
 pub const DIGITS_BEFORE_FS: usize = 12;
 
+/// "a rounded size of 10^12 millionths or more" is 5.
+const LARGEST: i64 = 1_000_000_000_000;
+
 /// Aperture numbers end at 2,147,483,647.
 const LAST_APERTURE: u64 = 2_147_483_647;
 
-/// A number that has its form: its value, or 5.
+/// A number that has its form: its value, exact or rounded, or 5.
 #[derive(Clone, Copy, PartialEq, Eq, Debug)]
 pub enum Number {
     Value(i64),
+    Rounded(i64),
     OutOfRange,
 }
 
@@ -20,13 +24,17 @@ impl Number {
     /// The value; asked only after 5 has been ruled out.
     pub fn value(self) -> i64 {
         match self {
-            Number::Value(value) => value,
+            Number::Value(value) | Number::Rounded(value) => value,
             Number::OutOfRange => panic!("5 is judged first"),
         }
     }
 
     pub fn is_out_of_range(self) -> bool {
         self == Number::OutOfRange
+    }
+
+    pub fn is_rounded(self) -> bool {
+        matches!(self, Number::Rounded(_))
     }
 }
 
@@ -78,12 +86,14 @@ pub fn decimal(text: &[u8]) -> Option<Number> {
     let (negative, size) = split_sign(text);
     match unsigned_decimal(size)? {
         Number::Value(value) if negative => Some(Number::Value(-value)),
+        Number::Rounded(value) if negative => Some(Number::Rounded(-value)),
         number => Some(number),
     }
 }
 
-/// A decimal without sign, as in a macro's expressions. More than 6 digits on either side of the
-/// point, zeros at the ends dropped, is 5 (decision 40).
+/// A decimal without sign, as in a macro's expressions. Zeros at the ends dropped (decision 40),
+/// more than 6 digits before the point, more than 18 after it, or a rounded size of 10^12
+/// millionths is 5; a value that is no whole number of millionths is rounded (document 02, [1]).
 pub fn unsigned_decimal(text: &[u8]) -> Option<Number> {
     let point = text.iter().position(|byte| *byte == b'.');
     let (integer, fraction) = match point {
@@ -96,14 +106,16 @@ pub fn unsigned_decimal(text: &[u8]) -> Option<Number> {
     }
     let integer = without_leading_zeros(integer);
     let fraction = without_trailing_zeros(fraction);
-    if integer.len() > 6 || fraction.len() > 6 {
+    if integer.len() > 6 || fraction.len() > 18 {
         return Some(Number::OutOfRange);
     }
-    let mut millionths = value_of(fraction);
-    for _ in fraction.len()..6 {
-        millionths *= 10;
+    let parts = 10i128.pow(fraction.len() as u32);
+    let exact = (i128::from(value_of(integer)) * parts + i128::from(value_of(fraction))) * i128::from(ONE);
+    let size = rounded_quotient(exact, parts) as i64;
+    if size >= LARGEST {
+        return Some(Number::OutOfRange);
     }
-    Some(Number::Value(value_of(integer) * ONE + millionths))
+    Some(if exact % parts == 0 { Number::Value(size) } else { Number::Rounded(size) })
 }
 
 /// A coordinate: its digits as written are counted, the sign not (decision 41).
@@ -170,10 +182,21 @@ mod tests {
         assert_eq!(decimal(b"-.000001"), Some(Number::Value(-1)));
         assert_eq!(decimal(b"5."), Some(Number::Value(5 * ONE)));
         assert_eq!(decimal(b"1000000"), Some(Number::OutOfRange));
-        assert_eq!(decimal(b"0.0000001"), Some(Number::OutOfRange));
+        assert_eq!(decimal(b"0.0000000000000000001"), Some(Number::OutOfRange));
         for text in [&b"."[..], b"", b"+", b"1.2.3", b"--1", b"1 "] {
             assert_eq!(decimal(text), None);
         }
+    }
+
+    #[test]
+    fn decimals_are_rounded_once() {
+        assert_eq!(decimal(b"0.12345678"), Some(Number::Rounded(123_457)));
+        assert_eq!(decimal(b"0.12345600000000000000"), Some(Number::Value(123_456)));
+        assert_eq!(decimal(b"0.0000005"), Some(Number::Rounded(1)));
+        assert_eq!(decimal(b"-0.0000005"), Some(Number::Rounded(-1)));
+        assert_eq!(decimal(b"-0.000000499999999999"), Some(Number::Rounded(0)));
+        assert_eq!(decimal(b"999999.999999499999999999"), Some(Number::Rounded(999_999_999_999)));
+        assert_eq!(decimal(b"999999.9999995"), Some(Number::OutOfRange));
     }
 
     #[test]

@@ -58,6 +58,7 @@ struct Reading {
     apertures: HashMap<i64, Aperture>,
     macros: HashMap<Vec<u8>, Macro>,
     definitions: Vec<Definition>,
+    rounded: u64,
     file_attributes: HashSet<Vec<u8>>,
 }
 
@@ -86,6 +87,7 @@ impl Reading {
             apertures: HashMap::new(),
             macros: HashMap::new(),
             definitions: Vec::new(),
+            rounded: 0,
             file_attributes: HashSet::new(),
         }
     }
@@ -98,6 +100,7 @@ impl Reading {
             blocks: self.blocks,
             definitions: self.definitions,
             used: self.used,
+            rounded: self.rounded,
         }
     }
 
@@ -108,6 +111,7 @@ impl Reading {
         require(!command.has_number_out_of_range(self.most_digits()), 5)?;
         require(self.has_header_for(&command), 6)?;
         require(self.is_allowed_here(&command), 7)?;
+        self.rounded += command.rounded();
         match command {
             Command::Comment | Command::End => Ok(()),
             Command::Mode(mode) => {

@@ -252,6 +252,8 @@ pub struct Sheet {
     pub blocks: Vec<Block>,
     pub definitions: Vec<Definition>,
     pub used: Room,
+    /// "how many decimals were rounded, each written one counted once" (document 02, [1]).
+    pub rounded: u64,
 }
 
 impl Sheet {

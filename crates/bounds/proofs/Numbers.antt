@@ -40,4 +40,4 @@ size-small t = go (decimalOf t) refl
     go : (d : Decimal) → decimalOf t ≡ d → natAbs (sizedAs d .value .millionths) < 10 ^ 12
     go decimal.NotForm e = omega arith
     go decimal.TooLong e = omega arith
-    go (decimal.Value a) e = decimal-size t a e
+    go (decimal.Value a rounded) e = decimal-size t a rounded e

@@ -38,11 +38,11 @@ anySize (natural.Value n) = record { formless = false; long = false; value = n }
 abbrev pub copiesOf : List ℕ → Number
 copiesOf t = anySize (naturalOf t)
 
--- a decimal that is none is 4, one too long is 5
+-- a decimal that is none is 4, one too long is 5; any other tells whether it was rounded (02, [1])
 unfoldable pub sizedAs : Decimal → Size
-sizedAs decimal.NotForm = record { formless = true; long = false; value = record { millionths = pos 0 } }
-sizedAs decimal.TooLong = record { formless = false; long = true; value = record { millionths = pos 0 } }
-sizedAs (decimal.Value a) = record { formless = false; long = false; value = a }
+sizedAs decimal.NotForm = record { formless = true; long = false; rounded = false; value = record { millionths = pos 0 } }
+sizedAs decimal.TooLong = record { formless = false; long = true; rounded = false; value = record { millionths = pos 0 } }
+sizedAs (decimal.Value a rounded) = record { formless = false; long = false; rounded = rounded; value = a }
 
 abbrev pub sizeOf : List ℕ → Size
 sizeOf t = sizedAs (decimalOf t)

@@ -34,10 +34,11 @@ pub struct Number {
     pub value: u64,
 }
 
-// A decimal of a command, likewise.
+// A decimal of a command, likewise, and whether it was rounded.
 pub struct Size {
     pub formless: bool,
     pub long: bool,
+    pub rounded: bool,
     pub value: Amount,
 }
 
@@ -225,17 +226,20 @@ fn sized(d: Decimal) -> Size
         Decimal::NotForm => Size {
             formless: true,
             long: false,
+            rounded: false,
             value: Amount { millionths: 0 },
         },
         Decimal::TooLong => Size {
             formless: false,
             long: true,
+            rounded: false,
             value: Amount { millionths: 0 },
         },
-        Decimal::Value(a) => Size {
+        Decimal::Value { amount, rounded } => Size {
             formless: false,
             long: false,
-            value: a,
+            rounded,
+            value: amount,
         },
     }
 }

@@ -1,4 +1,5 @@
 pub mod Millionths
 pub mod Point
+pub mod Rounding
 pub mod Sizes
 pub mod Ways

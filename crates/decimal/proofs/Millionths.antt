@@ -10,7 +10,7 @@ use lib.ListN.{length}
 use lib.Pow.{pow-add}
 use Rattle.digits.specs.Digits.{allDigits, valueOf}
 use Rattle.digits.proofs.Digits.{value-bound, bound-at}
-use Rattle.decimal.specs.Decimal.{inMillionths}
+use Rattle.decimal.specs.Kept.{inSix}
 
 -- j digits after a point, in millionths
 pub scaled : (v j : ℕ) → v < 10 ^ j → j ≤ 6 → v * 10 ^ (6 - j) < 10 ^ 6
@@ -27,6 +27,6 @@ module _ (whole fraction : List ℕ) (dw : allDigits whole ≡ true) (lw : lengt
   pub fraction-bound : valueOf fraction * 10 ^ (6 - length fraction) < 10 ^ 6
   fraction-bound = scaled _ (length fraction) (value-bound fraction df) lf
 
-  pub millionths-bound : inMillionths whole fraction < 10 ^ 12
-  unfolding inMillionths
-  millionths-bound = omega (arith, whole-bound, fraction-bound)
+  pub six-bound : inSix whole fraction < 10 ^ 12
+  unfolding inSix
+  six-bound = omega (arith, whole-bound, fraction-bound)

@@ -1,3 +1,4 @@
 pub mod Amounts
 pub mod Decimal
+pub mod Kept
 pub mod Point

@@ -8,5 +8,6 @@ pub struct Amount {
 pub enum Decimal {
     NotForm,
     TooLong,
-    Value(Amount),
+    // to the nearest millionth, and whether it had to be rounded
+    Value { amount: Amount, rounded: bool },
 }

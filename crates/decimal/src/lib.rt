@@ -1,4 +1,4 @@
-// Decimals: digits with an optional point, in millionths.
+// Decimals: digits with an optional point, to the nearest millionth.
 ghost use mathlib.Core.Path.{_≡_};
 ghost use mathlib.Core.Bool.{true};
 ghost use Prim.Native.Nat.{_≤_, _^_};
@@ -8,6 +8,7 @@ ghost use Rattle.digits.specs.Digits.{allDigits};
 ghost use Rattle.decimal.specs.Amounts.{atLeastZero, aboveZero};
 ghost use Rattle.decimal.specs.Point.{beforePoint, afterPoint};
 ghost use Rattle.decimal.specs.Decimal.{isDecimal, inMillionths, amountOf, numeralOf, decimalOf};
+ghost use Rattle.decimal.specs.Kept.{inSix, carryOf};
 
 mod answers;
 
@@ -43,12 +44,31 @@ fn power(n: usize) -> u64
 }
 
 // At most six digits before the point and at most six after it, in millionths.
-fn in_millionths(whole: &[u8], fraction: &[u8]) -> u64
+fn in_six(whole: &[u8], fraction: &[u8]) -> u64
     requires { ⌜ (allDigits (now whole) ≡ true) × (length (now whole) ≤ 6) ⌝ }
     requires { ⌜ (allDigits (now fraction) ≡ true) × (length (now fraction) ≤ 6) ⌝ }
-    ensures { λ r. ⌜ r ≡ inMillionths (now (whole .entry)) (now (fraction .entry)) ⌝ }
+    ensures { λ r. ⌜ r ≡ inSix (now (whole .entry)) (now (fraction .entry)) ⌝ }
 {
     digits::value(whole) * 1000000 + digits::value(fraction) * power(6 - fraction.len())
+}
+
+// One more where the seventh digit after the point says so: it alone decides, a five upwards.
+fn carry(fraction: &[u8]) -> u64
+    ensures { λ r. ⌜ r ≡ carryOf (now (fraction .entry)) ⌝ }
+{
+    if base::byte_at(fraction, 6) >= b'5' {
+        return 1;
+    }
+    0
+}
+
+// At most six digits before the point and any after it, in millionths.
+fn in_millionths(whole: &[u8], fraction: &[u8]) -> u64
+    requires { ⌜ (allDigits (now whole) ≡ true) × (length (now whole) ≤ 6) ⌝ }
+    requires { ⌜ allDigits (now fraction) ≡ true ⌝ }
+    ensures { λ r. ⌜ r ≡ inMillionths (now (whole .entry)) (now (fraction .entry)) ⌝ }
+{
+    in_six(whole, base::up_to(fraction, 6)) + carry(fraction)
 }
 
 // Digits before and after a point, one at least.
@@ -69,12 +89,20 @@ fn amount(minus: bool, whole: &[u8], fraction: &[u8]) -> Decimal
     if 6 < whole.len() {
         return Decimal::TooLong;
     }
-    if 6 < fraction.len() {
+    if 18 < fraction.len() {
         return Decimal::TooLong;
     }
-    Decimal::Value(Amount {
-        millionths: ints::with_sign(minus, in_millionths(whole, fraction)),
-    })
+    let size = in_millionths(whole, fraction);
+    if size >= 1000000000000 {
+        return Decimal::TooLong;
+    }
+    let amount = Amount {
+        millionths: ints::with_sign(minus, size),
+    };
+    Decimal::Value {
+        amount,
+        rounded: 7 <= fraction.len(),
+    }
 }
 
 // What stands before the point and what stands after it, as a decimal.

@@ -54,7 +54,7 @@ unfolding reading
 reading-some room file = read-some room file (commandsOf file .commands) (commandsOf file .fault) begun
 
 module _ (w w′ : Lent) (head : List ℕ) (r : code.Answer) (reads : Reads (reading (roomOf w) (w .file)) w w′ head r) where
-  one-answer : (a : Answer) → Reads a w w′ head r → r ≡ asAnswered a
+  one-answer : (a : Answer) → Reads a w w′ head r → r ≡ asAnswered (w .file) a
   unfolding Reads asAnswered
   one-answer (accepted s) k = k .0
   one-answer (refused number place) k = k .0
@@ -70,7 +70,7 @@ module _ (w w′ : Lent) (head : List ℕ) (r : code.Answer) (reads : Reads (rea
     zeros = refused-zeros (reading (roomOf w) (w .file)) reads;
   }
 
-  accepts : (a : Answer) → reading (roomOf w) (w .file) ≡ a → Some a → r ≡ asAnswered a → numberOf r ≡ 0 → Accepts w
+  accepts : (a : Answer) → reading (roomOf w) (w .file) ≡ a → Some a → r ≡ asAnswered (w .file) a → numberOf r ≡ 0 → Accepts w
   unfolding asAnswered Some numberOf
   accepts (accepted s) q l t z = record { state = s; keeps = q }
   accepts (refused number place) q l t z = absurd (let same : number ≡ 0 = sym (ap numberOf t) ∙ z in omega arith)
@@ -79,8 +79,9 @@ module _ (w w′ : Lent) (head : List ℕ) (r : code.Answer) (reads : Reads (rea
   unfolding asAnswered numberOf
   demand2 = record {
     only = accepts (reading (roomOf w) (w .file)) refl (reading-some (roomOf w) (w .file)) (demand1 .one);
-    all = λ k. ap numberOf (demand1 .one ∙ ap asAnswered (k .keeps));
-    first = λ number place q. demand1 .one ∙ ap asAnswered q;
+    all = λ k. ap numberOf (demand1 .one ∙ ap (asAnswered (w .file)) (k .keeps));
+    rounded = λ k. demand1 .one ∙ ap (asAnswered (w .file)) (k .keeps);
+    first = λ number place q. demand1 .one ∙ ap (asAnswered (w .file)) q;
   }
 
   pub demand3 : (k : Accepts w) → Demand3 head (w′ .entries) (w′ .apertures) (k .state)

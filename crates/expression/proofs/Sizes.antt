@@ -62,7 +62,7 @@ sized-small t = go (decimalOf t) refl
     go : (d : Decimal) → decimalOf t ≡ d → Small (sizedAs d .value .millionths)
     go decimal.NotForm e = zero-small
     go decimal.TooLong e = zero-small
-    go (decimal.Value a) e = record { size = decimal-size t a e }
+    go (decimal.Value a rounded) e = record { size = decimal-size t a rounded e }
 
 either-small : (t : Bool) (a b : Token) → SmallToken a → SmallToken b → SmallToken (pick t a b)
 unfolding pick

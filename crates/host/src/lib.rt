@@ -16,7 +16,7 @@ ghost use Rattle.host.specs.Calls.{runNumber, itemIn};
 ghost use Rattle.host.specs.Reads.{ReadsInto};
 ghost use Rattle.host.specs.Widths.{ItemsAre, EntriesAre, AperturesAre, MacrosAre};
 
-// Reads a file into the lent words: a sheet, with its unit; or document 01's number and the place, and zeros in every word.
+// Reads a file into the lent words: a sheet, with its unit and how many decimals were rounded; or document 01's number and the place, and zeros in every word.
 #[no_mangle]
 pub extern "C" fn sheet_read(
     file: &[u8],
@@ -27,21 +27,27 @@ pub extern "C" fn sheet_read(
     numbers: &mut [i64],
     place: &mut u64,
     unit: &mut u64,
+    rounded: &mut u64,
 ) -> u64
     ensures { λ r. ⌜ ReadsInto (reading (roomOf (lentOf (now (file .entry)) (now (entries .entry)) (now (apertures .entry)) (now (macros .entry)) (now (numbers .entry)))) (now (file .entry)))
         (lentOf (now (file .entry)) (now (entries .entry)) (now (apertures .entry)) (now (macros .entry)) (now (numbers .entry)))
-        (lentOf (now (file .entry)) (now (entries .exit)) (now (apertures .exit)) (now (macros .exit)) (now (numbers .exit))) (now (head .exit)) r (now (place .exit)) (now (unit .exit)) ⌝ }
+        (lentOf (now (file .entry)) (now (entries .exit)) (now (apertures .exit)) (now (macros .exit)) (now (numbers .exit))) (now (head .exit)) r (now (place .exit)) (now (unit .exit)) (now (rounded .exit)) ⌝ }
 {
     let a = reader::read(file, head, entries, apertures, macros, numbers);
     match a {
-        Answer::Accepted(u) => {
+        Answer::Accepted {
+            unit: u,
+            rounded: n,
+        } => {
             *place = 0;
             *unit = u;
+            *rounded = n as u64;
             0
         }
         Answer::Refused { number, place: at } => {
             *place = at as u64;
             *unit = 0;
+            *rounded = 0;
             number
         }
     }

@@ -87,7 +87,7 @@ fn read(file: &[u8]) {
         &mut numbers,
     );
     match a {
-        Answer::Accepted(_) => list(&head, &entries, &apertures),
+        Answer::Accepted { .. } => list(&head, &entries, &apertures),
         Answer::Refused { number, place } => refuse(number, place as u64),
     }
 }

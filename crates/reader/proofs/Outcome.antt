@@ -13,6 +13,7 @@ use Rattle.graphics.specs.declared.Graphics.{Graphics}
 use Rattle.sheet.specs.Records.{entryRoom}
 use Rattle.close.specs.Closed.{headOf, Ended}
 use Rattle.reading.specs.State.{begun}
+use Rattle.rounding.specs.Files.{roundedIn}
 use Rattle.reading.specs.Reading.{Answer, refused, readOn, reading}
 use Rattle.progress.specs.Lent.{Lent, roomOf, withEntries}
 use Rattle.progress.specs.declared.Progress.{Progress}
@@ -81,15 +82,15 @@ module _ (file : List ℕ) (w₀ w w₁ : Lent) (r : End) {p : Progress} (file-i
   pub sheet-fits : p .builder .closed + p .builder .high ≤ entryRoom (w₁ .entries)
   sheet-fits = sheeted .knows .shows .fits
 
-  pub reads-accepted : (e₂ : List ℕ) → Ended (w₁ .entries) e₂ (p .builder) →
-      Reads (answerOf file w₀) w₀ (withEntries e₂ w₁) (headOf (p .graphics .format .unit) (p .builder) (p .apertures) (p .macros) (p .numbers)) (answer.Accepted (p .graphics .format .unit))
+  pub reads-accepted : (e₂ : List ℕ) → Ended (w₁ .entries) e₂ (p .builder) → (n : ℕ) → n ≡ roundedIn (w₀ .file) →
+      Reads (answerOf file w₀) w₀ (withEntries e₂ w₁) (headOf (p .graphics .format .unit) (p .builder) (p .apertures) (p .macros) (p .numbers)) (answer.Accepted (p .graphics .format .unit) n)
   unfolding Reads withEntries
-  reads-accepted e₂ ended =
+  reads-accepted e₂ ended n counted =
       let long = longs w₀ w w₁ l k in
       let s = sheeted in
-      subst (λ (x : Answer). Reads x w₀ (withEntries e₂ w₁) (headOf (p .graphics .format .unit) (p .builder) (p .apertures) (p .macros) (p .numbers)) (answer.Accepted (p .graphics .format .unit)))
+      subst (λ (x : Answer). Reads x w₀ (withEntries e₂ w₁) (headOf (p .graphics .format .unit) (p .builder) (p .apertures) (p .macros) (p .numbers)) (answer.Accepted (p .graphics .format .unit) n))
       (sym (sym (same-answer file w₀ w l) ∙ s .is)) (
-        ap (λ (g : Graphics). answer.Accepted (g .format .unit)) (s .knows .graphics),
+        (λ i. answer.Accepted (s .knows .graphics i .format .unit) (counted i)),
         record {
           entries-long = ended .as-long ∙ long .entries-long;
           apertures-long = long .apertures-long;

@@ -5,6 +5,7 @@ use mathlib.Core.List.{List}
 use lib.IntN.{pos}
 use lib.ListN.{length, replicate}
 use Rattle.reading.specs.Reading.{Answer, accepted, refused}
+use Rattle.rounding.specs.Files.{roundedIn}
 use Rattle.progress.specs.Lent.{Lent}
 use Rattle.reader.specs.Leaves.{Leaves}
 use Rattle.reader.specs.declared.Answer as code
@@ -12,7 +13,7 @@ use Rattle.reader.specs.declared.Answer.the-variants as answer
 
 -- document 01's number
 unfoldable pub numberOf : code.Answer → ℕ
-numberOf (answer.Accepted unit) = 0
+numberOf (answer.Accepted unit rounded) = 0
 numberOf (answer.Refused number place) = number
 
 -- "A reading refusal zeroes every lent store to its full length"; w is what was lent, w′ what it is at the end
@@ -30,8 +31,8 @@ pub record AsLong (w w′ : Lent) : Type 0 where
   pub macros-long : length (w′ .macros) ≡ length (w .macros)
   pub numbers-long : length (w′ .numbers) ≡ length (w .numbers)
 
--- "An accepted reading also gives the unit, mm or inch", 1 or 2
+-- "An accepted reading also gives the unit, mm or inch", 1 or 2, and "reports how many decimals were rounded" (02, [1])
 unfoldable pub Reads : Answer → Lent → Lent → List ℕ → code.Answer → Type 0
 Reads (accepted s) w w′ head r =
-    (r ≡ answer.Accepted (s .graphics .format .unit)) × AsLong w w′ × Leaves (w .file) head (w′ .entries) (w′ .apertures) (w′ .macros) (w′ .numbers) s
+    (r ≡ answer.Accepted (s .graphics .format .unit) (roundedIn (w .file))) × AsLong w w′ × Leaves (w .file) head (w′ .entries) (w′ .apertures) (w′ .macros) (w′ .numbers) s
 Reads (refused number place) w w′ head r = (r ≡ answer.Refused number place) × Zeroed w w′ head

@@ -17,9 +17,10 @@ use commands::Turn;
 use progress::Progress;
 use progress::Stepped;
 
-// What a reading answers: the unit of the sheet, 1 mm or 2 inch; or document 01's number and the place.
+// What a reading answers: the unit of the sheet, 1 mm or 2 inch, and how many decimals were rounded; or document 01's number and the
+// place.
 pub enum Answer {
-    Accepted(u64),
+    Accepted { unit: u64, rounded: usize },
     Refused { number: u64, place: usize },
 }
 
@@ -165,7 +166,8 @@ fn finish(e: &mut [u64], p: Progress) -> [u64; 8]
     )
 }
 
-// A file that is not too long, over a head of zeros; the look for names leaves zeros in the entries.
+// A file that is not too long, over a head of zeros; the look for names leaves zeros in the entries. The rounded decimals are counted
+// in a file that is accepted, and in no other.
 fn read_file(
     file: &[u8],
     head: &mut [u64; 8],
@@ -195,12 +197,14 @@ fn read_file(
         }
         End::Sheet(p) => {
             *head = finish(e, p);
-            Answer::Accepted(p.graphics.format.unit)
+            let unit = p.graphics.format.unit;
+            let rounded = rounding::rounded_in(file);
+            Answer::Accepted { unit, rounded }
         }
     }
 }
 
-// Reads a file into the lent words: a sheet with its unit, or the number and the place of the first rule broken and zeros in every word.
+// Reads a file into the lent words: a sheet with its unit and how many decimals were rounded, or the number and the place of the first rule broken and zeros in every word.
 pub fn read(
     file: &[u8],
     head: &mut [u64; 8],

@@ -14,7 +14,7 @@ use Rattle.digits.specs.Digits.{isDigit, allDigits, isNumber, valueOf as digits
 use Rattle.digits.specs.Natural.{naturalOf}
 use Rattle.digits.specs.Sign.{hasMinus, afterSign}
 use Rattle.base.specs.Trimmed.{dropLeading, keptBefore, dropTrailing}
-use Rattle.decimal.specs.Decimal.{isDecimal, inMillionths, amountOf, numeralOf, decimalOf}
+use Rattle.decimal.specs.Decimal.{isDecimal, nearest, inMillionths, isRounded, amountOf, numeralOf, decimalOf}
 use Rattle.decimal.specs.Point.{beforePoint, afterPoint}
 use Rattle.text.specs.First.{firstIn}
 use Rattle.text.specs.Name.{letter, nameStart, nameByte, nameBytes, isName}
@@ -76,5 +76,5 @@ known =
     ∷ []
 
 known-recognised : map (λ row. commandOf 3 (row .0) (text (row .1))) known ≡ map (λ row. row .2) known
-unfolding commandOf wordOf commentOf selectOf drawOf draw broken alone tooLong axisOf offsetOf fieldsOf fieldsIn fieldOf fieldEnd past given missing inCoordinate digitLimit wholeOf coordinateOf isDigit allDigits isNumber digitsValue hasMinus afterSign signed naturalOf inRange judged extendedOf dataOf oneBlock formatOf transformationOf scaleOf sizedAs decimalOf numeralOf amountOf inMillionths isDecimal dropLeading keptBefore dropTrailing beforePoint afterPoint apertureOf definition parametersOf gathered more pieces parted onto isName nameStart nameByte nameBytes letter blockOf attributeOf valueOf deletionOf pick firstIn among sameBytes _and_ _or_
+unfolding commandOf wordOf commentOf selectOf drawOf draw broken alone tooLong axisOf offsetOf fieldsOf fieldsIn fieldOf fieldEnd past given missing inCoordinate digitLimit wholeOf coordinateOf isDigit allDigits isNumber digitsValue hasMinus afterSign signed naturalOf inRange judged extendedOf dataOf oneBlock formatOf transformationOf scaleOf sizedAs decimalOf numeralOf amountOf isRounded inMillionths nearest isDecimal dropLeading keptBefore dropTrailing beforePoint afterPoint apertureOf definition parametersOf gathered more pieces parted onto isName nameStart nameByte nameBytes letter blockOf attributeOf valueOf deletionOf pick firstIn among sameBytes _and_ _or_
 known-recognised = refl

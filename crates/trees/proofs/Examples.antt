@@ -15,7 +15,7 @@ use Rattle.digits.specs.Digits.{isDigit, allDigits, isNumber, valueOf}
 use Rattle.digits.specs.Natural.{naturalOf}
 use Rattle.digits.specs.Sign.{hasMinus, afterSign}
 use Rattle.base.specs.Trimmed.{dropLeading, keptBefore, dropTrailing}
-use Rattle.decimal.specs.Decimal.{isDecimal, inMillionths, amountOf, numeralOf, decimalOf}
+use Rattle.decimal.specs.Decimal.{isDecimal, nearest as nearestWhole, inMillionths, isRounded, amountOf, numeralOf, decimalOf}
 use Rattle.decimal.specs.Point.{beforePoint, afterPoint}
 use Rattle.text.specs.Text.{text}
 use Rattle.command.specs.Choose.{pick}
@@ -31,7 +31,7 @@ use Rattle.trees.specs.Worth.{applied, rowWorth, negative, leadWorth, fa
 use Rattle.trees.specs.Written.{plusOr, timesOr, rowWritten, leadWritten, factorWritten, termWritten, sumWritten, innerWritten, written}
 
 abbrev whole : {E : Type 0} → ℕ → Factor E
-whole n = number (record { formless = false; long = false; value = record { millionths = pos n } })
+whole n = number (record { formless = false; long = false; rounded = false; value = record { millionths = pos n } })
 
 abbrev one-of : {E : Type 0} → ℕ → Term E
 one-of n = first nothing (whole n)
@@ -50,7 +50,7 @@ examples =
 
 examples-written : map (λ row. written 1 (row .1) []) examples ≡ map (λ row. tokens (text (row .0))) examples
 unfolding written sumWritten termWritten factorWritten innerWritten rowWritten leadWritten plusOr timesOr
-    tokens words onto numeral joins tokenOf variableOf pick sizedAs decimalOf numeralOf amountOf inMillionths isDecimal dropLeading keptBefore dropTrailing
+    tokens words onto numeral joins tokenOf variableOf pick sizedAs decimalOf numeralOf amountOf isRounded inMillionths nearestWhole isDecimal dropLeading keptBefore dropTrailing
     beforePoint afterPoint isDigit allDigits isNumber valueOf hasMinus afterSign wholeOf coordinateOf naturalOf signed _and_ _or_
 examples-written = refl
 

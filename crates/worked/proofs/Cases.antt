@@ -10,7 +10,7 @@ use Rattle.digits.specs.Digits.{isDigit, allDigits, valueOf}
 use Rattle.digits.specs.Sign.{hasMinus, afterSign}
 use Rattle.base.specs.Trimmed.{dropLeading, keptBefore, dropTrailing}
 use Rattle.decimal.specs.Point.{beforePoint, afterPoint}
-use Rattle.decimal.specs.Decimal.{isDecimal, inMillionths, amountOf, numeralOf, decimalOf}
+use Rattle.decimal.specs.Decimal.{isDecimal, nearest as nearestWhole, inMillionths, isRounded, amountOf, numeralOf, decimalOf}
 use Rattle.reckon.specs.Rounding.{nearest, keptOf, productOf, quotientOf, reckonedRefusal}
 use Rattle.reckon.specs.Thermal.{gapFits, thermalFits}
 use Rattle.reckon.specs.ArcCentre.{seenFrom, parallel, between, strictlyBetween, nonsenseCentre}
@@ -20,7 +20,7 @@ use Rattle.worked.proofs.Listing.{listing-whole}
 
 numbers-hold : map (λ r. answer (questionOf r)) numbers ≡ map (λ r. said (saidOf r)) numbers
 unfolding answer questionOf said saidOf numbers worth reading readingAt reckonedAs
-    isDigit allDigits valueOf hasMinus afterSign dropLeading keptBefore dropTrailing beforePoint afterPoint isDecimal inMillionths amountOf numeralOf decimalOf
+    isDigit allDigits valueOf hasMinus afterSign dropLeading keptBefore dropTrailing beforePoint afterPoint isDecimal nearestWhole inMillionths isRounded amountOf numeralOf decimalOf
     signed eqZ isNeg _and_ _or_ nearest keptOf productOf quotientOf reckonedRefusal gapFits thermalFits
     samePoint seenFrom parallel between strictlyBetween nonsenseCentre
 numbers-hold = refl
@@ -32,7 +32,7 @@ either-side-of-a-line = λ i. numbers-hold i ++ (listing-whole i ∷ [])
 
 pub decided : map (λ r. answer (questionOf r)) further ≡ map (λ r. said (saidOf r)) further
 unfolding answer questionOf said saidOf further worth reading readingAt reckonedAs
-    isDigit allDigits valueOf hasMinus afterSign dropLeading keptBefore dropTrailing beforePoint afterPoint isDecimal inMillionths amountOf numeralOf decimalOf
+    isDigit allDigits valueOf hasMinus afterSign dropLeading keptBefore dropTrailing beforePoint afterPoint isDecimal nearestWhole inMillionths isRounded amountOf numeralOf decimalOf
     signed eqZ isNeg _and_ _or_ nearest keptOf productOf quotientOf reckonedRefusal
     samePoint seenFrom parallel between strictlyBetween nonsenseCentre
 decided = refl

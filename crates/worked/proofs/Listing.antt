@@ -14,7 +14,7 @@ use Rattle.digits.specs.Digits.{isDigit, allDigits, isNumber, valueOf}
 use Rattle.digits.specs.Natural.{naturalOf}
 use Rattle.digits.specs.Sign.{hasMinus, afterSign}
 use Rattle.base.specs.Trimmed.{dropLeading, keptBefore, dropTrailing}
-use Rattle.decimal.specs.Decimal.{isDecimal, inMillionths, amountOf, numeralOf, decimalOf}
+use Rattle.decimal.specs.Decimal.{isDecimal, nearest, inMillionths, isRounded, amountOf, numeralOf, decimalOf}
 use Rattle.decimal.specs.Point.{beforePoint, afterPoint}
 use Rattle.text.specs.First.{firstIn, beforeByte, afterByte}
 use Rattle.text.specs.Name.{letter, nameStart, nameByte, nameBytes, isName}
@@ -90,7 +90,7 @@ unfolding answer said listed ample strip item output xor run
     naturalOf
     hasMinus afterSign
     dropLeading keptBefore dropTrailing
-    isDecimal inMillionths amountOf numeralOf decimalOf
+    isDecimal nearest inMillionths isRounded amountOf numeralOf decimalOf
     beforePoint afterPoint
     firstIn beforeByte afterByte
     letter nameStart nameByte nameBytes isName

@@ -11,11 +11,11 @@ use Rattle.base.specs.Trimmed.{dropLeading, keptBefore, dropTrailing}
 use Rattle.digits.specs.Coordinate.{wholeOf, coordinateOf}
 use Rattle.digits.specs.Natural.{naturalOf}
 use Rattle.decimal.specs.Point.{beforePoint, afterPoint}
-use Rattle.decimal.specs.Decimal.{isDecimal, inMillionths, amountOf, numeralOf, decimalOf}
-use Rattle.worked.specs.Written.{worth, table, read}
+use Rattle.decimal.specs.Decimal.{isDecimal, nearest, inMillionths, isRounded, amountOf, numeralOf, decimalOf}
+use Rattle.worked.specs.Written.{worth, rounds, table, read}
 
 pub written-numbers : map read table ≡ table
-unfolding read table worth
+unfolding read table worth rounds
     isDigit allDigits isNumber valueOf hasMinus afterSign dropLeading keptBefore dropTrailing beforePoint afterPoint
-    wholeOf coordinateOf naturalOf isDecimal inMillionths amountOf numeralOf decimalOf signed _and_ _or_
+    wholeOf coordinateOf naturalOf isDecimal nearest inMillionths isRounded amountOf numeralOf decimalOf signed _and_ _or_
 written-numbers = refl

@@ -50,7 +50,7 @@ pub data Answer : Type 0 where
 unfoldable pub worth : Decimal → (ℤ → Answer) → Answer
 worth decimal.NotForm f = unread
 worth decimal.TooLong f = unread
-worth (decimal.Value a) f = f (a .millionths)
+worth (decimal.Value a rounded) f = f (a .millionths)
 
 unfoldable pub reading : String → (ℤ → Answer) → Answer
 reading s f = worth (decimalOf (text s)) f

@@ -2,6 +2,7 @@
 -- (decisions 24, 29, 40, 41, 42, 47).
 use Prim.Native.Nat.{ℕ}
 use Prim.Native.String.{String}
+use mathlib.Core.Bool.{true, false}
 use mathlib.Core.List.{List, [], _∷_}
 use lib.IntN.{ℤ, pos, negℤ}
 use Rattle.text.specs.Text.{text}
@@ -20,8 +21,12 @@ pub data Row : Type 0 where
   coordinate-says : String → ℕ → Coordinate → Row
   natural-says : String → Natural → Row
 
+-- exactly so much, or rounded to it
 unfoldable pub worth : ℤ → Decimal
-worth z = decimal.Value (record { millionths = z })
+worth z = decimal.Value (record { millionths = z }) false
+
+unfoldable pub rounds : ℤ → Decimal
+rounds z = decimal.Value (record { millionths = z }) true
 
 unfoldable pub table : List Row
 table =
@@ -32,7 +37,20 @@ table =
     ∷ decimal-says "-0" (worth (pos 0))
     ∷ decimal-says "999999.999999" (worth (pos 999999999999))
     ∷ decimal-says "1000000" decimal.TooLong
-    ∷ decimal-says "0.1234567" decimal.TooLong
+    ∷ decimal-says "0.1234567" (rounds (pos 123457))
+    ∷ decimal-says "0.12345678" (rounds (pos 123457))
+    ∷ decimal-says "0.1234560000000000000000000" (worth (pos 123456))
+    ∷ decimal-says "0.0000005" (rounds (pos 1))
+    ∷ decimal-says "-0.0000005" (rounds (negℤ (pos 1)))
+    ∷ decimal-says "0.000000499999999999" (rounds (pos 0))
+    ∷ decimal-says "-0.0000004999" (rounds (pos 0))
+    ∷ decimal-says "1.999999500000000001" (rounds (pos 2000000))
+    ∷ decimal-says "0.00000000000000000100" (rounds (pos 0))
+    ∷ decimal-says "0.0000000000000000001" decimal.TooLong
+    ∷ decimal-says "999999.9999994" (rounds (pos 999999999999))
+    ∷ decimal-says "999999.9999995" decimal.TooLong
+    ∷ decimal-says "-999999.9999995" decimal.TooLong
+    ∷ decimal-says "1000000.0000001" decimal.TooLong
     ∷ decimal-says "" decimal.NotForm
     ∷ decimal-says "-" decimal.NotForm
     ∷ decimal-says "." decimal.NotForm

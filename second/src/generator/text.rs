@@ -27,8 +27,10 @@ pub fn decimal(random: &mut Random, value: i64) -> String {
     format!("{}{}", sign(random, value), unsigned_decimal(random, value.abs()))
 }
 
+/// Now and then a longer one that is rounded to it (document 02, [1]).
 pub fn unsigned_decimal(random: &mut Random, value: i64) -> String {
-    let fraction = format!("{:06}", value % ONE);
+    let (value, tail) = if random.percent(8) { long_tail(random, value) } else { (value, String::new()) };
+    let fraction = format!("{:06}{tail}", value % ONE);
     let fraction = fraction.trim_end_matches('0');
     let zeros = if random.percent(10) { random.below(9) } else { 0 };
     let point = !fraction.is_empty() || zeros > 0 || random.percent(5);
@@ -39,6 +41,19 @@ pub fn unsigned_decimal(random: &mut Random, value: i64) -> String {
     let front = if random.percent(5) { random.below(9) } else { 0 };
     let point = if point { "." } else { "" };
     format!("{}{integer}{point}{fraction}{}", "0".repeat(front), "0".repeat(zeros))
+}
+
+/// Digits from the seventh after the point on, up to twelve, and what stands before them: rounded, it is the value.
+fn long_tail(random: &mut Random, value: i64) -> (i64, String) {
+    let mut digits = random.below(5).to_string();
+    let up = value > 0 && random.percent(50);
+    if up {
+        digits = (5 + random.below(5)).to_string();
+    }
+    for _ in 0..random.below(12) {
+        digits += &random.below(10).to_string();
+    }
+    (if up { value - 1 } else { value }, digits)
 }
 
 pub fn aperture(random: &mut Random, number: i64) -> String {

@@ -1,18 +1,13 @@
 -- `decimal::amount` meets its contract: each way out is one law of the definition.
-use Prim.Native.Nat.{_^_, _<_}
-use mathlib.Core.Path.{ap, _∙_}
+use mathlib.Core.Path.{refl, ap, _∙_}
+use native.Mathlib.Omega.{arith}
 use Rattle.ints.specs.Ints.{signed}
 use Rattle.ints.proofs.Bounded.{back}
-use Rattle.decimal.proofs.Ways.{amount-long-whole, amount-long-fraction, amount-value}
-use Rattle.decimal.proofs.Millionths.{millionths-bound}
-use native.Mathlib.Omega.{arith}
+use Rattle.decimal.specs.Decimal.{isRounded}
+use Rattle.decimal.proofs.Ways.{amount-long-whole, amount-long-fraction, amount-large, amount-value}
+use borrow.Author.Needs.{needs}
 use Rattle.decimal.proofs.amount.Statement.{statement}
 use Rattle.decimal.proofs.amount.Tie as tie
-
--- what six digits before the point and six after it are worth
-below : (c : tie.After-in-millionths) → c .in-millionths .result < 10 ^ 12
-below c = let p = c .before .before .before .before .before .pre in
-    rw (c .in-millionths .ensures) (millionths-bound (c .before .before .before .before .before .args .whole .now) (c .before .before .before .before .before .args .fraction .now) (p .0) (omega arith) (p .1) (omega arith))
 
 returns : tie.Need-returns
 returns c = amount-long-whole _ _ _ (omega arith)
@@ -21,16 +16,22 @@ returns-2 : tie.Need-returns-2
 returns-2 c = amount-long-fraction _ _ _ (omega arith) (omega arith)
 
 in-millionths-requires : tie.Need-in-millionths-requires
-in-millionths-requires c κs = ((c .before .before .before .before .pre .0, omega arith), (c .before .before .before .before .pre .1, omega arith))
-
-with-sign-requires : tie.Need-with-sign-requires
-with-sign-requires c κs = omega (arith, below c)
+in-millionths-requires c κs = search needs
 
 returns-3 : tie.Need-returns-3
-returns-3 c = let h = below (c .before) in
-    amount-value _ _ _ _ (omega arith) (omega arith)
-    (back _ (omega arith) ∙ c .with-sign .ensures .0 ∙ ap (signed (c .before .before .before .before .before .before .args .minus)) (c .before .in-millionths .ensures))
+returns-3 c = amount-large _ _ _ (omega arith) (omega arith) (omega (arith, c .before .in-millionths .ensures))
+
+with-sign-requires : tie.Need-with-sign-requires
+with-sign-requires c κs = search needs
+
+returns-4 : tie.Need-returns-4
+unfolding isRounded
+returns-4 c =
+    amount-value _ _ _ _ _ (omega arith) (omega arith) (omega (arith, c .before .before .in-millionths .ensures))
+    (back _ (omega arith) ∙ c .with-sign .ensures .0 ∙ ap (signed (c .before .before .before .before .before .before .before .args .minus)) (c .before .before .in-millionths .ensures))
+    refl
 
 pub amount-spec : {M : Type 1} → statement M
 amount-spec =
-    tie.close (tie.spec returns returns-2 in-millionths-requires with-sign-requires returns-3)
+    tie.close
+    (tie.spec returns returns-2 in-millionths-requires returns-3 with-sign-requires returns-4)

@@ -26,7 +26,7 @@ same-length-4 : tie.Need-same-length-4
 same-length-4 c = search needs
 
 returns : tie.Need-returns
-returns c = reads-accepted _ _ _ _ _ _ (c .before .before .before .before .before .before .before .before .before .before .read .ensures) (c .before .a .given .1)
+returns c = reads-accepted _ _ _ _ _ _ _ (c .before .before .before .before .before .before .before .before .before .before .read .ensures) (c .before .a .given .1)
 
 same-length-5 : tie.Need-same-length-5
 same-length-5 c = search needs

@@ -1,0 +1,3 @@
+pub mod Few
+pub mod Pieces
+pub mod Walk

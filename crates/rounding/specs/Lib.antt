@@ -1,0 +1,3 @@
+pub mod Commands
+pub mod Files
+pub mod Numbers
