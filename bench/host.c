@@ -5,6 +5,7 @@
 #include <time.h>
 
 #include "naive.h"
+#include "store.h"
 
 enum { ROUNDS = 5, LIMIT = 16000000, RUN = 1024 };
 
@@ -130,46 +131,15 @@ static struct text names(int count)
     return t;
 }
 
-struct store {
-    uint64_t head[SHEET_HEAD_WORDS];
-    uint64_t *entries, *apertures, *macros;
-    int64_t *numbers;
-    size_t e, a, m, n;
-};
-
-static void *lend(size_t count)
-{
-    void *p = calloc(count + 1, 8);
-    if (!p)
-        exit(1);
-    return p;
-}
-
-static struct store lent(size_t e, size_t a, size_t m, size_t n)
-{
-    struct store s = {{0}, lend(e * 15), lend(a * 8), lend(m * 8), lend(n), e * 15, a * 8, m * 8, n};
-    return s;
-}
-
-static void give_back(struct store *s)
-{
-    free(s->entries);
-    free(s->apertures);
-    free(s->macros);
-    free(s->numbers);
-}
-
 static double reading(struct text t, struct store *s)
 {
     double best = 1e9;
     for (int i = 0; i < ROUNDS; i++) {
-        uint64_t place, unit, rounded;
         double from = now();
-        uint64_t number = sheet_read((const uint8_t *)t.at, t.count, s->head, s->entries, s->e, s->apertures, s->a, s->macros, s->m,
-                                     s->numbers, s->n, &place, &unit, &rounded);
+        read_into(s, (const uint8_t *)t.at, t.count);
         double took = now() - from;
-        if (number != 0) {
-            printf("refused %" PRIu64 " at %" PRIu64 "\n", number, place);
+        if (s->number != 0) {
+            printf("refused %" PRIu64 " at %" PRIu64 "\n", s->number, s->place);
             exit(1);
         }
         best = took < best ? took : best;
@@ -187,8 +157,8 @@ static double naive_reading(struct text t, const struct store *s)
         double took = now() - from;
         best = took < best ? took : best;
         size_t total = s->head[SHEET_HEAD_TOTAL];
-        struct sheet_item *run = lend(total * SHEET_ITEM_WORDS);
-        if (total != 0 && sheet_items(s->head, s->entries, s->e, s->apertures, s->a, 0, &run->kind, total * SHEET_ITEM_WORDS) != 0)
+        struct sheet_item *run = lend(total * SHEET_ITEM_WORDS, 8);
+        if (total != 0 && sheet_items(s->head, s->entries, s->entries_words, s->apertures, s->apertures_words, 0, &run->kind, total * SHEET_ITEM_WORDS) != 0)
             exit(1);
         if (i == 0 && (items.count != total || memcmp(items.at, run, total * sizeof *run) != 0)) {
             printf("the naive reader has other items\n");
@@ -216,7 +186,7 @@ static double classifying(struct text t)
 
 static struct store header_room(size_t n)
 {
-    return lent(sheet_entries_for(n), sheet_apertures_for(n), sheet_macros_for(n), n / 8);
+    return lent((struct room){sheet_entries_for(n), sheet_apertures_for(n), sheet_macros_for(n), n / 8});
 }
 
 static void readings(const char *name, struct text t)
@@ -225,7 +195,7 @@ static void readings(const char *name, struct text t)
     struct store wide = header_room(t.count);
     double with_room = reading(t, &wide);
     const uint64_t *h = wide.head;
-    struct store s = lent(h[2], h[3], h[4], h[5]);
+    struct store s = lent((struct room){h[2], h[3], h[4], h[5]});
     give_back(&wide);
     double exact = reading(t, &s);
     double naive = naive_reading(t, &s), class = classifying(t);
@@ -244,13 +214,13 @@ static void items(const char *name, struct text t, int singles)
     size_t sizes[] = {RUN, 65536};
     double run[2], best_single = 1e9, naive = naive_reading(t, &s) / (double)total;
     for (int i = 0; i < 2; i++) {
-        uint64_t *out = lend(sizes[i] * SHEET_ITEM_WORDS);
+        uint64_t *out = lend(sizes[i] * SHEET_ITEM_WORDS, 8);
         run[i] = 1e9;
         for (int j = 0; j < ROUNDS; j++) {
             uint64_t last = total < 40 * sizes[i] ? total : 40 * sizes[i];
             double from = now();
             for (uint64_t k = 0; k < last; k += sizes[i])
-                sink += sheet_items(s.head, s.entries, s.e, s.apertures, s.a, k, out, sizes[i] * SHEET_ITEM_WORDS) + out[14];
+                sink += sheet_items(s.head, s.entries, s.entries_words, s.apertures, s.apertures_words, k, out, sizes[i] * SHEET_ITEM_WORDS) + out[14];
             double took = (now() - from) / (double)last;
             run[i] = took < run[i] ? took : run[i];
         }
@@ -259,7 +229,7 @@ static void items(const char *name, struct text t, int singles)
     for (int j = 0; j < ROUNDS; j++) {
         double from = now();
         for (int i = 0; i < singles; i++)
-            sink += sheet_item(s.head, s.entries, s.e, s.apertures, s.a, seed % total, one, SHEET_ITEM_WORDS) + (uint64_t)chance(2);
+            sink += sheet_item(s.head, s.entries, s.entries_words, s.apertures, s.apertures_words, seed % total, one, SHEET_ITEM_WORDS) + (uint64_t)chance(2);
         double took = (now() - from) / singles;
         best_single = took < best_single ? took : best_single;
     }

@@ -16,7 +16,7 @@
 #include <stdlib.h>
 #include <string.h>
 
-#include "sheet.h"
+#include "store.h"
 
 enum { RUN = 65536, HASHED = 2000, LINE = 512 };
 
@@ -28,33 +28,10 @@ struct bytes {
     size_t count;
 };
 
-/* How many entries, apertures, macros and numbers there is room for. */
-struct room {
-    size_t entries, apertures, macros, numbers;
-};
-
-/* What is lent to the reading, and what it answered. */
-struct store {
-    uint64_t head[SHEET_HEAD_WORDS];
-    uint64_t *entries, *apertures, *macros;
-    int64_t *numbers;
-    size_t entries_words, apertures_words, macros_words, numbers_count;
-    uint64_t number, place, unit, rounded;
-};
-
 static void fail(const char *what)
 {
     fprintf(stderr, "imager: %s\n", what);
     exit(1);
-}
-
-/* Room for so many of that size, never null, since a slice of length 0 has a pointer too. */
-static void *lend(size_t count, size_t size)
-{
-    void *p = calloc(count ? count : 1, size);
-    if (!p)
-        fail("out of memory");
-    return p;
 }
 
 /* A stream's bytes, up to one more than a file may have. */
@@ -94,27 +71,9 @@ static struct room room_for(size_t n)
 
 static struct store read_sheet(struct bytes file, const struct room *asked)
 {
-    struct room r = asked ? *asked : room_for(file.count);
-    struct store s;
-    s.entries_words = r.entries * SHEET_ENTRY_WORDS;
-    s.apertures_words = r.apertures * SHEET_APERTURE_WORDS;
-    s.macros_words = r.macros * SHEET_MACRO_WORDS;
-    s.numbers_count = r.numbers;
-    s.entries = lend(s.entries_words, sizeof *s.entries);
-    s.apertures = lend(s.apertures_words, sizeof *s.apertures);
-    s.macros = lend(s.macros_words, sizeof *s.macros);
-    s.numbers = lend(s.numbers_count, sizeof *s.numbers);
-    s.number = sheet_read(file.at, file.count, s.head, s.entries, s.entries_words, s.apertures, s.apertures_words, s.macros,
-                          s.macros_words, s.numbers, s.numbers_count, &s.place, &s.unit, &s.rounded);
+    struct store s = lent(asked ? *asked : room_for(file.count));
+    read_into(&s, file.at, file.count);
     return s;
-}
-
-static void give_back(struct store *s)
-{
-    free(s->entries);
-    free(s->apertures);
-    free(s->macros);
-    free(s->numbers);
 }
 
 /* The items from k on, as many as `items` has slots for. */

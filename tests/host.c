@@ -63,7 +63,7 @@ static int guards_hold(const uint64_t *p)
 
 static struct lent rooms(size_t e, size_t a, size_t m, size_t n)
 {
-    struct lent l = {guarded(SHEET_HEAD_WORDS), guarded(e), guarded(a), guarded(m), guarded(n), e, a, m, n, 0, 0, 0};
+    struct lent l = {guarded(SHEET_HEAD_WORDS), guarded(e), guarded(a), guarded(m), guarded(n), e, a, m, n, 0, 0, 0, 0};
     return l;
 }
 
