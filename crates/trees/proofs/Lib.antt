@@ -1,4 +1,5 @@
 pub mod Built
 pub mod Evaluated
 pub mod Examples
+pub mod Macros
 pub mod Trees

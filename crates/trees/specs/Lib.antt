@@ -1,5 +1,6 @@
 pub mod Sound
 pub mod Tree
 pub mod Understood
+pub mod Unworkable
 pub mod Worth
 pub mod Written
