@@ -3,6 +3,8 @@
  *   imager list [--room E,A,M,N]        the listing's lines
  *   imager sheet [--room E,A,M,N]       sheet, unit, total, entries, apertures, macros, numbers used
  *   imager items K COUNT                the listing's lines of those items
+ *   imager address K                    address, the copy of item K and its positions
+ *   imager number COPY POSITION..       number, that of the item with this address
  *   imager numbers                      a line for each AD: its aperture, then the numbers kept
  *   imager attribute TA|TO PLACE NAME   attribute, place, length of the value (`attr` answers with attr)
  *   imager batch [--room E,A,M,N]       for each file named on standard input: name, sheet or refusal, hash of its first 2000 lines,
@@ -179,6 +181,32 @@ static void items(const struct store *s, uint64_t k, uint64_t count)
     each_line(s, k, count < total - k ? k + count : total, print_line, stdout);
 }
 
+/* A number other than 0, with no place. */
+static int answered(uint64_t number)
+{
+    if (number != SHEET_ACCEPTED)
+        printf("refused\t%" PRIu64 "\t0\n", number);
+    return number == SHEET_ACCEPTED;
+}
+
+static void address(const struct store *s, uint64_t k)
+{
+    uint64_t words[SHEET_ADDRESS_WORDS];
+    if (refused(s) || !answered(sheet_address(s->head, s->entries, s->entries_words, s->apertures, s->apertures_words, k, words)))
+        return;
+    printf("address");
+    for (int i = 0; i < SHEET_ADDRESS_WORDS; i++)
+        printf("\t%" PRIu64, words[i]);
+    putchar('\n');
+}
+
+static void item_number(const struct store *s, const uint64_t *words)
+{
+    uint64_t k;
+    if (!refused(s) && answered(sheet_item_number(s->head, s->entries, s->entries_words, s->apertures, s->apertures_words, words, &k)))
+        printf("number\t%" PRIu64 "\n", k);
+}
+
 static void numbers(const struct store *s)
 {
     if (refused(s))
@@ -246,7 +274,8 @@ static void batch(const struct room *room)
 
 static int usage(void)
 {
-    fputs("usage: imager list|sheet|batch [--room E,A,M,N], items K COUNT, numbers, attribute TA|TO PLACE NAME\n", stderr);
+    fputs("usage: imager list|sheet|batch [--room E,A,M,N], items K COUNT, address K, number COPY POSITION.., numbers, "
+          "attribute TA|TO PLACE NAME\n", stderr);
     return 2;
 }
 
@@ -301,13 +330,22 @@ int main(int argc, char **argv)
         free(file.at);
         return 0;
     }
+    uint64_t words[SHEET_ADDRESS_WORDS] = {0};
+    int asks_address = is(mode, "address") && argc == 3 && whole(argv[2], &k);
+    int asks_number = is(mode, "number") && argc > 3 && argc - 2 <= SHEET_ADDRESS_WORDS;
+    for (int i = 2; asks_number && i < argc; i++)
+        asks_number = whole(argv[i], &words[i - 2]);
     int asks_items = is(mode, "items") && argc == 4 && whole(argv[2], &k) && whole(argv[3], &count);
-    if (!asks_items && !(is(mode, "numbers") && argc == 2))
+    if (!asks_items && !asks_address && !asks_number && !(is(mode, "numbers") && argc == 2))
         return usage();
     struct bytes file = all_of(stdin);
     struct store s = read_sheet(file, NULL);
     if (asks_items)
         items(&s, k, count);
+    else if (asks_address)
+        address(&s, k);
+    else if (asks_number)
+        item_number(&s, words);
     else
         numbers(&s);
     give_back(&s);

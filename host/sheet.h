@@ -56,6 +56,7 @@ enum sheet_number {
     SHEET_NO_COMMAND = 22,      /* no command begins at the place asked */
     SHEET_NOT_HELD = 23,        /* attribute name not held there */
     SHEET_OWN_MOVE = 29,        /* in a region, a first D01 without a D02 since its G36; after 11 and before 12 (document 02, [7]) */
+    SHEET_NO_ADDRESS = 32,      /* an address that names nothing (document 02, [12]) */
     SHEET_SHORT = 100           /* the words lent for items do not hold one item; before all else (decision 281) */
 };
 
@@ -80,6 +81,7 @@ enum sheet_kind {
 #define SHEET_APERTURE_WORDS 8
 #define SHEET_MACRO_WORDS 8
 #define SHEET_ITEM_WORDS 15
+#define SHEET_ADDRESS_WORDS 10
 #define SHEET_FILE_LIMIT 16777216
 
 size_t sheet_entry_words(void);
@@ -173,6 +175,23 @@ uint64_t sheet_item(const uint64_t *head, const uint64_t *entries, size_t entrie
  * Answers 0 (slots past the total, and words behind the last whole slot, are 0); or 100, 21, 20, in this order, and zeros. */
 uint64_t sheet_items(const uint64_t *head, const uint64_t *entries, size_t entries_words, const uint64_t *apertures,
                      size_t apertures_words, uint64_t k, uint64_t *items, size_t items_words);
+
+/* Where an item stands, as an operator says it: "copy 212, second block, third item". An address is SHEET_ADDRESS_WORDS words: the copy,
+ * counted from 1 in the order in which the copies are put out, 0 where the top position lies in no SR; then the chain of positions from
+ * the top level through the blocks down to the item, each counted from 1, 0 where it goes unused. A position is one D01 or D03, two
+ * where the D01 starts a contour; at the top level the body of each SR is counted once.
+ *
+ * The address of item k.
+ *   address    SHEET_ADDRESS_WORDS words
+ * Answers 0; or 21, 20, in this order, and zeros. */
+uint64_t sheet_address(const uint64_t *head, const uint64_t *entries, size_t entries_words, const uint64_t *apertures,
+                       size_t apertures_words, uint64_t k, uint64_t *address);
+
+/* The number of the item with an address; this call and the one above undo each other.
+ *   k    one word
+ * Answers 0; or 21, 32, in this order, and 0 in k. */
+uint64_t sheet_item_number(const uint64_t *head, const uint64_t *entries, size_t entries_words, const uint64_t *apertures,
+                           size_t apertures_words, const uint64_t *address, uint64_t *k);
 
 /* The value of an attribute at the command that begins at a place of the file: TA (taken at AD, at an AB opening and at a contour's
  * first D01) or TO.

@@ -28,7 +28,7 @@ while IFS= read -r line; do
     [ -f "crates/$name/src/lib.rt" ] || continue
     grep -q '^ *pub fn\|^ *fn\|extern "C" fn' "crates/$name/src/lib.rt" || continue
     edits=$(find "crates/$name/must-fail" "wrong/$name" -name '*.edit' 2>/dev/null | wc -l)
-    case " attribute signature digest descend reader lists lent host " in *" $name "*) least=2 ;; *) least=1 ;; esac
+    case " attribute signature digest descend reader lists lent address addressing host " in *" $name "*) least=2 ;; *) least=1 ;; esac
     [ "$edits" -ge "$least" ] || fault "$name has $edits must-fail edits, and $least at least are asked"
 done <crates.txt
 

@@ -387,6 +387,44 @@ static void damaged(struct lent *l)
     printf("host: %u damaged stores are sheets of their own, %u are none\n", sheets, none);
 }
 
+/* The layer's addresses, worked out from its text: of its block 12, three flashes of block 11 (three items each), a contour and its three
+ * edges; at the top level a flash of block 12, six copies of a flash, a flash of block 12, a contour and its edge, and a line. */
+static void addresses(const struct lent *l)
+{
+    static const uint64_t known[][1 + SHEET_ADDRESS_WORDS] = {
+        {0, 0, 1, 1, 1}, {4, 0, 1, 2, 2}, {9, 0, 1, 4}, {12, 0, 1, 7}, {13, 1, 2}, {14, 1, 3, 1, 1},
+        {27, 1, 4},      {28, 1, 5},      {29, 2, 2},   {108, 6, 5},   {109, 0, 6},
+    };
+    static const uint64_t nothing[][SHEET_ADDRESS_WORDS] = {
+        {0},          {0, 1},    {0, 1, 8}, {0, 1, 4, 1}, {0, 1, 1, 4}, {0, 2}, {1, 1, 1, 1}, {7, 2},
+        {1, 2, 0, 1}, {0, 6, 1}, {0, 7},    {1, 6},       {0, UINT64_MAX},  {UINT64_MAX, 2},
+    };
+    uint64_t w[SHEET_ADDRESS_WORDS + 1] = {0}, k, total = l->head[7];
+    w[SHEET_ADDRESS_WORDS] = garbage;
+    expect(total == 110, "the layer has 110 items", total);
+    for (size_t i = 0; i < sizeof known / sizeof known[0]; i++) {
+        expect(sheet_address(l->head, l->entries, l->e, l->apertures, l->a, known[i][0], w) == 0, "an item has an address", known[i][0]);
+        expect(memcmp(w, known[i] + 1, SHEET_ADDRESS_WORDS * 8) == 0, "an address is that of the text", known[i][0]);
+    }
+    for (uint64_t n = 0; n < total; n++) {
+        soil(w, SHEET_ADDRESS_WORDS);
+        expect(sheet_address(l->head, l->entries, l->e, l->apertures, l->a, n, w) == 0, "every item has an address", n);
+        expect(sheet_item_number(l->head, l->entries, l->e, l->apertures, l->a, w, &k) == 0 && k == n, "and comes back from it", n);
+    }
+    for (size_t i = 0; i < sizeof nothing / sizeof nothing[0]; i++)
+        expect(sheet_item_number(l->head, l->entries, l->e, l->apertures, l->a, nothing[i], &k) == SHEET_NO_ADDRESS && k == 0,
+               "an address that names nothing is 32", i);
+    soil(w, SHEET_ADDRESS_WORDS);
+    expect(sheet_address(l->head, l->entries, l->e, l->apertures, l->a, total, w) == SHEET_PAST && zeros(w, 0, SHEET_ADDRESS_WORDS),
+           "the total has no address", total);
+    soil(w, SHEET_ADDRESS_WORDS);
+    expect(sheet_address(l->head, l->entries, 0, l->apertures, l->a, 0, w) == SHEET_NOT_SHEET && zeros(w, 0, SHEET_ADDRESS_WORDS),
+           "no sheet, no address", 0);
+    k = garbage;
+    expect(sheet_item_number(l->head, l->entries, 0, l->apertures, l->a, w, &k) == SHEET_NOT_SHEET && k == 0, "no sheet, no item", k);
+    expect(w[SHEET_ADDRESS_WORDS] == garbage, "nothing is written behind an address", 0);
+}
+
 static void ask(int of_aperture, const char *file, size_t place, const char *name, uint64_t number, uint64_t at, uint64_t bytes)
 {
     uint64_t a = garbage, b = garbage, n;
@@ -427,6 +465,7 @@ int main(void)
     struct lent l = read_layer();
     exact_rooms(&l);
     any_order(&l);
+    addresses(&l);
     damaged(&l);
     attributes();
     printf("host: %u tried, %u faults\n", tried, faults);

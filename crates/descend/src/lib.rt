@@ -22,7 +22,7 @@ fn before_at(e: &[u64], i: usize) -> u64
 }
 
 // The last entry of a container that has at most n items before it.
-fn find(e: &[u64], k: Container, n: u64) -> usize
+pub fn find(e: &[u64], k: Container, n: u64) -> usize
     requires { ⌜ (k .first + k .len ≤ entryRoom (now e)) × (0 < k .len) × (entryOf (now e) (k .first) .before ≤ n) ⌝ }
     ensures { λ q. ⌜ Found (now (e .entry)) k n q ⌝ }
 {

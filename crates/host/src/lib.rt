@@ -12,6 +12,8 @@ ghost use Rattle.progress.specs.Lent.{lentOf, roomOf};
 ghost use Rattle.attribute.specs.Attribute.{attributeOf};
 ghost use Rattle.descend.specs.Answers.{totalOf, totalNumber, totalValue, answerOf, answerItem};
 ghost use Rattle.descend.specs.Slots.{itemWords, fetchOf, fetchNumber, fetched};
+ghost use Rattle.address.specs.Answers.{replyOf};
+ghost use Rattle.addressing.specs.Answers.{addressNumber, addressWords};
 ghost use Rattle.host.specs.Calls.{runNumber, itemIn};
 ghost use Rattle.host.specs.Reads.{ReadsInto};
 ghost use Rattle.host.specs.Widths.{ItemsAre, EntriesAre, AperturesAre, MacrosAre};
@@ -75,6 +77,38 @@ pub extern "C" fn sheet_total(
             21
         }
     }
+}
+
+// The address of item k, zeros where there is none.
+#[no_mangle]
+pub extern "C" fn sheet_address(
+    head: &[u64; 8],
+    entries: &[u64],
+    apertures: &[u64],
+    k: u64,
+    address: &mut [u64; 10],
+) -> u64
+    ensures { λ r. ⌜ (r ≡ addressNumber (now (head .entry)) (now (entries .entry)) (now (apertures .entry)) k)
+        × (now (address .exit) ≡ addressWords (now (head .entry)) (now (entries .entry)) (now (apertures .entry)) k) ⌝ }
+{
+    addressing::address_of(head, entries, apertures, k, address)
+}
+
+// The number of the item that an address names, 0 where it names nothing.
+#[no_mangle]
+pub extern "C" fn sheet_item_number(
+    head: &[u64; 8],
+    entries: &[u64],
+    apertures: &[u64],
+    address: &[u64; 10],
+    k: &mut u64,
+) -> u64
+    ensures { λ r. ⌜ (r ≡ replyOf (now (head .entry)) (now (entries .entry)) (now (apertures .entry)) (now (address .entry)) .number)
+        × (now (k .exit) ≡ replyOf (now (head .entry)) (now (entries .entry)) (now (apertures .entry)) (now (address .entry)) .item) ⌝ }
+{
+    let r = address::item_of(head, entries, apertures, address);
+    *k = r.item;
+    r.number
 }
 
 // Document 01's number of a call for a run.

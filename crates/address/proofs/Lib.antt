@@ -1,0 +1,3 @@
+pub mod Zeros
+pub mod Looks
+pub mod Tops

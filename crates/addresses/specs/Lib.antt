@@ -1,0 +1,4 @@
+pub mod Positions
+pub mod Chains
+pub mod Addresses
+pub mod Sought

@@ -1,0 +1,4 @@
+pub mod Words
+pub mod Begins
+pub mod Written
+pub mod Answers
