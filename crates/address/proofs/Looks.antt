@@ -14,7 +14,7 @@ use Rattle.sheet.specs.declared.Container.{Container}
 use Rattle.sheet.specs.declared.Role.{Role}
 use Rattle.sheet.specs.declared.Role.the-variants.{Draws, Uses, Repeats, Defines, Unknown}
 use Rattle.sheet.proofs.Conditions.{entry-use}
-use Rattle.sheet.proofs.Records.{rest-is-drop}
+use Rattle.base.proofs.Lists.{rest-whole}
 use Rattle.sheet.proofs.Every.{sums-grow}
 use Rattle.sheet.proofs.Sound.{rooms, use-under}
 use Rattle.addresses.specs.Positions.{spanAt, spot, Spans}
@@ -153,8 +153,8 @@ down e a k words o q rest b u t =
 
 -- the words behind the first, as a part of a slice
 pub part-words : (w : List ℕ) → 1 ≤ length w → suc (length (take (length w - 1) (drop 1 w))) ≡ length w
-part-words w l = rw (rest-is-drop w 1) (length-rest w l)
+part-words w l = rw (rest-whole w 1) (length-rest w l)
 
 pub part-sought : (e a : List ℕ) (u : Container) (x : ℕ) (w : List ℕ) → 1 ≤ length w → x ≡ getD w 0 0 →
     sought e a (suc (length (take (length w - 1) (drop 1 w)))) u x (take (length w - 1) (drop 1 w)) ≡ sought e a (length w) u (getD w 0 0) (drop 1 w)
-part-sought e a u x w l q = rw (part-words w l, rest-is-drop w 1, q)
+part-sought e a u x w l q = rw (part-words w l, rest-whole w 1, q)

@@ -16,7 +16,7 @@ use Rattle.sheet.specs.declared.Entry.{Entry}
 use Rattle.sheet.specs.declared.Container.{Container}
 use Rattle.sheet.specs.declared.Role.the-variants.{Draws, Uses, Repeats, Defines, Unknown}
 use Rattle.sheet.proofs.Conditions.{entry-use, entry-repeat, copies-count}
-use Rattle.sheet.proofs.Records.{rest-is-drop}
+use Rattle.base.proofs.Lists.{rest-whole}
 use Rattle.sheet.proofs.Every.{sums-grow}
 use Rattle.sheet.proofs.Sound.{rooms, top-sound}
 use Rattle.addresses.specs.Positions.{spanAt, spot}
@@ -190,7 +190,7 @@ module _ (head e a w : List ℕ) where
   top-some m = rw m
 
   pub top-rest : length w ≡ 10 → length (take (length w - 2) (drop 2 w)) ≡ 8
-  top-rest ten = rw (rest-is-drop w 2, length-drop 2 w, ten)
+  top-rest ten = rw (rest-whole w 2, length-drop 2 w, ten)
 
   -- the answers
   pub reply-not : valid head e a ≡ false → record { number = 21; item = 0 } ≡ replyOf head e a w

@@ -14,7 +14,9 @@ use Rattle.text.specs.First.{place}
 use Rattle.text.proofs.First.{first-from, first-to}
 use Rattle.text.specs.Text.{byte}
 use Rattle.command.specs.Choose.{pick}
-use Rattle.tokens.specs.LineEnds.{lineEnd, withoutLeading}
+use Rattle.base.specs.Breaks.{isBreak}
+use Rattle.base.specs.Trimmed.{dropLeading}
+use Rattle.tokens.specs.LineEnds.{withoutLeading}
 use Rattle.tokens.specs.Tokens.{tokenOf, tokens}
 use Rattle.tokens.specs.Words.{numeral, joins, onto, words}
 use Rattle.rounding.specs.Numbers.{counted, isRounded, roundedAmong, roundedNumbers}
@@ -49,9 +51,9 @@ unfolding roundedNumbers tokens
 numbers-few s = omega (arith, among-few (words s), words-few s)
 
 leading-short : (s : List ℕ) → length (withoutLeading s) ≤ length s
-unfolding withoutLeading
+unfolding dropLeading
 leading-short [] = omega arith
-leading-short (b ∷ s) = go (leading-short s) (lineEnd b)
+leading-short (b ∷ s) = go (leading-short s) (isBreak b)
   where
     go : length (withoutLeading s) ≤ length s → (t : Bool) → length {A = ℕ} (elim t [ true ↦ withoutLeading s | false ↦ b ∷ s ]) ≤ suc (length s)
     go h true = omega arith

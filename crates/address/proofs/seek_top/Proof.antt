@@ -1,6 +1,6 @@
 -- `address::seek_top` meets its contract: the entry that holds the position is searched, where there is one.
 use Rattle.sheet.specs.Containers.{topOf}
-use Rattle.sheet.proofs.Records.{rest-is-drop}
+use Rattle.base.proofs.Lists.{rest-whole}
 use Rattle.addresses.specs.Positions.{spanAt, spot}
 use Rattle.addresses.specs.Sought.{misses}
 use Rattle.addresses.proofs.Fitting.{spans-top}
@@ -71,7 +71,7 @@ seek-in-requires c κs =
 returns-2 : tie.Need-returns-2
 returns-2 c =
     let A = c .before .before .before .before .before .before .before .before .before .before .before .before .before .before .args in
-    rw (c .before .before .before .entry-at .ensures, c .before .before .word-at2 .ensures, c .before .before .before .before .before .before .before .before .holder .ensures, c .before .before .before .before .before .before .before .before .before .word-at .ensures, c .before .before .before .before .before .before .before .before .before .before .top-of .ensures, rest-is-drop (A .w .now) 2) at (c .seek-in .ensures)
+    rw (c .before .before .before .entry-at .ensures, c .before .before .word-at2 .ensures, c .before .before .before .before .before .before .before .before .holder .ensures, c .before .before .before .before .before .before .before .before .before .word-at .ensures, c .before .before .before .before .before .before .before .before .before .before .top-of .ensures, rest-whole (A .w .now) 2) at (c .seek-in .ensures)
     ∙ top-some (A .head .now) (A .e .now) (A .a .now) (A .w .now) (sym (missed (c .before .before .before .before .before)) ∙ c .before .before .before .before .if1 .left)
 
 pub seek-top-spec : {M : Type 1} → statement M
