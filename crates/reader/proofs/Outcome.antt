@@ -9,7 +9,6 @@ use lib.ListN.{length, replicate, length-replicate}
 use Rattle.scan.specs.Permitted.{fits}
 use Rattle.commands.specs.Commands.{commandsOf}
 use Rattle.commands.specs.declared.Refusal.{Refusal}
-use Rattle.graphics.specs.declared.Graphics.{Graphics}
 use Rattle.sheet.specs.Records.{entryRoom}
 use Rattle.close.specs.Closed.{headOf, Ended}
 use Rattle.reading.specs.State.{begun}
