@@ -244,7 +244,7 @@ static struct naive_list naive_read(const uint8_t *file, size_t bytes)
 }
 
 /* One pass that looks up a class for every byte and counts the classes. */
-static uint64_t classify(const uint8_t *file, size_t bytes)
+static inline uint64_t classify(const uint8_t *file, size_t bytes)
 {
     static uint8_t class_of[256];
     uint64_t seen[8] = {0}, sum = 0;
