@@ -1,14 +1,13 @@
 /* The sample host: asks the proved reader about a layer file, and prints what it answers.
  *
  *   imager list [--room E,A,M,N]        the listing's lines
- *   imager sheet [--room E,A,M,N]       sheet, unit, total, entries, apertures, macros, numbers used
+ *   imager sheet [--room E,A,M,N]       sheet, unit, total, entries, apertures, macros, numbers used, decimals rounded
  *   imager items K COUNT                the listing's lines of those items
  *   imager address K                    address, the copy of item K and its positions
- *   imager number COPY POSITION..       number, that of the item with this address
+ *   imager number COPY [POSITION..]     number, that of the item with this address; positions not given are 0
  *   imager numbers                      a line for each AD: its aperture, then the numbers kept
  *   imager attribute TA|TO PLACE NAME   attribute, place, length of the value (`attr` answers with attr)
- *   imager batch [--room E,A,M,N]       for each file named on standard input: name, sheet or refusal, hash of its first 2000 lines,
- *                                       decimals rounded
+ *   imager batch [--room E,A,M,N]       for each file named on standard input: name, sheet or refusal, hash of its first 2000 lines
  *
  * The file stands on standard input but for batch; fields are parted by tabs. A refusal prints refused, number and place; of an
  * attribute, refused and number. */
@@ -138,9 +137,11 @@ static void print_sheet(const struct store *s, char part)
         print_refusal(s, part);
         return;
     }
-    printf("sheet%c%s%c%" PRIu64 "%c%" PRIu64 "%c%" PRIu64 "%c%" PRIu64 "%c%" PRIu64, part, s->unit == SHEET_MM ? "mm" : "inch", part,
-           h[SHEET_HEAD_TOTAL], part, h[SHEET_HEAD_ENTRIES], part, h[SHEET_HEAD_APERTURES], part, h[SHEET_HEAD_MACROS], part,
-           h[SHEET_HEAD_NUMBERS]);
+    printf("sheet%c%s", part, s->unit == SHEET_MM ? "mm" : "inch");
+    const uint64_t counts[] = {h[SHEET_HEAD_TOTAL],  h[SHEET_HEAD_ENTRIES], h[SHEET_HEAD_APERTURES],
+                               h[SHEET_HEAD_MACROS], h[SHEET_HEAD_NUMBERS], s->rounded};
+    for (size_t i = 0; i < sizeof counts / sizeof *counts; i++)
+        printf("%c%" PRIu64, part, counts[i]);
 }
 
 /* A refusal's line, for the modes that have nothing else to say then. */
@@ -250,7 +251,7 @@ static void batch_line(const char *name, const struct room *room)
     if (s.number == SHEET_ACCEPTED) {
         uint64_t total = s.head[SHEET_HEAD_TOTAL];
         each_line(&s, 0, total < HASHED ? total : HASHED, hash_line, &hash);
-        printf("\t%016" PRIx64 "\t%" PRIu64 "\n", hash, s.rounded);
+        printf("\t%016" PRIx64 "\n", hash);
     } else {
         printf("\t-\n");
     }
@@ -274,7 +275,7 @@ static void batch(const struct room *room)
 
 static int usage(void)
 {
-    fputs("usage: imager list|sheet|batch [--room E,A,M,N], items K COUNT, address K, number COPY POSITION.., numbers, "
+    fputs("usage: imager list|sheet|batch [--room E,A,M,N], items K COUNT, address K, number COPY [POSITION..], numbers, "
           "attribute TA|TO PLACE NAME\n", stderr);
     return 2;
 }
@@ -332,7 +333,7 @@ int main(int argc, char **argv)
     }
     uint64_t words[SHEET_ADDRESS_WORDS] = {0};
     int asks_address = is(mode, "address") && argc == 3 && whole(argv[2], &k);
-    int asks_number = is(mode, "number") && argc > 3 && argc - 2 <= SHEET_ADDRESS_WORDS;
+    int asks_number = is(mode, "number") && argc > 2 && argc - 2 <= SHEET_ADDRESS_WORDS;
     for (int i = 2; asks_number && i < argc; i++)
         asks_number = whole(argv[i], &words[i - 2]);
     int asks_items = is(mode, "items") && argc == 4 && whole(argv[2], &k) && whole(argv[3], &count);

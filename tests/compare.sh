@@ -1,6 +1,7 @@
 #!/usr/bin/env bash
 # The proved reader against the second one. Through the listing: the cases and the real layers that stand beside the repository, where they
-# do, and generated files. Through the C host's batch: all of these whatever their size, more generated files, and small rooms.
+# do, and generated files. Through the C host's batch: all of these whatever their size, more generated files, and small rooms. Through its
+# other modes, and the program verify: questions about some generated files.
 set -u
 cd "$(dirname "$0")/.." || exit 2
 export CARGO_NET_OFFLINE=true
@@ -8,10 +9,12 @@ made=$PWD/target/second
 cargo build --release --quiet --manifest-path second/Cargo.toml --target-dir "$made" || exit 1
 second=$made/release/second
 mapfile -t listing < <(./run --say listing)
-[ ${#listing[@]} -gt 0 ] || exit 1
+mapfile -t imager < <(./run --say imager)
+mapfile -t verify < <(./run --say verify)
+[ ${#listing[@]} -gt 0 ] && [ ${#imager[@]} -gt 0 ] && [ ${#verify[@]} -gt 0 ] || exit 1
 room=$(mktemp -d)
 trap 'rm -rf "$room"' EXIT
-mkdir "$room/cases" "$room/layers" "$room/generated"
+mkdir "$room/layers" "$room/generated"
 faults=0
 
 # Counts a part whose last line, or only one, must say that none differ.
@@ -20,8 +23,8 @@ tell() { # WHAT LAST-LINE
     case $2 in *", 0 differ") ;; *) faults=$((faults + 1)) ;; esac
 }
 
-# The listing of each file named on standard input, against FILE.expected, or else the second reader's; so many fields of each line.
-by_listing() { # WHAT FIELDS
+# The listing of each file named on standard input, against FILE.expected, or else the second reader's.
+by_listing() { # WHAT
     local file want agree=0 differ=0
     while read -r file; do
         want=${file%.gbr}.expected
@@ -29,7 +32,7 @@ by_listing() { # WHAT FIELDS
             want=$room/want
             "$second" list <"$file" >"$want"
         fi
-        if "${listing[@]}" <"$file" | cut -f "1-$2" | cmp -s - "$want"; then
+        if "${listing[@]}" <"$file" | cmp -s - "$want"; then
             agree=$((agree + 1))
         else
             differ=$((differ + 1))
@@ -43,7 +46,7 @@ by_listing() { # WHAT FIELDS
 by_batch() { # WHAT LIST [--room E,A,M,N]
     local what=$1 list=$2
     shift 2
-    ./run imager batch "$@" <"$list" >"$room/imager"
+    "${imager[@]}" batch "$@" <"$list" >"$room/imager"
     "$second" batch "$@" <"$list" >"$room/second"
     "$second" compare "$room/imager" "$room/second" >"$room/told"
     cut -f 2 "$room/imager" >>"$room/answers"
@@ -51,22 +54,36 @@ by_batch() { # WHAT LIST [--room E,A,M,N]
     tell "$what${*:+, $*}" "$(tail -n 1 "$room/told")"
 }
 
+# What the second reader asks about each file named on standard input, answered by both.
+by_question() { # WHAT
+    local file words program agree=0 differ=0
+    while read -r file; do
+        while read -r -a words; do
+            program=("${imager[@]}" "${words[@]}")
+            [ "${words[0]}" != verify ] || program=("${verify[@]}")
+            "$second" "${words[@]}" <"$file" >"$room/want"
+            if "${program[@]}" <"$file" | cmp -s - "$room/want"; then
+                agree=$((agree + 1))
+            else
+                differ=$((differ + 1))
+                echo "compare: ${words[*]} of $(basename "$file") is not what the second reader answers"
+            fi
+        done < <("$second" questions 7 <"$file")
+    done
+    tell "$1, asked" "$agree agree, $differ differ"
+}
+
 tell "tests/listing, by the second reader" "$("$second" check-cases tests/listing | tail -n 1)"
 
 # What stands beside the repository goes into the room, where it is there.
-beside() { # ARCHIVE FOLDER
-    if [ -f "$1" ]; then
-        tar xzf "$1" -C "$2" || exit 1
-    else
-        echo "compare: no $1, none tried"
-    fi
-}
-beside ../shared/cases/cases.tgz "$room"
-if [ -n "$(ls "$room/cases")" ]; then
-    tests/cases/replace "$room/cases" || faults=$((faults + 1))
+tests/unpack "$room" || exit 1
+layers=../shared/corpus/kicad-layers.tgz
+if [ -f "$layers" ]; then
+    tar xzf "$layers" -C "$room/layers" || exit 1
+else
+    echo "compare: no $layers, none tried"
 fi
-beside ../shared/corpus/kicad-layers.tgz "$room/layers"
-find "$room/cases" -name '*.gbr' | sort >"$room/all_cases"
+find "$room/cases" "$room/cases-02" -name '*.gbr' | sort >"$room/all_cases"
 find "$room/layers" -name '*.gbr' | sort >"$room/all_layers"
 "$second" make 7 4000 "$room/generated"
 find "$room/generated" -name '*.gbr' | sort >"$room/all_generated"
@@ -74,22 +91,20 @@ find "$room/generated" -name '*.gbr' | sort >"$room/all_generated"
 # Every real layer keeps the rules.
 tell "layers, by the second reader" "$("$second" batch <"$room/all_layers" | awk -F '[\t ]' '$2 == "sheet" { n++ } END { print n + 0 " accepted, " NR - n " differ" }')"
 
-# A case without an expected listing is one of questions; most of those have more items than a listing could print. Expected lines have
-# document 01's own fifteen fields; the batches have all sixteen.
-while read -r file; do [ ! -f "${file%.gbr}.expected" ] || echo "$file"; done <"$room/all_cases" | by_listing "cases" 15
-find "$room/layers" -name '*.gbr' -size -65537c | sort | by_listing "layers" 16
+# A case without an expected listing is one of questions; most of those have more items than a listing could print.
+for file in "$room"/cases/*.gbr; do [ ! -f "${file%.gbr}.expected" ] || echo "$file"; done | by_listing "cases"
+find "$room/layers" -name '*.gbr' -size -65537c | sort | by_listing "layers"
 # Generated files of up to 2,000 items.
-head -n 1000 "$room/all_generated" | "$second" batch | awk -F '[\t ]' '$2 == "refused" || $4 <= 2000 { print $1 }' | by_listing "generated" 16
+head -n 1000 "$room/all_generated" | "$second" batch | awk -F '[\t ]' '$2 == "refused" || $4 <= 2000 { print $1 }' | by_listing "generated"
 
-if [ -f host/imager.c ]; then
-    by_batch "cases" "$room/all_cases"
-    by_batch "layers" "$room/all_layers"
-    by_batch "generated" "$room/all_generated"
-    by_batch "generated" "$room/all_generated" --room 3,2,1,4
-    by_batch "generated" "$room/all_generated" --room 8,3,1,10
-    # Files of 16,777,217 bytes are tried elsewhere (1).
-    for number in 2 3 4 5 6 7 8 9 10 11 12 13 14 15 16 17 18 19 29; do
-        grep -q "^refused $number " "$room/answers" || tell "refused with $number" "no file, 1 differ"
-    done
-fi
+by_batch "cases" "$room/all_cases"
+by_batch "layers" "$room/all_layers"
+by_batch "generated" "$room/all_generated"
+by_batch "generated" "$room/all_generated" --room 3,2,1,4
+by_batch "generated" "$room/all_generated" --room 8,3,1,10
+awk 'NR % 80 == 0' "$room/all_generated" | by_question "generated"
+# Files of 16,777,217 bytes are tried elsewhere (1).
+for number in 2 3 4 5 6 7 8 9 10 11 12 13 14 15 16 17 18 19 29; do
+    grep -q "^refused $number " "$room/answers" || tell "refused with $number" "no file, 1 differ"
+done
 [ "$faults" -eq 0 ]

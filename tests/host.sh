@@ -1,7 +1,7 @@
 #!/usr/bin/env bash
 # The calls for a host, from C: tests/host.c, also under AddressSanitizer where it runs; the header from C++, where there is a C++
-# compiler; the sample host against the second reader, on generated files with and without room; and on the cases and layers that
-# stand beside the repository, where they do.
+# compiler; the sample host against the second reader, on generated files with and without room, and on the layers that stand beside the
+# repository, where they do.
 set -eu
 cd "$(dirname "$0")/.."
 made=$PWD/target/host
@@ -47,27 +47,4 @@ if [ -f ../shared/corpus/kicad-layers.tgz ]; then
     tar xzf ../shared/corpus/kicad-layers.tgz -C "$room/layers"
     find "$room/layers" -type f -size -200k | sort >"$room/kicad"
     agree "$room/kicad"
-fi
-
-# The cases' item lines are document 01's own, without the last field (decision 328).
-base() { awk -F '\t' -v OFS='\t' 'NF == 16 && $4 ~ /^(dark|clear)$/ { NF-- } 1'; }
-if [ -f ../shared/cases/cases.tgz ]; then
-    tar xzf ../shared/cases/cases.tgz -C "$room"
-    tests/cases/replace "$room/cases"
-    same=0
-    for file in "$room"/cases/*.gbr; do
-        name=${file%.gbr}
-        # the listing program reads no further than 65,536 bytes, the sample host does
-        if [ -f "$name.expected" ] && [ "$(wc -c <"$file")" -le 65536 ]; then
-            imager list <"$file" | base | cmp -s - "$name.expected" || { echo "host: list differs for $(basename "$name")"; exit 1; }
-            same=$((same + 1))
-        fi
-        for args in "$name".extra*.args; do
-            [ -e "$args" ] || continue
-            read -r -a words <"$args"
-            imager "${words[@]}" <"$file" | base | cmp -s - "${args%.args}.expected" || { echo "host: $(basename "$args") differs"; exit 1; }
-            same=$((same + 1))
-        done
-    done
-    echo "host: $same cases, all as expected"
 fi

@@ -1,5 +1,5 @@
 #!/usr/bin/env bash
-# The second reader: its own tests, and the cases that stand beside the repository, where they do; those are of document 01's own record.
+# The second reader: its own tests, and the cases that stand beside the repository, where they do.
 set -eu
 cd "$(dirname "$0")/.."
 made=$PWD/target/second
@@ -7,15 +7,11 @@ export CARGO_NET_OFFLINE=true
 cargo build --release --quiet --manifest-path second/Cargo.toml --target-dir "$made"
 cargo test --release --quiet --manifest-path second/Cargo.toml --target-dir "$made"
 
-cases=../shared/cases/cases.tgz
-if [ ! -f "$cases" ]; then
-    echo "second: no cases beside the repository, none tried"
-    exit 0
-fi
 room=$(mktemp -d)
 trap 'rm -rf "$room"' EXIT
-tar xzf "$cases" -C "$room"
-tests/cases/replace "$room/cases"
-told=$("$made/release/second" check-cases "$room/cases" --base)
-echo "second: $told"
-case $told in *", 0 differ") ;; *) exit 1 ;; esac
+tests/unpack "$room"
+for folder in cases cases-02; do
+    told=$("$made/release/second" check-cases "$room/$folder")
+    echo "second: $folder: $told"
+    case $told in *", 0 differ") ;; *) exit 1 ;; esac
+done

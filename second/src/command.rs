@@ -297,7 +297,8 @@ impl Command<'_> {
 
     /// How many of its decimals were rounded (document 02, [1]): AD, AM, SR, LR and LS have decimals.
     pub fn rounded(&self) -> u64 {
-        let count = |numbers: &[Number]| numbers.iter().filter(|number| number.is_rounded()).count() as u64;
+        let count =
+            |numbers: &[Number]| numbers.iter().filter(|number| number.is_rounded()).count() as u64;
         match self {
             Command::Rotate(number) | Command::Scale(number) => count(&[*number]),
             Command::RepeatOpen { dx, dy, .. } => count(&[*dx, *dy]),

@@ -16,7 +16,7 @@ const HASHED_ITEMS: u64 = 2000;
 // ---------------------------------------------------------------- batch
 
 /// Per file named in the list: its name, the `sheet` or `refused` line with spaces for tabs, and
-/// the hash of its first item lines and how many decimals were rounded, or `-`.
+/// the hash of its first item lines, or `-`.
 pub fn batch(list: &str, room: Room, out: &mut dyn Write) -> io::Result<()> {
     for name in list.lines().filter(|name| !name.is_empty()) {
         let file = fs::read(name)?;
@@ -27,7 +27,7 @@ pub fn batch(list: &str, room: Room, out: &mut dyn Write) -> io::Result<()> {
 
 fn batch_line(name: &str, file: &[u8], room: Room) -> String {
     let (line, hash) = match read(file, room) {
-        Ok(sheet) => (listing::sheet_line(&sheet), format!("{:016x}\t{}", hash_of_items(&sheet), sheet.rounded)),
+        Ok(sheet) => (listing::sheet_line(&sheet), format!("{:016x}", hash_of_items(&sheet))),
         Err(refusal) => (listing::refusal_line(refusal), String::from("-")),
     };
     format!("{name}\t{}\t{hash}", line.replace('\t', " "))
@@ -125,37 +125,24 @@ impl Tally {
     }
 }
 
-/// All cases of a folder: NAME.expected is the listing of NAME.gbr, NAME.extraK.expected the
-/// answer to NAME.extraK.args. A file agrees when all its answers do. Cases of the base have item
-/// lines without [6]'s field.
-pub fn check_cases(folder: &Path, base: bool, out: &mut dyn Write) -> io::Result<()> {
+/// All cases of a folder: NAME.expected is the answer to NAME.args, or to `list` where there is no
+/// such file. It is about the file that is named like it up to the first point.
+pub fn check_cases(folder: &Path, out: &mut dyn Write) -> io::Result<()> {
     let mut tally = Tally::default();
-    let mut extra: BTreeMap<String, Vec<PathBuf>> = BTreeMap::new();
-    for path in files_of(folder, "args")? {
-        let stem = path.with_extension("").with_extension("");
-        extra.entry(name_of(&stem)).or_default().push(path);
-    }
-    for path in files_of(folder, "gbr")? {
-        let file = fs::read(&path)?;
-        let mut agrees = true;
-        let listing = path.with_extension("expected");
-        if listing.exists() {
-            agrees &= check(&name_of(&path), "list", &file, &listing, base, out)?;
-        }
-        for arguments in extra.remove(&name_of(&path.with_extension(""))).unwrap_or_default() {
-            let words = fs::read_to_string(&arguments)?;
-            let expected = arguments.with_extension("expected");
-            agrees &= check(&name_of(&arguments), &words, &file, &expected, base, out)?;
-        }
-        if agrees {
+    for expected in files_of(folder, "expected")? {
+        let arguments = expected.with_extension("args");
+        let words = match arguments.exists() {
+            true => fs::read_to_string(&arguments)?,
+            false => String::from("list"),
+        };
+        let name = name_of(&expected.with_extension(""));
+        let stem = name.split('.').next().unwrap_or_default();
+        let file = fs::read(folder.join(stem).with_extension("gbr"))?;
+        if check(&name, &words, &file, &fs::read(&expected)?, out)? {
             tally.agree += 1;
         } else {
             tally.differ += 1;
         }
-    }
-    for name in extra.keys() {
-        writeln!(out, "{name}: a question without its file")?;
-        tally.differ += 1;
     }
     tally.write(out)
 }
@@ -164,43 +151,25 @@ fn name_of(path: &Path) -> String {
     path.file_name().unwrap_or_default().to_string_lossy().into_owned()
 }
 
-/// The text, its item lines without their last field.
-fn without_outer(text: &[u8]) -> Vec<u8> {
-    let text = String::from_utf8_lossy(text);
-    let mut lines = String::new();
-    for line in text.lines() {
-        let fields: Vec<&str> = line.split('\t').collect();
-        let is_item = fields.len() == 16 && matches!(fields[3], "dark" | "clear");
-        lines.push_str(&fields[..fields.len() - usize::from(is_item)].join("\t"));
-        lines.push('\n');
-    }
-    lines.into_bytes()
-}
-
 /// Whether the answer is the expected one; if not, both are shown.
 fn check(
     name: &str,
     words: &str,
     file: &[u8],
-    expected: &Path,
-    base: bool,
+    expected: &[u8],
     out: &mut dyn Write,
 ) -> io::Result<bool> {
     let words: Vec<String> = words.split_whitespace().map(String::from).collect();
-    let expected = fs::read(expected)?;
     let mut given = Vec::new();
     match question(&words) {
         Some(question) => answer(&question, file, &mut given)?,
         None => given.extend_from_slice(b"no such question\n"),
     }
-    if base {
-        given = without_outer(&given);
-    }
     if given == expected {
         return Ok(true);
     }
     writeln!(out, "{name}: {}", words.join(" "))?;
-    writeln!(out, "  expected {}", String::from_utf8_lossy(&expected).replace('\n', " | "))?;
+    writeln!(out, "  expected {}", String::from_utf8_lossy(expected).replace('\n', " | "))?;
     writeln!(out, "  given    {}", String::from_utf8_lossy(&given).replace('\n', " | "))?;
     Ok(false)
 }

@@ -2,6 +2,7 @@
 
 use std::io::{self, Write};
 
+use crate::address::Address;
 use crate::command::Unit;
 use crate::scan::Refusal;
 use crate::sheet::{Item, Sheet};
@@ -43,12 +44,13 @@ pub fn sheet_line(sheet: &Sheet) -> String {
     };
     let used = &sheet.used;
     format!(
-        "sheet\t{unit}\t{}\t{}\t{}\t{}\t{}",
+        "sheet\t{unit}\t{}\t{}\t{}\t{}\t{}\t{}",
         sheet.total(),
         used.entries,
         used.apertures,
         used.macros,
-        used.numbers
+        used.numbers,
+        sheet.rounded,
     )
 }
 
@@ -71,6 +73,22 @@ pub fn write_first_items(out: &mut dyn Write, sheet: &Sheet, limit: u64) -> io::
         written.is_ok() && k < limit
     });
     written
+}
+
+/// The address of item k; 20 at or past the total.
+pub fn address_line(sheet: &Sheet, k: u64) -> String {
+    match sheet.address(k) {
+        Some(words) => format!("address\t{}", words.map(|word| word.to_string()).join("\t")),
+        None => refusal_line(Refusal::new(20, 0)),
+    }
+}
+
+/// The number of the item with that address; 32 where it names none.
+pub fn number_line(sheet: &Sheet, address: &Address) -> String {
+    match sheet.number(address) {
+        Some(k) => format!("number\t{k}"),
+        None => refusal_line(Refusal::new(32, 0)),
+    }
 }
 
 /// The lines of items k on, each found by counting; 20 at or past the total.

@@ -1,5 +1,6 @@
 //! The second reader: document 01 read by a program that shares no code with the proved reader.
 
+mod address;
 mod arc;
 mod attribute;
 mod command;
@@ -27,18 +28,20 @@ use std::process::ExitCode;
 const USAGE: &str = "\
 second MODE, with the file on standard input:
   list [--room E,A,M,N] [--limit N] [--long]   the listing; --long reads past 65,536 bytes
-  sheet [--room E,A,M,N]                       unit, total, records and numbers used
+  sheet [--room E,A,M,N]                       unit, total, records and numbers used, decimals rounded
   items K COUNT                                the listing's lines of those items
+  address K                                    the copy of item K and its positions
+  number COPY [POSITION..]                     the number of the item with that address
   numbers                                      the numbers kept, a line per AD
   attribute TA|TO PLACE NAME                   place and length of a value (also: attr)
-  signature                                    the digest, if the file bears it
+  verify                                       the digest, if the file bears it
   questions SEED                               some questions about the file, a line each
 with a list of file names on standard input:
   batch [--room E,A,M,N]                       a line per file: name, sheet or refusal, hash
 on folders and files:
   make SEED COUNT DIR                          writes generated files
   census DIR [--room E,A,M,N]                  how many files are answered with each number
-  check-cases DIR [--base]                     runs the cases of the folder; --base leaves out [6]'s field
+  check-cases DIR                              runs the cases of the folder
   short N                                      every string of up to N bytes: how many, and a hash of the answers
   compare FILE FILE                            two outputs of batch, line by line";
 
@@ -110,10 +113,7 @@ fn run(words: &[String], out: &mut dyn Write) -> io::Result<bool> {
             };
             short::short(longest, out)?;
         }
-        ("check-cases", [folder]) => compare::check_cases(Path::new(folder), false, out)?,
-        ("check-cases", [folder, word]) if word == "--base" => {
-            compare::check_cases(Path::new(folder), true, out)?;
-        }
+        ("check-cases", [folder]) => compare::check_cases(Path::new(folder), out)?,
         ("compare", [first, second]) => {
             compare::compare(&fs::read_to_string(first)?, &fs::read_to_string(second)?, out)?;
         }

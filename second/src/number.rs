@@ -110,7 +110,8 @@ pub fn unsigned_decimal(text: &[u8]) -> Option<Number> {
         return Some(Number::OutOfRange);
     }
     let parts = 10i128.pow(fraction.len() as u32);
-    let exact = (i128::from(value_of(integer)) * parts + i128::from(value_of(fraction))) * i128::from(ONE);
+    let exact =
+        (i128::from(value_of(integer)) * parts + i128::from(value_of(fraction))) * i128::from(ONE);
     let size = rounded_quotient(exact, parts) as i64;
     if size >= LARGEST {
         return Some(Number::OutOfRange);

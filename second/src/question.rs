@@ -2,21 +2,24 @@
 
 use std::io::{self, Write};
 
+use crate::address::{Address, WORDS};
 use crate::attribute::{attribute, Held};
 use crate::listing;
 use crate::md5;
 use crate::rules::read;
 use crate::scan::Refusal;
-use crate::sheet::Room;
+use crate::sheet::{Room, Sheet};
 use crate::signature::signature;
 
 pub enum Question {
     List { room: Room, limit: u64, longest: usize },
     Sheet { room: Room },
     Items { k: u64, count: u64 },
+    Address { k: u64 },
+    Number { address: Address },
     Numbers,
     Attribute { word: String, held: Held, place: usize, name: String },
-    Signature,
+    Verify,
 }
 
 /// The question that the words ask, or nothing.
@@ -29,6 +32,11 @@ pub fn question(words: &[String]) -> Option<Question> {
             [k, count] => Some(Question::Items { k: k.parse().ok()?, count: count.parse().ok()? }),
             _ => None,
         },
+        "address" => match rest {
+            [k] => Some(Question::Address { k: k.parse().ok()? }),
+            _ => None,
+        },
+        "number" => Some(Question::Number { address: address_of(rest)? }),
         "numbers" if rest.is_empty() => Some(Question::Numbers),
         "attribute" | "attr" => match rest {
             [held, place, name] => Some(Question::Attribute {
@@ -39,7 +47,7 @@ pub fn question(words: &[String]) -> Option<Question> {
             }),
             _ => None,
         },
-        "signature" if rest.is_empty() => Some(Question::Signature),
+        "verify" if rest.is_empty() => Some(Question::Verify),
         _ => None,
     }
 }
@@ -76,6 +84,18 @@ fn room_of(text: &str) -> Option<Room> {
     }
 }
 
+/// The copy and as many positions as are given; the others are 0.
+fn address_of(words: &[String]) -> Option<Address> {
+    if words.is_empty() || words.len() > WORDS {
+        return None;
+    }
+    let mut address = [0; WORDS];
+    for (word, text) in address.iter_mut().zip(words) {
+        *word = text.parse().ok()?;
+    }
+    Some(address)
+}
+
 fn held_of(text: &str) -> Option<Held> {
     match text {
         "TA" => Some(Held::Aperture),
@@ -94,11 +114,21 @@ pub fn answer(question: &Question, file: &[u8], out: &mut dyn Write) -> io::Resu
             Ok(sheet) => listing::write_listing(out, &sheet, *limit),
             Err(refusal) => writeln!(out, "{}", listing::refusal_line(refusal)),
         },
-        Question::Sheet { room } => writeln!(out, "{}", sheet_or_refusal(file, *room)),
+        Question::Sheet { room } => {
+            writeln!(out, "{}", line_or_refusal(file, *room, listing::sheet_line))
+        }
         Question::Items { k, count } => match read(file, Room::UNLIMITED) {
             Ok(sheet) => listing::write_items(out, &sheet, *k, *count),
             Err(refusal) => writeln!(out, "{}", listing::refusal_line(refusal)),
         },
+        Question::Address { k } => {
+            let line = |sheet: &Sheet| listing::address_line(sheet, *k);
+            writeln!(out, "{}", line_or_refusal(file, Room::UNLIMITED, line))
+        }
+        Question::Number { address } => {
+            let line = |sheet: &Sheet| listing::number_line(sheet, address);
+            writeln!(out, "{}", line_or_refusal(file, Room::UNLIMITED, line))
+        }
         Question::Numbers => match read(file, Room::UNLIMITED) {
             Ok(sheet) => listing::write_numbers(out, &sheet),
             Err(refusal) => writeln!(out, "{}", listing::refusal_line(refusal)),
@@ -109,16 +139,17 @@ pub fn answer(question: &Question, file: &[u8], out: &mut dyn Write) -> io::Resu
                 Err(number) => writeln!(out, "refused\t{number}"),
             }
         }
-        Question::Signature => match signature(file) {
+        Question::Verify => match signature(file) {
             Ok(digest) => writeln!(out, "signed\t{}", md5::hex(&digest)),
             Err(refusal) => writeln!(out, "{}", listing::refusal_line(refusal)),
         },
     }
 }
 
-fn sheet_or_refusal(file: &[u8], room: Room) -> String {
+/// What is said of an accepted file, or the refusal.
+fn line_or_refusal(file: &[u8], room: Room, line: impl Fn(&Sheet) -> String) -> String {
     match read(file, room) {
-        Ok(sheet) => listing::sheet_line(&sheet),
+        Ok(sheet) => line(&sheet),
         Err(refusal) => listing::refusal_line(refusal),
     }
 }

@@ -212,6 +212,14 @@ impl Body {
         self.entries.push(Entry { before: self.total, source });
         self.total += items;
     }
+
+    /// The index of the entry that holds item k, and the item's number among that entry's, for k
+    /// below the total. It is the last entry with at most k items before it: entries without items
+    /// come before the one that holds item k, or have more before them.
+    pub fn holding(&self, k: u64) -> (usize, u64) {
+        let index = self.entries.partition_point(|entry| entry.before <= k) - 1;
+        (index, k - self.entries[index].before)
+    }
 }
 
 /// An aperture block.
@@ -317,12 +325,8 @@ impl Sheet {
     }
 
     fn item_of(&self, body: &Body, k: u64) -> Item {
-        // The last entry with at most k items before it: entries without items come before the
-        // one that holds item k, or have more before them.
-        let after = body.entries.partition_point(|entry| entry.before <= k);
-        let entry = &body.entries[after - 1];
-        let k = k - entry.before;
-        match &entry.source {
+        let (index, k) = body.holding(k);
+        match &body.entries[index].source {
             Source::Item(item) => *item,
             Source::Block(block, placing) => {
                 self.item_of(&self.blocks[*block].body, k).flashed(placing)

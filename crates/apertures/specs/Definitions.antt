@@ -7,16 +7,18 @@ use lib.Dec.{leb}
 use lib.ListN.{length, drop}
 use lib.Seq.{slice}
 use Rattle.base.specs.Or.{_or_}
-use Rattle.digits.specs.Digits.{isDigit}
-use Rattle.text.specs.First.{first, place}
+use Rattle.digits.specs.Digits.{pastDigits}
+use Rattle.text.specs.First.{place}
 use Rattle.text.specs.Name.{isName}
 use Rattle.text.specs.Text.{_begins_}
-use Rattle.command.specs.Choose.{pick}
+use Rattle.base.specs.Choose.{pick}
 use Rattle.command.specs.Numbers.{judged, apertureNumber}
 use Rattle.command.specs.Span.{span}
 use Rattle.command.specs.declared.Number.{Number}
 use Rattle.command.specs.declared.Command.{Command}
-use Rattle.command.specs.declared.Command.the-variants.{NotForm, Aperture}
+use Rattle.command.specs.declared.Command.the-variants.{Define}
+use Rattle.command.specs.declared.Definition.the-variants.{Aperture}
+use Rattle.command.specs.Flaws.{notForm}
 use Rattle.apertures.specs.Parameters.{parametersOf}
 use Rattle.apertures.specs.declared.Parameters.{Parameters}
 
@@ -26,10 +28,10 @@ definition s p q =
     let n : Number = apertureNumber (slice 3 p s) in
     let ps : Parameters = parametersOf (drop q s) in
     judged (n .formless or not (isName (slice p q s)) or ps .formless) (n .long or ps .long or leb 65 (ps .count))
-    (Aperture (n .value) (span p q) (span q (length s)) (ps .count))
+    (Define (Aperture (n .value) (span p q) (span q (length s)) (ps .rounded)))
 
 -- the number ends at the first byte that is no digit, the name at the comma
 unfoldable pub apertureOf : List ℕ → Command
 apertureOf s =
-    let p : ℕ = first (λ b. not (isDigit b)) s 3 in
-    pick (s begins "ADD") (definition s p (place (code ",") s p)) NotForm
+    let p : ℕ = pastDigits s 3 in
+    pick (s begins "ADD") (definition s p (place (code ",") s p)) notForm

@@ -1,21 +1,22 @@
 // Commands that make apertures: AD and AB. Their text is that of one data block, without its `*`.
 ghost use mathlib.Core.Path.{_≡_};
-ghost use mathlib.Core.Bool.{not};
 ghost use lib.ListN.{drop};
-ghost use Rattle.digits.specs.Digits.{isDigit};
-ghost use Rattle.text.specs.First.{first};
 ghost use Rattle.apertures.specs.Blocks.{blockStart, blockOf};
 ghost use Rattle.apertures.specs.Definitions.{definition, apertureOf};
 ghost use Rattle.apertures.specs.Parameters.{parametersOf};
+use command::Bracket;
 use command::Command;
+use command::Definition;
+use command::Flaw;
 use command::Size;
 use command::Span;
 
-// The parameters of an AD: whether one is no decimal, whether one is too long, and how many there are.
+// The parameters of an AD: whether one is no decimal, whether one is too long, how many there are, and how many were rounded.
 pub struct Parameters {
     pub formless: bool,
     pub long: bool,
     pub count: usize,
+    pub rounded: usize,
 }
 
 // `ABD` and what follows it.
@@ -23,7 +24,11 @@ fn block_start(t: &[u8]) -> Command
     ensures { λ r. ⌜ r ≡ blockStart (now (t .entry)) ⌝ }
 {
     let n = command::aperture_number(t);
-    command::judged(n.formless, n.long, Command::BlockStart(n.value))
+    command::judged(
+        n.formless,
+        n.long,
+        Command::Contain(Bracket::BlockStart(n.value)),
+    )
 }
 
 // AB.
@@ -31,27 +36,12 @@ pub fn block_of(s: &[u8]) -> Command
     ensures { λ r. ⌜ r ≡ blockOf (now (s .entry)) ⌝ }
 {
     if text::is(s, b"AB") {
-        return Command::BlockEnd;
+        return Command::Contain(Bracket::BlockEnd);
     }
     if text::begins(s, b"ABD") {
         return block_start(base::from_on(s, 3));
     }
-    Command::NotForm
-}
-
-// The first place from `from` on that holds no digit.
-fn digits_end(s: &[u8], from: usize) -> usize
-    ensures { λ r. ⌜ r ≡ first (λ b. not (isDigit b)) (now (s .entry)) from ⌝ }
-{
-    let mut at = from;
-    while at < s.len() {
-        if digits::is_digit(s[at]) {
-            at += 1;
-        } else {
-            return at;
-        }
-    }
-    at
+    Command::Broken(Flaw::NotForm)
 }
 
 // The parameters of an AD, from the comma on.
@@ -61,6 +51,7 @@ fn parameters_of(s: &[u8], comma: usize) -> Parameters
     let mut formless = false;
     let mut long = false;
     let mut count: usize = 0;
+    let mut rounded: usize = 0;
     let mut at = comma;
     while at < s.len() {
         let next = text::find(s, at + 1, b'X');
@@ -68,12 +59,14 @@ fn parameters_of(s: &[u8], comma: usize) -> Parameters
         formless = base::either(formless, d.formless);
         long = base::either(long, d.long);
         count += 1;
+        rounded += command::counted(d.rounded);
         at = next;
     }
     Parameters {
         formless,
         long,
         count,
+        rounded,
     }
 }
 
@@ -94,12 +87,12 @@ fn defined(s: &[u8], p: usize, q: usize) -> Command
     command::judged(
         formless,
         long,
-        Command::Aperture {
+        Command::Define(Definition::Aperture {
             number: n.value,
             name,
             parameters,
-            count: ps.count,
-        },
+            rounded: ps.rounded,
+        }),
     )
 }
 
@@ -108,9 +101,9 @@ pub fn aperture_of(s: &[u8]) -> Command
     ensures { λ r. ⌜ r ≡ apertureOf (now (s .entry)) ⌝ }
 {
     if text::begins(s, b"ADD") {
-        let p = digits_end(s, 3);
+        let p = digits::past_digits(s, 3);
         let q = text::find(s, p, b',');
         return defined(s, p, q);
     }
-    Command::NotForm
+    Command::Broken(Flaw::NotForm)
 }

@@ -6,7 +6,7 @@ use mathlib.Core.Bool.{true, false}
 use mathlib.Core.List.{List, [], _∷_}
 use lib.Dec.{eqb}
 use Rattle.text.specs.Text.{_is_}
-use Rattle.command.specs.Choose.{pick, choose}
+use Rattle.base.specs.Choose.{pick, choose}
 use Rattle.commands.specs.Commands.{Sequence, commandsOf}
 use Rattle.commands.specs.declared.Placed.{Placed}
 use Rattle.sayings.specs.Regions.{regionAfter, beginsContour}

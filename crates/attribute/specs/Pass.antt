@@ -2,7 +2,7 @@
 use Prim.Native.Nat.{ℕ}
 use mathlib.Core.List.{List}
 use lib.Dec.{eqb}
-use Rattle.command.specs.Choose.{pick}
+use Rattle.base.specs.Choose.{pick}
 use Rattle.commands.specs.declared.Placed.{Placed}
 use Rattle.attribute.specs.Attribute.{refused, answerAt}
 use Rattle.attribute.specs.declared.Answer.{Answer}

@@ -10,18 +10,13 @@ use Rattle.base.specs.And.{_and_}
 use Rattle.text.specs.First.{place}
 use Rattle.text.specs.Name.{isName}
 use Rattle.text.specs.Text.{_is_, _begins_}
-use Rattle.command.specs.Choose.{pick, choose}
+use Rattle.base.specs.Choose.{pick, choose}
 use Rattle.command.specs.Span.{span}
 use Rattle.command.specs.declared.Span.{Span}
 use Rattle.command.specs.declared.Command.{Command}
-use Rattle.command.specs.declared.Command.the-variants.{
-  NotForm,
-  FileAttribute,
-  ApertureAttribute,
-  ObjectAttribute,
-  Delete,
-  DeleteAll,
-}
+use Rattle.command.specs.declared.Command.the-variants.{Attribute}
+use Rattle.command.specs.declared.Deed.the-variants.{SetFile, SetAperture, SetObject, Delete, DeleteAll}
+use Rattle.command.specs.Flaws.{notForm}
 
 -- the bytes after the name's comma, in a text of this length; at 0 to 0 without one
 unfoldable pub valueOf : ℕ → ℕ → Span
@@ -35,18 +30,18 @@ attributeOf s =
     let value : Span = valueOf comma (length s) in
     pick (isName (slice 2 comma s))
     (choose
-    ((s begins "TF", FileAttribute name value)
-    ∷ (s begins "TA", ApertureAttribute name value)
-    ∷ (s begins "TO", ObjectAttribute name value)
+    ((s begins "TF", Attribute (SetFile name value))
+    ∷ (s begins "TA", Attribute (SetAperture name value))
+    ∷ (s begins "TO", Attribute (SetObject name value))
     ∷ [])
-    NotForm)
-    NotForm
+    notForm)
+    notForm
 
 -- `TD` alone, or with a name
 unfoldable pub deletionOf : List ℕ → Command
 deletionOf s =
     choose
-    ((s is "TD", DeleteAll)
-    ∷ (s begins "TD" and isName (drop 2 s), Delete (span 2 (length s)))
+    ((s is "TD", Attribute DeleteAll)
+    ∷ (s begins "TD" and isName (drop 2 s), Attribute (Delete (span 2 (length s))))
     ∷ [])
-    NotForm
+    notForm

@@ -3,6 +3,8 @@ ghost use mathlib.Core.Path.{_≡_};
 ghost use lib.ListN.{length};
 ghost use Rattle.attributes.specs.Attributes.{valueOf, attributeOf, deletionOf};
 use command::Command;
+use command::Deed;
+use command::Flaw;
 use command::Span;
 
 // What follows the comma, at 0 to 0 where there is none.
@@ -25,13 +27,21 @@ pub fn attribute_of(s: &[u8]) -> Command
     let comma = text::find(s, 2, b',');
     let name = Span { from: 2, to: comma };
     let value = value_of(s, comma);
-    let object = Command::ObjectAttribute { name, value };
-    let to = command::pick(text::begins(s, b"TO"), object, Command::NotForm);
-    let aperture = Command::ApertureAttribute { name, value };
+    let object = Command::Attribute(Deed::SetObject { name, value });
+    let to = command::pick(
+        text::begins(s, b"TO"),
+        object,
+        Command::Broken(Flaw::NotForm),
+    );
+    let aperture = Command::Attribute(Deed::SetAperture { name, value });
     let ta = command::pick(text::begins(s, b"TA"), aperture, to);
-    let file = Command::FileAttribute { name, value };
+    let file = Command::Attribute(Deed::SetFile { name, value });
     let tf = command::pick(text::begins(s, b"TF"), file, ta);
-    command::pick(text::is_name(base::part(s, 2, comma)), tf, Command::NotForm)
+    command::pick(
+        text::is_name(base::part(s, 2, comma)),
+        tf,
+        Command::Broken(Flaw::NotForm),
+    )
 }
 
 // TD.
@@ -39,12 +49,16 @@ pub fn deletion_of(s: &[u8]) -> Command
     ensures { λ r. ⌜ r ≡ deletionOf (now (s .entry)) ⌝ }
 {
     if text::is(s, b"TD") {
-        return Command::DeleteAll;
+        return Command::Attribute(Deed::DeleteAll);
     }
     let named = base::both(text::begins(s, b"TD"), text::is_name(base::from_on(s, 2)));
     let name = Span {
         from: 2,
         to: s.len(),
     };
-    command::pick(named, Command::Delete { name }, Command::NotForm)
+    command::pick(
+        named,
+        Command::Attribute(Deed::Delete { name }),
+        Command::Broken(Flaw::NotForm),
+    )
 }

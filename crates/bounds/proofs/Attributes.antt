@@ -7,22 +7,22 @@ use lib.Dec.{eqb}
 use Rattle.text.specs.Text.{text}
 use Rattle.text.proofs.First.{first-from, first-to}
 use Rattle.attributes.specs.Attributes.{attributeOf, deletionOf}
-use Rattle.bounds.specs.Bounded.{Bounded}
+use Rattle.bounds.specs.Bounded.{DeedBounded, Bounded}
 use Rattle.bounds.proofs.Tables.{picks, begins-long}
 
 module _ (s : List ℕ) where
   pub attribute-bounded : Bounded s (attributeOf s)
-  unfolding attributeOf Bounded
+  unfolding attributeOf Bounded DeedBounded
   attribute-bounded =
-      picks s _ _ _
-      (λ named. picks s _ _ _
+      picks (Bounded s)
+      (λ named. picks (Bounded s)
       (λ e. record {
         ordered = first-from (λ x. eqb x (code ",")) s 2;
         inside = first-to (λ x. eqb x (code ",")) s 2 (begins-long s (text "TF") e);
       })
-      (picks s _ _ _ (λ e. tt) (picks s _ _ _ (λ e. tt) tt)))
+      (picks (Bounded s) (λ e. tt) (picks (Bounded s) (λ e. tt) tt)))
       tt
 
   pub deletion-bounded : Bounded s (deletionOf s)
-  unfolding deletionOf Bounded
-  deletion-bounded = picks s _ _ _ (λ e. tt) (picks s _ _ _ (λ e. tt) tt)
+  unfolding deletionOf Bounded DeedBounded
+  deletion-bounded = picks (Bounded s) (λ e. tt) (picks (Bounded s) (λ e. tt) tt)

@@ -9,10 +9,14 @@ use Rattle.text.specs.First.{place}
 use Rattle.scan.specs.declared.Kind.{Kind}
 use Rattle.scan.specs.declared.Kind.the-variants as kind
 use Rattle.command.specs.declared.Command.{Command}
-use Rattle.command.specs.declared.Command.the-variants as command
+use Rattle.command.specs.declared.Command.the-variants.{Broken, Note, End, Set, Operate, Select, Define, Contain, Attribute}
+use Rattle.command.specs.declared.Definition.{Definition}
+use Rattle.command.specs.declared.Definition.the-variants as definition
+use Rattle.command.specs.declared.Deed.{Deed}
+use Rattle.command.specs.declared.Deed.the-variants as deed
 use Rattle.command.specs.declared.Span.{Span}
 use Rattle.recognise.specs.Commands.{dataOf, extendedOf, commandOf}
-use Rattle.bounds.specs.Bounded.{Lies, Bounded}
+use Rattle.bounds.specs.Bounded.{Lies, DefinitionBounded, DeedBounded, Bounded}
 use Rattle.bounds.proofs.Tables.{picks}
 use Rattle.bounds.proofs.Words.{word-bounded}
 use Rattle.bounds.proofs.Settings.{format-bounded, unit-bounded, repeat-bounded, transformation-bounded}
@@ -25,57 +29,46 @@ module _ (t s : List ℕ) (h : length t ≤ length s) where
   lies : (p : Span) → Lies t p → Lies s p
   lies p k = record { ordered = k .ordered; inside = omega (arith, k .inside) }
 
+  longer-definition : (d : Definition) → DefinitionBounded t d → DefinitionBounded s d
+  unfolding DefinitionBounded
+  longer-definition (definition.Aperture n name ps rounded) k = record { number = k .number; named = lies name (k .named); given = lies ps (k .given) }
+  longer-definition (definition.Macro name blocks deep rounded) k = record { ordered = k .ordered; behind = k .behind; inside = omega (arith, k .inside) }
+
+  longer-deed : (d : Deed) → DeedBounded t d → DeedBounded s d
+  unfolding DeedBounded
+  longer-deed (deed.SetFile name value) k = lies name k
+  longer-deed (deed.SetAperture name value) k = k
+  longer-deed (deed.SetObject name value) k = k
+  longer-deed (deed.Delete name) k = k
+  longer-deed deed.DeleteAll k = k
+
   longer : (c : Command) → Bounded t c → Bounded s c
   unfolding Bounded
-  longer command.NotForm k = k
-  longer command.TooLong k = k
-  longer command.Comment k = k
-  longer command.Linear k = k
-  longer command.Clockwise k = k
-  longer command.Counterclockwise k = k
-  longer command.MultiQuadrant k = k
-  longer command.RegionStart k = k
-  longer command.RegionEnd k = k
-  longer command.End k = k
-  longer (command.Select n) k = k
-  longer (command.Draw x y o) k = k
-  longer (command.Move x y) k = k
-  longer (command.Flash x y) k = k
-  longer (command.Format n) k = k
-  longer command.Millimetres k = k
-  longer command.Inches k = k
-  longer command.Dark k = k
-  longer command.Clear k = k
-  longer (command.Mirror x y) k = k
-  longer (command.Rotation a) k = k
-  longer (command.Scale a) k = k
-  longer (command.Aperture n name ps count) k = record { number = k .number; named = lies name (k .named); given = lies ps (k .given) }
-  longer (command.Macro name blocks deep) k = record { ordered = k .ordered; behind = k .behind; inside = omega (arith, k .inside) }
-  longer (command.BlockStart n) k = k
-  longer command.BlockEnd k = k
-  longer (command.RepeatStart nx ny dx dy) k = k
-  longer command.RepeatEnd k = k
-  longer (command.FileAttribute name value) k = lies name k
-  longer (command.ApertureAttribute name value) k = k
-  longer (command.ObjectAttribute name value) k = k
-  longer (command.Delete name) k = k
-  longer command.DeleteAll k = k
+  longer (Broken flaw) k = k
+  longer Note k = k
+  longer End k = k
+  longer (Set a) k = k
+  longer (Operate o) k = k
+  longer (Select n) k = k
+  longer (Define d) k = longer-definition d k
+  longer (Contain b) k = k
+  longer (Attribute d) k = longer-deed d k
 
 data-bounded : (s : List ℕ) → Bounded s (dataOf s)
 unfolding dataOf
 data-bounded s =
-    picks s _ _ _ (λ e. format-bounded s)
-    (picks s _ _ _ (λ e. unit-bounded s)
-    (picks s _ _ _ (λ e. aperture-bounded s)
-    (picks s _ _ _ (λ e. block-bounded s)
-    (picks s _ _ _ (λ e. repeat-bounded s)
-    (picks s _ _ _ (λ e. transformation-bounded s) (picks s _ _ _ (λ e. deletion-bounded s) (attribute-bounded s)))))))
+    picks (Bounded s) (λ e. format-bounded s)
+    (picks (Bounded s) (λ e. unit-bounded s)
+    (picks (Bounded s) (λ e. aperture-bounded s)
+    (picks (Bounded s) (λ e. block-bounded s)
+    (picks (Bounded s) (λ e. repeat-bounded s)
+    (picks (Bounded s) (λ e. transformation-bounded s) (picks (Bounded s) (λ e. deletion-bounded s) (attribute-bounded s)))))))
 
 extended-bounded : (s : List ℕ) → Bounded s (extendedOf s)
 unfolding extendedOf Bounded
 extended-bounded s =
     let star : ℕ = place (code "*") s 0 in
-    picks s _ _ _
+    picks (Bounded s)
     (λ e. longer (take star s) s (omega (arith, length-take star s)) (dataOf (take star s)) (data-bounded (take star s)))
     tt
 

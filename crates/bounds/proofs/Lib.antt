@@ -8,3 +8,4 @@ pub mod Apertures
 pub mod Attributes
 pub mod Macros
 pub mod Bounds
+pub mod Rounded

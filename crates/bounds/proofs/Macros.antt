@@ -13,13 +13,13 @@ use Rattle.text.specs.First.{place}
 use Rattle.text.proofs.First.{first-from}
 use Rattle.tokens.specs.LineEnds.{withoutTrailing}
 use Rattle.form.specs.Macro.{headed, macroOf}
-use Rattle.bounds.specs.Bounded.{Bounded}
+use Rattle.bounds.specs.Bounded.{DefinitionBounded, Bounded}
 use Rattle.bounds.proofs.Tables.{picks, judges}
 
 module _ (s : List ℕ) where
   headed-bounded : (t u : List ℕ) (q : ℕ) → 2 ≤ q → q < length u → length u ≤ length s → Bounded s (headed t u q)
-  unfolding headed Bounded
-  headed-bounded t u q h k l = judges s _ _ _ (λ formed short. record { ordered = h; behind = omega arith; inside = l })
+  unfolding headed Bounded DefinitionBounded
+  headed-bounded t u q h k l = judges (Bounded s) tt tt (λ formed short. record { ordered = h; behind = omega arith; inside = l })
 
   pub macro-bounded : Bounded s (macroOf s)
   unfolding macroOf Bounded
@@ -27,5 +27,5 @@ module _ (s : List ℕ) where
       let t : List ℕ = withoutTrailing s in
       let u : List ℕ = take (length t - 1) t in
       let q : ℕ = place (code "*") u 2 in
-      picks s _ _ _ (λ e. headed-bounded t u q (first-from (λ x. eqb x (code "*")) u 2) (ltb-true q (length u) e)
+      picks (Bounded s) (λ e. headed-bounded t u q (first-from (λ x. eqb x (code "*")) u 2) (ltb-true q (length u) e)
       (omega (arith, length-take (length t - 1) t, trailing-short isBreak s))) tt

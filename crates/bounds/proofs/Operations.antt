@@ -1,6 +1,6 @@
 -- D01, D02 and D03: no field is larger than 10 ^ 12, since none has more than 12 digits.
 -- Assumes nothing.
-use Prim.Native.Nat.{ℕ, _^_, _≤_}
+use Prim.Native.Nat.{ℕ, _+_, _^_, _≤_}
 use mathlib.Core.Path.{_≡_, refl}
 use mathlib.Core.Bool.{Bool, true, false, cond}
 use mathlib.Core.List.{List}
@@ -8,21 +8,22 @@ use native.Mathlib.Omega.{arith}
 use lib.Dec.{eqb}
 use lib.IntN.{natAbs}
 use lib.ListN.{getD}
-use lib.Seq.{slice}
 use Rattle.points.specs.Points.{Within}
-use Rattle.digits.specs.Coordinate.{coordinateOf}
+use Rattle.digits.specs.Coordinate.{coordinateOf, coordinateAt}
 use Rattle.digits.specs.declared.answers.Coordinate.{Coordinate}
 use Rattle.digits.specs.declared.answers.Coordinate.the-variants as coordinate
+use Rattle.digits.specs.declared.answers.Taken.{Taken}
 use Rattle.digits.proofs.Sizes.{coordinate-size}
 use Rattle.command.specs.declared.Axis.the-variants as axis
-use Rattle.operations.specs.Coordinates.{digitLimit, fieldEnd, given, missing, fieldOf, fieldsIn, fieldsOf}
+use Rattle.operations.specs.Coordinates.{digitLimit, given, missing, fieldAt, fieldsIn, fieldsOf}
 use Rattle.operations.specs.Operations.{axisOf, offsetOf as offsetIn, draw, drawOf, plain, moveOf, flashOf}
 use Rattle.operations.specs.declared.Field.{Field}
 use Rattle.operations.specs.declared.Fields.{Fields}
+use Rattle.operations.specs.declared.TakenField.{TakenField}
 use Rattle.operations.proofs.Limit.{limit-small}
 use Rattle.graphics.specs.Graphics.{origin}
 use Rattle.fits.specs.Fits.{offsetOf}
-use Rattle.bounds.specs.Bounded.{AxisWithin, Goes, Bounded}
+use Rattle.bounds.specs.Bounded.{AxisWithin, Goes, OperationBounded, Bounded}
 use Rattle.bounds.proofs.Tables.{judges}
 
 -- a field's value, which is 0 without one
@@ -44,21 +45,24 @@ given-near t limit h = go (coordinateOf t limit) refl
     go coordinate.TooLong e = record { near = omega arith }
     go (coordinate.Value v) e = record { near = omega (arith, coordinate-size t limit v h e) }
 
-field-near : (limit letter : ℕ) (s : List ℕ) → limit ≤ 12 → Near (fieldOf limit letter s)
-unfolding fieldOf missing
-field-near limit letter s h = go (eqb (getD s 0 0) letter)
+field-near : (limit letter : ℕ) (s : List ℕ) (at : ℕ) → limit ≤ 12 → Near (fieldAt limit letter s at .field)
+unfolding fieldAt coordinateAt missing
+field-near limit letter s at h = go (eqb (getD s at 0) letter)
   where
-    go : (t : Bool) → Near (cond t (given (coordinateOf (slice 1 (fieldEnd letter s) s) limit)) missing)
+    taken : Taken
+    taken = coordinateAt s (at + 1) limit
+
+    go : (t : Bool) → Near (cond {A = TakenField} t (record { field = given (taken .coordinate); next = taken .next }) (record { field = missing; next = at }) .field)
     go true = given-near _ limit h
     go false = record { near = omega arith }
 
 fields-near : (n : ℕ) (s : List ℕ) → AllNear (fieldsOf n s)
 unfolding fieldsOf fieldsIn
 fields-near n s = record {
-  x = field-near (digitLimit n) _ _ (limit-small n);
-  y = field-near (digitLimit n) _ _ (limit-small n);
-  i = field-near (digitLimit n) _ _ (limit-small n);
-  j = field-near (digitLimit n) _ _ (limit-small n);
+  x = field-near (digitLimit n) _ _ _ (limit-small n);
+  y = field-near (digitLimit n) _ _ _ (limit-small n);
+  i = field-near (digitLimit n) _ _ _ (limit-small n);
+  j = field-near (digitLimit n) _ _ _ (limit-small n);
 }
 
 axis-within : (f : Field) → Near f → AxisWithin (axisOf f)
@@ -82,16 +86,16 @@ offset-within f h = go (f .i .given) refl
 
 module _ (n : ℕ) (s : List ℕ) where
   pub draw-bounded : Bounded s (drawOf n s)
-  unfolding drawOf draw Bounded
-  draw-bounded = judges s _ _ _ (λ formed short. record {
+  unfolding drawOf draw Bounded OperationBounded
+  draw-bounded = judges (Bounded s) tt tt (λ formed short. record {
     goes = goes (fieldsOf n s) (fields-near n s);
     centre = offset-within (fieldsOf n s) (fields-near n s);
   })
 
   pub move-bounded : Bounded s (moveOf n s)
-  unfolding moveOf plain Bounded
-  move-bounded = judges s _ _ _ (λ formed short. goes (fieldsOf n s) (fields-near n s))
+  unfolding moveOf plain Bounded OperationBounded
+  move-bounded = judges (Bounded s) tt tt (λ formed short. goes (fieldsOf n s) (fields-near n s))
 
   pub flash-bounded : Bounded s (flashOf n s)
-  unfolding flashOf plain Bounded
-  flash-bounded = judges s _ _ _ (λ formed short. goes (fieldsOf n s) (fields-near n s))
+  unfolding flashOf plain Bounded OperationBounded
+  flash-bounded = judges (Bounded s) tt tt (λ formed short. goes (fieldsOf n s) (fields-near n s))

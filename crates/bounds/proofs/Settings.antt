@@ -17,7 +17,7 @@ use Rattle.text.specs.Name.{range}
 use Rattle.settings.specs.Header.{formatOf, unitOf}
 use Rattle.settings.specs.Repeats.{repeats, repeatStart, repeatOf}
 use Rattle.settings.specs.Transformations.{rotationOf, scaleOf, mirrorOf, transformationOf}
-use Rattle.bounds.specs.Bounded.{Bounded}
+use Rattle.bounds.specs.Bounded.{SettingBounded, BracketBounded, Bounded}
 use Rattle.bounds.proofs.Tables.{picks, judges}
 use Rattle.bounds.proofs.Numbers.{copies-most, size-small}
 
@@ -29,19 +29,19 @@ module _ (s : List ℕ) where
       omega (arith, leb-true n (code "6") r)
 
   pub format-bounded : Bounded s (formatOf s)
-  unfolding formatOf Bounded
-  format-bounded = picks s _ _ _ (six-at-most (getD s 5 0) _) tt
+  unfolding formatOf Bounded SettingBounded
+  format-bounded = picks (Bounded s) (six-at-most (getD s 5 0) _) tt
 
   pub unit-bounded : Bounded s (unitOf s)
-  unfolding unitOf Bounded
-  unit-bounded = picks s _ _ _ (λ e. tt) (picks s _ _ _ (λ e. tt) tt)
+  unfolding unitOf Bounded SettingBounded
+  unit-bounded = picks (Bounded s) (λ e. tt) (picks (Bounded s) (λ e. tt) tt)
 
   start-bounded : (x : List ℕ) → Bounded s (repeatStart x)
-  unfolding repeatStart repeats Bounded
+  unfolding repeatStart repeats Bounded BracketBounded
   start-bounded x =
       let y : List ℕ = after "Y" x in
       let i : List ℕ = after "I" y in
-      judges s _ _ _ (λ formed short. record {
+      judges (Bounded s) tt tt (λ formed short. record {
         columns = copies-most (before "Y" x);
         rows = copies-most (before "I" y);
         across = omega (arith, size-small (before "J" i));
@@ -49,26 +49,26 @@ module _ (s : List ℕ) where
       })
 
   pub repeat-bounded : Bounded s (repeatOf s)
-  unfolding repeatOf Bounded
-  repeat-bounded = picks s _ _ _ (λ e. tt) (picks s _ _ _ (λ e. start-bounded (drop 3 s)) tt)
+  unfolding repeatOf Bounded BracketBounded
+  repeat-bounded = picks (Bounded s) (λ e. tt) (picks (Bounded s) (λ e. start-bounded (drop 3 s)) tt)
 
   rotation-bounded : Bounded s (rotationOf s)
-  unfolding rotationOf Bounded
-  rotation-bounded = judges s _ _ _ (λ formed short. size-small (drop 2 s))
+  unfolding rotationOf Bounded SettingBounded
+  rotation-bounded = judges (Bounded s) tt tt (λ formed short. size-small (drop 2 s))
 
   scale-bounded : Bounded s (scaleOf s)
-  unfolding scaleOf Bounded
-  scale-bounded = judges s _ _ _ (λ formed short. size-small (drop 2 s))
+  unfolding scaleOf Bounded SettingBounded
+  scale-bounded = judges (Bounded s) tt tt (λ formed short. size-small (drop 2 s))
 
   mirror-bounded : Bounded s (mirrorOf s)
-  unfolding mirrorOf Bounded
+  unfolding mirrorOf Bounded SettingBounded
   mirror-bounded =
-      picks s _ _ _ (λ e. tt) (picks s _ _ _ (λ e. tt) (picks s _ _ _ (λ e. tt) (picks s _ _ _ (λ e. tt) tt)))
+      picks (Bounded s) (λ e. tt) (picks (Bounded s) (λ e. tt) (picks (Bounded s) (λ e. tt) (picks (Bounded s) (λ e. tt) tt)))
 
   pub transformation-bounded : Bounded s (transformationOf s)
-  unfolding transformationOf Bounded
+  unfolding transformationOf Bounded SettingBounded
   transformation-bounded =
-      picks s _ _ _ (λ e. tt)
-      (picks s _ _ _ (λ e. tt)
-      (picks s _ _ _ (λ e. mirror-bounded)
-      (picks s _ _ _ (λ e. rotation-bounded) (picks s _ _ _ (λ e. scale-bounded) tt))))
+      picks (Bounded s) (λ e. tt)
+      (picks (Bounded s) (λ e. tt)
+      (picks (Bounded s) (λ e. mirror-bounded)
+      (picks (Bounded s) (λ e. rotation-bounded) (picks (Bounded s) (λ e. scale-bounded) tt))))

@@ -9,22 +9,22 @@ use lib.ListN.{length, take, length-take}
 use Rattle.base.specs.Bytes.{sameBytes}
 use Rattle.base.specs.Or.{_or_}
 use Rattle.base.proofs.Lists.{same-is}
-use Rattle.command.specs.Choose.{pick}
+use Rattle.base.specs.Choose.{pick}
 use Rattle.command.specs.Numbers.{judged}
+use Rattle.command.specs.Flaws.{notForm, tooLong}
 use Rattle.command.specs.declared.Command.{Command}
-use Rattle.bounds.specs.Bounded.{Bounded}
 
-module _ (text : List ℕ) where
-  pub picks : (test : Bool) (a b : Command) → (test ≡ true → Bounded text a) → Bounded text b → Bounded text (pick test a b)
+module _ (Keeps : Command → Type 0) where
+  pub picks : {test : Bool} {a b : Command} → (test ≡ true → Keeps a) → Keeps b → Keeps (pick test a b)
   unfolding pick
-  picks true a b held other = held refl
-  picks false a b held other = other
+  picks {test = true} held other = held refl
+  picks {test = false} held other = other
 
-  pub judges : (formless long : Bool) (c : Command) → (formless ≡ false → long ≡ false → Bounded text c) → Bounded text (judged formless long c)
-  unfolding judged pick Bounded
-  judges true long c keeps = tt
-  judges false true c keeps = tt
-  judges false false c keeps = keeps refl refl
+  pub judges : {formless long : Bool} {c : Command} → Keeps notForm → Keeps tooLong → (formless ≡ false → long ≡ false → Keeps c) → Keeps (judged formless long c)
+  unfolding judged pick
+  judges {formless = true} four five keeps = four
+  judges {formless = false} {long = true} four five keeps = five
+  judges {formless = false} {long = false} four five keeps = keeps refl refl
 
 -- a text that begins with these bytes has as many
 pub begins-long : (s w : List ℕ) → sameBytes (take (length w) s) w ≡ true → length w ≤ length s

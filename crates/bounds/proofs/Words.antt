@@ -5,7 +5,7 @@ use mathlib.Core.List.{List}
 use lib.ListN.{drop}
 use Rattle.digits.specs.Natural.{naturalOf}
 use Rattle.words.specs.Words.{commentOf, selectOf, codeOf, wordOf}
-use Rattle.bounds.specs.Bounded.{Bounded}
+use Rattle.bounds.specs.Bounded.{SettingBounded, Bounded}
 use Rattle.bounds.proofs.Tables.{picks, judges}
 use Rattle.bounds.proofs.Numbers.{in-range}
 use Rattle.bounds.proofs.Operations.{draw-bounded, move-bounded, flash-bounded}
@@ -13,24 +13,24 @@ use Rattle.bounds.proofs.Operations.{draw-bounded, move-bounded, flash-
 module _ (s : List ℕ) where
   comment-bounded : Bounded s (commentOf s)
   unfolding commentOf Bounded
-  comment-bounded = picks s _ _ _ (λ e. tt) tt
+  comment-bounded = picks (Bounded s) (λ e. tt) tt
 
   select-bounded : Bounded s (selectOf s)
   unfolding selectOf Bounded
-  select-bounded = judges s _ _ _ (in-range (naturalOf (drop 1 s)))
+  select-bounded = judges (Bounded s) tt tt (in-range (naturalOf (drop 1 s)))
 
   code-bounded : Bounded s (codeOf s)
-  unfolding codeOf Bounded
+  unfolding codeOf Bounded SettingBounded
   code-bounded =
-      picks s _ _ _ (λ e. tt)
-      (picks s _ _ _ (λ e. tt)
-      (picks s _ _ _ (λ e. tt)
-      (picks s _ _ _ (λ e. tt) (picks s _ _ _ (λ e. tt) (picks s _ _ _ (λ e. tt) (picks s _ _ _ (λ e. tt) tt))))))
+      picks (Bounded s) (λ e. tt)
+      (picks (Bounded s) (λ e. tt)
+      (picks (Bounded s) (λ e. tt)
+      (picks (Bounded s) (λ e. tt) (picks (Bounded s) (λ e. tt) (picks (Bounded s) (λ e. tt) (picks (Bounded s) (λ e. tt) tt))))))
 
   pub word-bounded : (n : ℕ) → Bounded s (wordOf n s)
   unfolding wordOf
   word-bounded n =
-      picks s _ _ _ (λ e. comment-bounded)
-      (picks s _ _ _ (λ e. draw-bounded n s)
-      (picks s _ _ _ (λ e. move-bounded n s)
-      (picks s _ _ _ (λ e. flash-bounded n s) (picks s _ _ _ (λ e. select-bounded) code-bounded))))
+      picks (Bounded s) (λ e. comment-bounded)
+      (picks (Bounded s) (λ e. draw-bounded n s)
+      (picks (Bounded s) (λ e. move-bounded n s)
+      (picks (Bounded s) (λ e. flash-bounded n s) (picks (Bounded s) (λ e. select-bounded) code-bounded))))

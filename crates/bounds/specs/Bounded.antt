@@ -9,8 +9,18 @@ use Rattle.command.specs.declared.Axis.{Axis}
 use Rattle.command.specs.declared.Axis.the-variants as axis
 use Rattle.command.specs.declared.Offset.{Offset}
 use Rattle.command.specs.declared.Span.{Span}
+use Rattle.command.specs.declared.Setting.{Setting}
+use Rattle.command.specs.declared.Setting.the-variants as setting
+use Rattle.command.specs.declared.Operation.{Operation}
+use Rattle.command.specs.declared.Operation.the-variants as operation
+use Rattle.command.specs.declared.Definition.{Definition}
+use Rattle.command.specs.declared.Definition.the-variants as definition
+use Rattle.command.specs.declared.Bracket.{Bracket}
+use Rattle.command.specs.declared.Bracket.the-variants as bracket
+use Rattle.command.specs.declared.Deed.{Deed}
+use Rattle.command.specs.declared.Deed.the-variants as deed
 use Rattle.command.specs.declared.Command.{Command}
-use Rattle.command.specs.declared.Command.the-variants as command
+use Rattle.command.specs.declared.Command.the-variants.{Broken, Note, End, Set, Operate, Select, Define, Contain, Attribute}
 use Rattle.fits.specs.Fits.{offsetOf}
 
 -- "1 to n+6 digits as written (12 before FS)": twelve digits at most
@@ -57,38 +67,57 @@ pub record Repeats (nx ny : ℕ) (dx dy : Amount) : Type 0 where
   pub across : natAbs (dx .millionths) ≤ 10 ^ 12
   pub up : natAbs (dy .millionths) ≤ 10 ^ 12
 
+-- FS, LR and LS
+unfoldable pub SettingBounded : Setting → Type 0
+SettingBounded (setting.Format n) = n ≤ 6
+SettingBounded (setting.Rotation a rounded) = natAbs (a .millionths) < 10 ^ 12
+SettingBounded (setting.Scale a rounded) = natAbs (a .millionths) < 10 ^ 12
+SettingBounded setting.Linear = Unit
+SettingBounded setting.Clockwise = Unit
+SettingBounded setting.Counterclockwise = Unit
+SettingBounded setting.MultiQuadrant = Unit
+SettingBounded setting.RegionStart = Unit
+SettingBounded setting.RegionEnd = Unit
+SettingBounded setting.Millimetres = Unit
+SettingBounded setting.Inches = Unit
+SettingBounded setting.Dark = Unit
+SettingBounded setting.Clear = Unit
+SettingBounded (setting.Mirror x y) = Unit
+
+-- D01, D02 and D03
+unfoldable pub OperationBounded : Operation → Type 0
+OperationBounded (operation.Draw x y o) = Draws x y o
+OperationBounded (operation.Move x y) = Goes x y
+OperationBounded (operation.Flash x y) = Goes x y
+
+-- AD and AM
+unfoldable pub DefinitionBounded : List ℕ → Definition → Type 0
+DefinitionBounded text (definition.Aperture n name parameters rounded) = Defines text n name parameters
+DefinitionBounded text (definition.Macro name blocks deep rounded) = Models text name blocks
+
+-- AB and SR
+unfoldable pub BracketBounded : Bracket → Type 0
+BracketBounded (bracket.BlockStart n) = Numbered n
+BracketBounded bracket.BlockEnd = Unit
+BracketBounded (bracket.RepeatStart nx ny dx dy rounded) = Repeats nx ny dx dy
+BracketBounded bracket.RepeatEnd = Unit
+
+-- TF, TA, TO and TD
+unfoldable pub DeedBounded : List ℕ → Deed → Type 0
+DeedBounded text (deed.SetFile name value) = Lies text name
+DeedBounded text (deed.SetAperture name value) = Unit
+DeedBounded text (deed.SetObject name value) = Unit
+DeedBounded text (deed.Delete name) = Unit
+DeedBounded text deed.DeleteAll = Unit
+
 -- a command with this text
 unfoldable pub Bounded : List ℕ → Command → Type 0
-Bounded text command.NotForm = Unit
-Bounded text command.TooLong = Unit
-Bounded text command.Comment = Unit
-Bounded text command.Linear = Unit
-Bounded text command.Clockwise = Unit
-Bounded text command.Counterclockwise = Unit
-Bounded text command.MultiQuadrant = Unit
-Bounded text command.RegionStart = Unit
-Bounded text command.RegionEnd = Unit
-Bounded text command.End = Unit
-Bounded text (command.Select n) = Numbered n
-Bounded text (command.Draw x y o) = Draws x y o
-Bounded text (command.Move x y) = Goes x y
-Bounded text (command.Flash x y) = Goes x y
-Bounded text (command.Format n) = n ≤ 6
-Bounded text command.Millimetres = Unit
-Bounded text command.Inches = Unit
-Bounded text command.Dark = Unit
-Bounded text command.Clear = Unit
-Bounded text (command.Mirror x y) = Unit
-Bounded text (command.Rotation a) = natAbs (a .millionths) < 10 ^ 12
-Bounded text (command.Scale a) = natAbs (a .millionths) < 10 ^ 12
-Bounded text (command.Aperture n name ps count) = Defines text n name ps
-Bounded text (command.Macro name blocks deep) = Models text name blocks
-Bounded text (command.BlockStart n) = Numbered n
-Bounded text command.BlockEnd = Unit
-Bounded text (command.RepeatStart nx ny dx dy) = Repeats nx ny dx dy
-Bounded text command.RepeatEnd = Unit
-Bounded text (command.FileAttribute name value) = Lies text name
-Bounded text (command.ApertureAttribute name value) = Unit
-Bounded text (command.ObjectAttribute name value) = Unit
-Bounded text (command.Delete name) = Unit
-Bounded text command.DeleteAll = Unit
+Bounded text (Broken flaw) = Unit
+Bounded text Note = Unit
+Bounded text End = Unit
+Bounded text (Set s) = SettingBounded s
+Bounded text (Operate o) = OperationBounded o
+Bounded text (Select n) = Numbered n
+Bounded text (Define d) = DefinitionBounded text d
+Bounded text (Contain b) = BracketBounded b
+Bounded text (Attribute d) = DeedBounded text d

@@ -5,10 +5,11 @@ use place::Repeat;
 use sheet::Container;
 use sheet::Entry;
 ghost use mathlib.Core.Path.{_≡_};
-ghost use Prim.Native.Nat.{_+_, _≤_};
+ghost use Prim.Native.Nat.{_+_, _≤_, _<_};
+ghost use Rattle.sheet.specs.Records.{entryRoom};
 ghost use Rattle.stack.specs.Stack.{pushed};
 ghost use Rattle.build.specs.Entries.{itemEntry, useEntry, blockEntry, repeatEntry};
-ghost use Rattle.build.specs.Builder.{raised, added, begun};
+ghost use Rattle.build.specs.Builder.{raised, grown, inner};
 
 // How far the store is built: entries closed and on the stack; where the innermost container starts, its height and its items so far.
 // The top level has height 10, the body of a repeat 9, a block 1 to 8.
@@ -18,12 +19,6 @@ pub struct Builder {
     pub start: usize,
     pub height: u64,
     pub items: u64,
-}
-
-// What putting a mark comes to.
-pub enum Put {
-    Next(Builder),
-    Full,
 }
 
 // The entry of an item.
@@ -133,70 +128,72 @@ fn raise(h: u64, k: u64) -> u64
     h
 }
 
-// An entry more in the innermost container, which puts out k items.
-fn add(e: &mut [u64], b: Builder, r: Entry, k: u64, h: u64) -> Put
+// An entry more in the innermost container, which puts out k items; there is room for it.
+fn add(e: &mut [u64], b: Builder, r: Entry, k: u64, h: u64) -> Builder
+    requires { ⌜ b .closed + b .high < entryRoom (now e) ⌝ }
     requires { ⌜ b .items + k ≤ 18446744073709551615 ⌝ }
-    ensures { λ x. ⌜ (x ≡ added (now (e .entry)) b k h) × (now (e .exit) ≡ pushed (now (e .entry)) (b .closed) (b .high) r) ⌝ }
+    ensures { λ x. ⌜ (x ≡ grown b k h) × (now (e .exit) ≡ pushed (now (e .entry)) (b .high) r) ⌝ }
 {
-    if stack::push(e, b.closed, b.high, r) {
-        return Put::Next(Builder {
-            closed: b.closed,
-            high: b.high + 1,
-            start: b.start,
-            height: h,
-            items: b.items + k,
-        });
+    stack::push(e, b.high, r);
+    Builder {
+        closed: b.closed,
+        high: b.high + 1,
+        start: b.start,
+        height: h,
+        items: b.items + k,
     }
-    Put::Full
 }
 
-// An entry more, behind which a container of height h opens.
-fn begin(e: &mut [u64], b: Builder, r: Entry, h: u64) -> Put
-    ensures { λ x. ⌜ (x ≡ begun (now (e .entry)) b h) × (now (e .exit) ≡ pushed (now (e .entry)) (b .closed) (b .high) r) ⌝ }
+// An entry more, behind which a container of height h opens; there is room for it.
+fn begin(e: &mut [u64], b: Builder, r: Entry, h: u64) -> Builder
+    requires { ⌜ b .closed + b .high < entryRoom (now e) ⌝ }
+    ensures { λ x. ⌜ (x ≡ inner b h) × (now (e .exit) ≡ pushed (now (e .entry)) (b .high) r) ⌝ }
 {
-    if stack::push(e, b.closed, b.high, r) {
-        return Put::Next(Builder {
-            closed: b.closed,
-            high: b.high + 1,
-            start: b.high + 1,
-            height: h,
-            items: 0,
-        });
+    stack::push(e, b.high, r);
+    Builder {
+        closed: b.closed,
+        high: b.high + 1,
+        start: b.high + 1,
+        height: h,
+        items: 0,
     }
-    Put::Full
 }
 
 // Puts an item.
-pub fn add_item(e: &mut [u64], b: Builder, t: Item) -> Put
+pub fn add_item(e: &mut [u64], b: Builder, t: Item) -> Builder
+    requires { ⌜ b .closed + b .high < entryRoom (now e) ⌝ }
     requires { ⌜ b .items ≤ 1000000000000 ⌝ }
-    ensures { λ x. ⌜ (x ≡ added (now (e .entry)) b 1 (b .height)) × (now (e .exit) ≡ pushed (now (e .entry)) (b .closed) (b .high) (itemEntry (b .items) t)) ⌝ }
+    ensures { λ x. ⌜ (x ≡ grown b 1 (b .height)) × (now (e .exit) ≡ pushed (now (e .entry)) (b .high) (itemEntry (b .items) t)) ⌝ }
 {
     add(e, b, item_entry(b.items, t), 1, b.height)
 }
 
 // Puts a flash of the block k, which aperture record `who` defines.
-pub fn add_use(e: &mut [u64], b: Builder, who: u64, k: Container, m: Pose, place: u64) -> Put
+pub fn add_use(e: &mut [u64], b: Builder, who: u64, k: Container, m: Pose, place: u64) -> Builder
+    requires { ⌜ b .closed + b .high < entryRoom (now e) ⌝ }
     requires { ⌜ (b .items ≤ 1000000000000) × (k .items ≤ 1000000000000) × (k .height ≤ 8) ⌝ }
-    ensures { λ x. ⌜ (x ≡ added (now (e .entry)) b (k .items) (raised (b .height) (k .height)))
-        × (now (e .exit) ≡ pushed (now (e .entry)) (b .closed) (b .high) (useEntry (b .items) who m place)) ⌝ }
+    ensures { λ x. ⌜ (x ≡ grown b (k .items) (raised (b .height) (k .height)))
+        × (now (e .exit) ≡ pushed (now (e .entry)) (b .high) (useEntry (b .items) who m place)) ⌝ }
 {
     let h = raise(b.height, k.height);
     add(e, b, use_entry(b.items, who, m, place), k.items, h)
 }
 
 // Opens a block, in aperture record `who`.
-pub fn open_block(e: &mut [u64], b: Builder, who: u64, place: u64) -> Put
-    ensures { λ x. ⌜ (x ≡ begun (now (e .entry)) b 1)
-        × (now (e .exit) ≡ pushed (now (e .entry)) (b .closed) (b .high) (blockEntry (b .items) who (b .start) (b .height) place)) ⌝ }
+pub fn open_block(e: &mut [u64], b: Builder, who: u64, place: u64) -> Builder
+    requires { ⌜ b .closed + b .high < entryRoom (now e) ⌝ }
+    ensures { λ x. ⌜ (x ≡ inner b 1)
+        × (now (e .exit) ≡ pushed (now (e .entry)) (b .high) (blockEntry (b .items) who (b .start) (b .height) place)) ⌝ }
 {
     let r = block_entry(b.items, who, b.start as u64, b.height, place);
     begin(e, b, r, 1)
 }
 
 // Opens a repeat.
-pub fn open_repeat(e: &mut [u64], b: Builder, s: Repeat, place: u64) -> Put
-    ensures { λ x. ⌜ (x ≡ begun (now (e .entry)) b 9)
-        × (now (e .exit) ≡ pushed (now (e .entry)) (b .closed) (b .high) (repeatEntry (b .items) (b .start) s place)) ⌝ }
+pub fn open_repeat(e: &mut [u64], b: Builder, s: Repeat, place: u64) -> Builder
+    requires { ⌜ b .closed + b .high < entryRoom (now e) ⌝ }
+    ensures { λ x. ⌜ (x ≡ inner b 9)
+        × (now (e .exit) ≡ pushed (now (e .entry)) (b .high) (repeatEntry (b .items) (b .start) s place)) ⌝ }
 {
     let r = repeat_entry(b.items, b.start as u64, s, place);
     begin(e, b, r, 9)

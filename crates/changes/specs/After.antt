@@ -7,8 +7,12 @@ use Rattle.points.specs.Points.{pt}
 use Rattle.points.specs.declared.Point.{Point}
 use Rattle.command.specs.declared.Axis.{Axis}
 use Rattle.command.specs.declared.Axis.the-variants as axis
+use Rattle.command.specs.declared.Setting.{Setting}
+use Rattle.command.specs.declared.Setting.the-variants as setting
+use Rattle.command.specs.declared.Operation.{Operation}
+use Rattle.command.specs.declared.Operation.the-variants as operation
 use Rattle.command.specs.declared.Command.{Command}
-use Rattle.command.specs.declared.Command.the-variants as command
+use Rattle.command.specs.declared.Command.the-variants.{Broken, Note, End, Set, Operate, Select, Define, Contain, Attribute}
 use Rattle.graphics.specs.Graphics.{unset, origin, noRegion, withFormat, withPoint, withMode, withQuadrants, withTransform, withRegion}
 use Rattle.graphics.specs.Orientation.{angleOf}
 use Rattle.graphics.specs.declared.Format.{Format}
@@ -63,40 +67,39 @@ withRotation a t = record { clear = t .clear; mirror = t .mirror; rotation = a; 
 unfoldable pub withScale : ℕ → Transform → Transform
 withScale s t = record { clear = t .clear; mirror = t .mirror; rotation = t .rotation; scale = s }
 
+-- a setting
+unfoldable pub afterSetting : Setting → Graphics → Graphics
+afterSetting (setting.Format n) g = withFormat (withDigits n (g .format)) g
+afterSetting setting.Millimetres g = withFormat (withUnit 1 (g .format)) g
+afterSetting setting.Inches g = withFormat (withUnit 2 (g .format)) g
+afterSetting setting.Linear g = withMode 1 g
+afterSetting setting.Clockwise g = withMode 2 g
+afterSetting setting.Counterclockwise g = withMode 3 g
+afterSetting setting.MultiQuadrant g = withQuadrants true g
+afterSetting setting.Dark g = withTransform (withClear false (g .transform)) g
+afterSetting setting.Clear g = withTransform (withClear true (g .transform)) g
+afterSetting (setting.Mirror x y) g = withTransform (withMirror (record { x = x; y = y }) (g .transform)) g
+afterSetting (setting.Rotation a rounded) g = withTransform (withRotation (angleOf (a .millionths)) (g .transform)) g
+afterSetting (setting.Scale a rounded) g = withTransform (withScale (natAbs (a .millionths)) (g .transform)) g
+afterSetting setting.RegionStart g = withRegion emptyRegion g
+afterSetting setting.RegionEnd g = withRegion noRegion g
+
+-- D01, D02 and D03
+unfoldable pub afterOperation : Operation → Graphics → Graphics
+afterOperation (operation.Draw x y o) g = goingTo (target g x y) (withRegion (drawing (g .region) (g .point .at)) g)
+afterOperation (operation.Move x y) g = goingTo (target g x y) (withRegion (ended (g .region)) g)
+afterOperation (operation.Flash x y) g = goingTo (target g x y) g
+
 -- What stands after a command that is accepted; Dn sets the aperture, by `withAperture`.
 unfoldable pub after : Command → Graphics → Graphics
-after (command.Format n) g = withFormat (withDigits n (g .format)) g
-after command.Millimetres g = withFormat (withUnit 1 (g .format)) g
-after command.Inches g = withFormat (withUnit 2 (g .format)) g
-after command.Linear g = withMode 1 g
-after command.Clockwise g = withMode 2 g
-after command.Counterclockwise g = withMode 3 g
-after command.MultiQuadrant g = withQuadrants true g
-after command.Dark g = withTransform (withClear false (g .transform)) g
-after command.Clear g = withTransform (withClear true (g .transform)) g
-after (command.Mirror x y) g = withTransform (withMirror (record { x = x; y = y }) (g .transform)) g
-after (command.Rotation a) g = withTransform (withRotation (angleOf (a .millionths)) (g .transform)) g
-after (command.Scale a) g = withTransform (withScale (natAbs (a .millionths)) (g .transform)) g
-after command.RegionStart g = withRegion emptyRegion g
-after command.RegionEnd g = withRegion noRegion g
-after (command.Draw x y i) g = goingTo (target g x y) (withRegion (drawing (g .region) (g .point .at)) g)
-after (command.Move x y) g = goingTo (target g x y) (withRegion (ended (g .region)) g)
-after (command.Flash x y) g = goingTo (target g x y) g
+after (Set s) g = afterSetting s g
+after (Operate o) g = afterOperation o g
 -- "After AB or SR opens or closes the point is unset (house)"
-after (command.BlockStart n) g = withPoint unset g
-after command.BlockEnd g = withPoint unset g
-after (command.RepeatStart nx ny dx dy) g = withPoint unset g
-after command.RepeatEnd g = withPoint unset g
+after (Contain b) g = withPoint unset g
 -- the others change nothing of it
-after command.NotForm g = g
-after command.TooLong g = g
-after command.Comment g = g
-after command.End g = g
-after (command.Select n) g = g
-after (command.Aperture n name ps count) g = g
-after (command.Macro name blocks deep) g = g
-after (command.FileAttribute name value) g = g
-after (command.ApertureAttribute name value) g = g
-after (command.ObjectAttribute name value) g = g
-after (command.Delete name) g = g
-after command.DeleteAll g = g
+after (Broken flaw) g = g
+after Note g = g
+after End g = g
+after (Select n) g = g
+after (Define d) g = g
+after (Attribute d) g = g

@@ -4,9 +4,11 @@ ghost use lib.IntN.{natAbs};
 ghost use Rattle.points.specs.Points.{pt};
 ghost use Rattle.graphics.specs.Orientation.{angleOf};
 ghost use Rattle.graphics.specs.Graphics.{unset, noRegion, withFormat, withPoint, withTransform, withRegion};
-ghost use Rattle.changes.specs.After.{along, target, goingTo, emptyRegion, startsContour, drawing, ended, withDigits, withUnit, withClear, withMirror, withRotation, withScale, after};
+ghost use Rattle.changes.specs.After.{along, target, goingTo, emptyRegion, startsContour, drawing, ended, withDigits, withUnit, withClear, withMirror, withRotation, withScale, afterSetting, afterOperation, after};
 use command::Axis;
 use command::Command;
+use command::Operation;
+use command::Setting;
 use decimal::Amount;
 use graphics::Current;
 use graphics::Format;
@@ -176,7 +178,7 @@ fn end_region(g: Graphics) -> Graphics
 }
 
 // AB and SR, opening and closing.
-fn unplaced(g: Graphics) -> Graphics
+pub fn unplaced(g: Graphics) -> Graphics
     ensures { λ r. ⌜ r ≡ withPoint unset g ⌝ }
 {
     let p = Current {
@@ -222,48 +224,52 @@ fn flashed(x: Axis, y: Axis, g: Graphics) -> Graphics
     going_to(target(g, x, y), g)
 }
 
+// The state after a setting that is accepted.
+pub fn after_setting(s: Setting, g: Graphics) -> Graphics
+    ensures { λ r. ⌜ r ≡ afterSetting s g ⌝ }
+{
+    match s {
+        Setting::Format(n) => set_digits(n, g),
+        Setting::Millimetres => set_unit(1, g),
+        Setting::Inches => set_unit(2, g),
+        Setting::Linear => graphics::with_mode(1, g),
+        Setting::Clockwise => graphics::with_mode(2, g),
+        Setting::Counterclockwise => graphics::with_mode(3, g),
+        Setting::MultiQuadrant => graphics::with_quadrants(true, g),
+        Setting::Dark => set_clear(false, g),
+        Setting::Clear => set_clear(true, g),
+        Setting::Mirror { x, y } => set_mirror(Mirror { x, y }, g),
+        Setting::Rotation { angle, .. } => set_rotation(angle, g),
+        Setting::Scale { factor, .. } => set_scale(factor, g),
+        Setting::RegionStart => begin_region(g),
+        Setting::RegionEnd => end_region(g),
+    }
+}
+
+// The state after a D01, D02 or D03 that is accepted.
+pub fn after_operation(o: Operation, g: Graphics) -> Graphics
+    ensures { λ r. ⌜ r ≡ afterOperation o g ⌝ }
+{
+    match o {
+        Operation::Draw { x, y, .. } => drawn(x, y, g),
+        Operation::Move { x, y } => moved(x, y, g),
+        Operation::Flash { x, y } => flashed(x, y, g),
+    }
+}
+
 // The state after a command that is accepted.
 pub fn after(c: Command, g: Graphics) -> Graphics
     ensures { λ r. ⌜ r ≡ after c g ⌝ }
 {
     match c {
-        Command::Format(n) => set_digits(n, g),
-        Command::Millimetres => set_unit(1, g),
-        Command::Inches => set_unit(2, g),
-        Command::Linear => graphics::with_mode(1, g),
-        Command::Clockwise => graphics::with_mode(2, g),
-        Command::Counterclockwise => graphics::with_mode(3, g),
-        Command::MultiQuadrant => graphics::with_quadrants(true, g),
-        Command::Dark => set_clear(false, g),
-        Command::Clear => set_clear(true, g),
-        Command::Mirror { x, y } => set_mirror(Mirror { x, y }, g),
-        Command::Rotation(a) => set_rotation(a, g),
-        Command::Scale(a) => set_scale(a, g),
-        Command::RegionStart => begin_region(g),
-        Command::RegionEnd => end_region(g),
-        Command::Draw { x, y, centre } => drawn(x, y, g),
-        Command::Move { x, y } => moved(x, y, g),
-        Command::Flash { x, y } => flashed(x, y, g),
-        Command::BlockStart(n) => unplaced(g),
-        Command::BlockEnd => unplaced(g),
-        Command::RepeatStart { nx, ny, dx, dy } => unplaced(g),
-        Command::RepeatEnd => unplaced(g),
-        Command::NotForm => g,
-        Command::TooLong => g,
-        Command::Comment => g,
+        Command::Set(s) => after_setting(s, g),
+        Command::Operate(o) => after_operation(o, g),
+        Command::Contain(_) => unplaced(g),
+        Command::Broken(_) => g,
+        Command::Note => g,
         Command::End => g,
-        Command::Select(n) => g,
-        Command::Aperture {
-            number,
-            name,
-            parameters,
-            count,
-        } => g,
-        Command::Macro { name, blocks, deep } => g,
-        Command::FileAttribute { name, value } => g,
-        Command::ApertureAttribute { name, value } => g,
-        Command::ObjectAttribute { name, value } => g,
-        Command::Delete { name } => g,
-        Command::DeleteAll => g,
+        Command::Select(_) => g,
+        Command::Define(_) => g,
+        Command::Attribute(_) => g,
     }
 }

@@ -4,7 +4,7 @@ use mathlib.Core.Path.{_≡_}
 use mathlib.Core.List.{List, [], _∷_}
 use lib.ListN.{length, getD}
 use Rattle.sheet.specs.Valid.{sheetMark}
-use Rattle.sheet.specs.Records.{entryOf, entryRoom, stored}
+use Rattle.sheet.specs.Records.{entryWidth, apertureWidth, entryOf, entryRoom, stored}
 use Rattle.sheet.specs.declared.Entry.{Entry}
 use Rattle.building.specs.Open.{opener}
 use Rattle.building.specs.Closing.{Settled, defines, repeats}
@@ -23,7 +23,7 @@ pub record Left (e e′ : List ℕ) (b : Builder) (r : Entry) : Type 0 where
 
 pub record BlockClosed (e e′ a a′ : List ℕ) (b r : Builder) : Type 0 where
   pub leaves : Left e e′ b (defines (opener e (entryRoom e) (b .start)))
-  pub stores : a′ ≡ stored a (opener e (entryRoom e) (b .start) .who * 8 + 1) (6 ∷ b .closed ∷ (b .high - b .start) ∷ b .items ∷ b .height ∷ [])
+  pub stores : a′ ≡ stored a (opener e (entryRoom e) (b .start) .who * apertureWidth + 1) (6 ∷ b .closed ∷ (b .high - b .start) ∷ b .items ∷ b .height ∷ [])
   pub next : r ≡ record {
     closed = b .closed + (b .high - b .start);
     high = b .start;
@@ -47,7 +47,7 @@ pub record Ended (e e′ : List ℕ) (b : Builder) : Type 0 where
   pub as-long : length e′ ≡ length e
   pub same-closed : (i : ℕ) → i < b .closed → entryOf e i ≡ entryOf e′ i
   pub settled : (i : ℕ) → i < b .high → entryOf e (entryRoom e - suc i) ≡ entryOf e′ (b .closed + i)
-  pub zeros : (w : ℕ) → (b .closed + b .high) * 15 ≤ w → getD e′ w 0 ≡ 0
+  pub zeros : (w : ℕ) → (b .closed + b .high) * entryWidth ≤ w → getD e′ w 0 ≡ 0
 
 -- the head (docs/SHEET.md)
 unfoldable pub headOf : ℕ → Builder → ℕ → ℕ → ℕ → List ℕ

@@ -5,7 +5,7 @@ ghost use mathlib.Core.Path.{_≡_};
 ghost use mathlib.Core.List.{_∷_, [], _++_};
 ghost use Prim.Native.Nat.{_+_, _-_, _*_, _≤_, _<_};
 ghost use lib.ListN.{length, take, replicate};
-ghost use Rattle.sheet.specs.Records.{entryRoom, apertureRoom, stored};
+ghost use Rattle.sheet.specs.Records.{apertureWidth, entryRoom, apertureRoom, stored};
 ghost use Rattle.building.specs.Open.{opener};
 ghost use Rattle.building.specs.Closing.{defines, repeats};
 ghost use Rattle.close.specs.Closed.{Closes, Left, BlockClosed, RepeatClosed, Ended, headOf};
@@ -63,7 +63,7 @@ fn settle(e: &mut [u64], b: Builder, r: Entry)
     requires { ⌜ Closes (now e) b ⌝ }
     ensures { λ _. ⌜ Left (now (e .entry)) (now (e .exit)) b r ⌝ }
 {
-    let hi = e.len() / 15 - b.start;
+    let hi = e.len() / sheet::ENTRY_WORDS - b.start;
     stack::turn_over(e, b.closed, hi, b.high - b.start);
     sheet::put_entry(e, hi, r);
 }
@@ -73,16 +73,16 @@ fn opener_of(e: &[u64], b: Builder) -> Entry
     requires { ⌜ Closes (now e) b ⌝ }
     ensures { λ r. ⌜ r ≡ opener (now (e .entry)) (entryRoom (now (e .entry))) (b .start) ⌝ }
 {
-    sheet::entry_at(e, e.len() / 15 - b.start)
+    sheet::entry_at(e, e.len() / sheet::ENTRY_WORDS - b.start)
 }
 
 // Says of aperture record i that it is a block: len entries from `first` on, with t items, of height h.
 fn put_block(a: &mut [u64], i: usize, first: u64, len: u64, t: u64, h: u64)
     requires { ⌜ i < apertureRoom (now a) ⌝ }
-    ensures { λ _. ⌜ now (a .exit) ≡ stored (now (a .entry)) (i * 8 + 1) (6 ∷ first ∷ len ∷ t ∷ h ∷ []) ⌝ }
+    ensures { λ _. ⌜ now (a .exit) ≡ stored (now (a .entry)) (i * apertureWidth + 1) (6 ∷ first ∷ len ∷ t ∷ h ∷ []) ⌝ }
 {
     let w = [6, first, len, t, h];
-    sheet::put_words(a, i * 8 + 1, &w);
+    sheet::put_words(a, i * sheet::APERTURE_WORDS + 1, &w);
 }
 
 // Closes the innermost block; the container around it goes on.
@@ -144,9 +144,9 @@ pub fn finish(e: &mut [u64], b: Builder)
     requires { ⌜ b .closed + b .high ≤ entryRoom (now e) ⌝ }
     ensures { λ _. ⌜ Ended (now (e .entry)) (now (e .exit)) b ⌝ }
 {
-    let room = e.len() / 15;
+    let room = e.len() / sheet::ENTRY_WORDS;
     stack::turn_over(e, b.closed, room, b.high);
-    clear_from(e, (b.closed + b.high) * 15);
+    clear_from(e, (b.closed + b.high) * sheet::ENTRY_WORDS);
 }
 
 // The head of a sheet: what was used, and the top level.

@@ -1,3 +1,4 @@
-pub mod Choose
+pub mod Flaws
 pub mod Numbers
+pub mod Rounded
 pub mod Span

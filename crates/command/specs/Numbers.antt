@@ -10,15 +10,15 @@ use Rattle.decimal.specs.declared.answers.Decimal.{Decimal}
 use Rattle.decimal.specs.declared.answers.Decimal.the-variants as decimal
 use Rattle.digits.specs.declared.answers.Natural.{Natural}
 use Rattle.digits.specs.declared.answers.Natural.the-variants as natural
-use Rattle.command.specs.Choose.{pick}
+use Rattle.base.specs.Choose.{pick}
 use Rattle.command.specs.declared.Number.{Number}
 use Rattle.command.specs.declared.Size.{Size}
 use Rattle.command.specs.declared.Command.{Command}
-use Rattle.command.specs.declared.Command.the-variants.{NotForm, TooLong}
+use Rattle.command.specs.Flaws.{notForm, tooLong}
 
 -- within one command the lowest number decides: 4 anywhere in it before 5 (decision 43)
 unfoldable pub judged : Bool → Bool → Command → Command
-judged formless long c = pick formless NotForm (pick long TooLong c)
+judged formless long c = pick formless notForm (pick long tooLong c)
 
 -- aperture numbers are 10 to 2,147,483,647, leading zeros allowed; below 10 is 4, above is 5 (01, Form; decision 24)
 unfoldable pub inRange : Natural → Number

@@ -1,7 +1,9 @@
 // What a command says: the answer of every recogniser.
 ghost use mathlib.Core.Path.{_≡_};
 ghost use Rattle.base.specs.Bytes.{sameBytes};
-ghost use Rattle.command.specs.Choose.{pick};
+ghost use Rattle.base.specs.Choose.{pick};
+ghost use Rattle.command.specs.Flaws.{flawNumber};
+ghost use Rattle.command.specs.Rounded.{counted, roundedInSetting, roundedInDefinition, roundedInBracket, roundedOf};
 ghost use Rattle.command.specs.Numbers.{judged, inRange, apertureNumber, anySize, copiesOf, sizedAs, sizeOf};
 use decimal::Amount;
 use decimal::Decimal;
@@ -42,15 +44,16 @@ pub struct Size {
     pub value: Amount,
 }
 
-// Spans are in the command's text: a word command's without its `*`, an extended one's between its two `%`. An attribute without a
-// comma has its value at 0 to 0.
-pub enum Command {
+// Why a command cannot be read.
+pub enum Flaw {
     // 4: unknown, or not of its form
     NotForm,
     // 5: a number too long, or outside its range
     TooLong,
-    // G04
-    Comment,
+}
+
+// What sets a part of the graphics state. LR and LS say how many of their decimals were rounded.
+pub enum Setting {
     // G01, G02, G03, G75
     Linear,
     Clockwise,
@@ -59,24 +62,6 @@ pub enum Command {
     // G36, G37
     RegionStart,
     RegionEnd,
-    // M02
-    End,
-    // Dn
-    Select(u64),
-    // D01, D02, D03
-    Draw {
-        x: Axis,
-        y: Axis,
-        centre: Offset,
-    },
-    Move {
-        x: Axis,
-        y: Axis,
-    },
-    Flash {
-        x: Axis,
-        y: Axis,
-    },
     // FS, with its n
     Format(usize),
     // MO
@@ -86,55 +71,79 @@ pub enum Command {
     Dark,
     Clear,
     // LM
-    Mirror {
-        x: bool,
-        y: bool,
-    },
+    Mirror { x: bool, y: bool },
     // LR, LS
-    Rotation(Amount),
-    Scale(Amount),
+    Rotation { angle: Amount, rounded: usize },
+    Scale { factor: Amount, rounded: usize },
+}
+
+// D01, D02 and D03.
+pub enum Operation {
+    Draw { x: Axis, y: Axis, centre: Offset },
+    Move { x: Axis, y: Axis },
+    Flash { x: Axis, y: Axis },
+}
+
+// What defines an aperture or a macro, and how many of its decimals were rounded.
+pub enum Definition {
     // AD
     Aperture {
         number: u64,
         name: Span,
         parameters: Span,
-        count: usize,
+        rounded: usize,
     },
     // AM, its blocks without the last `*`, and whether its parentheses are too deep
     Macro {
         name: Span,
         blocks: Span,
         deep: bool,
+        rounded: usize,
     },
+}
+
+// What opens and closes a block or a repeat.
+pub enum Bracket {
     // AB
     BlockStart(u64),
     BlockEnd,
-    // SR; a number of 10^12 or more counts as 10^12
+    // SR; a number of 10^12 or more counts as 10^12; and how many of its decimals were rounded
     RepeatStart {
         nx: u64,
         ny: u64,
         dx: Amount,
         dy: Amount,
+        rounded: usize,
     },
     RepeatEnd,
+}
+
+// What is done to an attribute. One without a comma has its value at 0 to 0.
+pub enum Deed {
     // TF, TA, TO
-    FileAttribute {
-        name: Span,
-        value: Span,
-    },
-    ApertureAttribute {
-        name: Span,
-        value: Span,
-    },
-    ObjectAttribute {
-        name: Span,
-        value: Span,
-    },
+    SetFile { name: Span, value: Span },
+    SetAperture { name: Span, value: Span },
+    SetObject { name: Span, value: Span },
     // TD
-    Delete {
-        name: Span,
-    },
+    Delete { name: Span },
     DeleteAll,
+}
+
+// A command by its role. Spans are in the command's text: a word command's without its `*`, an extended one's between its two `%`.
+pub enum Command {
+    // 4 or 5
+    Broken(Flaw),
+    // G04
+    Note,
+    // M02
+    End,
+    Set(Setting),
+    Operate(Operation),
+    // Dn
+    Select(u64),
+    Define(Definition),
+    Contain(Bracket),
+    Attribute(Deed),
 }
 
 // The first where the test holds, else the second.
@@ -155,7 +164,11 @@ pub fn row(s: &[u8], w: &[u8], c: Command, other: Command) -> Command
 pub fn judged(formless: bool, long: bool, c: Command) -> Command
     ensures { λ r. ⌜ r ≡ judged formless long c ⌝ }
 {
-    pick(formless, Command::NotForm, pick(long, Command::TooLong, c))
+    pick(
+        formless,
+        Command::Broken(Flaw::NotForm),
+        pick(long, Command::Broken(Flaw::TooLong), c),
+    )
 }
 
 // The number of an aperture, of its digits.
@@ -249,4 +262,82 @@ pub fn size_of(t: &[u8]) -> Size
     ensures { λ r. ⌜ r ≡ sizeOf (now (t .entry)) ⌝ }
 {
     sized(decimal::decimal(t, 0, t.len()))
+}
+
+// Document 01's number of a flaw.
+pub fn flaw_number(f: Flaw) -> u64
+    ensures { λ r. ⌜ r ≡ flawNumber f ⌝ }
+{
+    match f {
+        Flaw::NotForm => 4,
+        Flaw::TooLong => 5,
+    }
+}
+
+// 1 where a decimal was rounded.
+pub fn counted(rounded: bool) -> usize
+    ensures { λ r. ⌜ r ≡ counted rounded ⌝ }
+{
+    if rounded { 1 } else { 0 }
+}
+
+// How many decimals of a setting were rounded.
+fn rounded_in_setting(s: Setting) -> usize
+    ensures { λ r. ⌜ r ≡ roundedInSetting s ⌝ }
+{
+    match s {
+        Setting::Rotation { rounded, .. } => rounded,
+        Setting::Scale { rounded, .. } => rounded,
+        Setting::Linear => 0,
+        Setting::Clockwise => 0,
+        Setting::Counterclockwise => 0,
+        Setting::MultiQuadrant => 0,
+        Setting::RegionStart => 0,
+        Setting::RegionEnd => 0,
+        Setting::Format(_) => 0,
+        Setting::Millimetres => 0,
+        Setting::Inches => 0,
+        Setting::Dark => 0,
+        Setting::Clear => 0,
+        Setting::Mirror { .. } => 0,
+    }
+}
+
+// How many decimals of a definition were rounded.
+fn rounded_in_definition(d: Definition) -> usize
+    ensures { λ r. ⌜ r ≡ roundedInDefinition d ⌝ }
+{
+    match d {
+        Definition::Aperture { rounded, .. } => rounded,
+        Definition::Macro { rounded, .. } => rounded,
+    }
+}
+
+// How many decimals of AB or SR were rounded.
+fn rounded_in_bracket(b: Bracket) -> usize
+    ensures { λ r. ⌜ r ≡ roundedInBracket b ⌝ }
+{
+    match b {
+        Bracket::RepeatStart { rounded, .. } => rounded,
+        Bracket::BlockStart(_) => 0,
+        Bracket::BlockEnd => 0,
+        Bracket::RepeatEnd => 0,
+    }
+}
+
+// How many decimals of a command were rounded.
+pub fn rounded_of(c: Command) -> usize
+    ensures { λ r. ⌜ r ≡ roundedOf c ⌝ }
+{
+    match c {
+        Command::Set(s) => rounded_in_setting(s),
+        Command::Define(d) => rounded_in_definition(d),
+        Command::Contain(b) => rounded_in_bracket(b),
+        Command::Broken(_) => 0,
+        Command::Note => 0,
+        Command::End => 0,
+        Command::Operate(_) => 0,
+        Command::Select(_) => 0,
+        Command::Attribute(_) => 0,
+    }
 }

@@ -1,3 +1,2 @@
 pub mod Examples
-pub mod Leads
 pub mod Walk

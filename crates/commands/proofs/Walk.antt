@@ -7,6 +7,7 @@ use native.Mathlib.Omega.{arith}
 use lib.ListN.{length}
 use lib.Seq.{slice}
 use Rattle.scan.specs.Scan.{nextCommand}
+use Rattle.scan.specs.declared.Letters.the-variants.{Old}
 use Rattle.scan.specs.Tail.{tailOf}
 use Rattle.scan.specs.declared.Scan.{Scan}
 use Rattle.scan.specs.declared.Scan.the-variants as scan
@@ -44,7 +45,7 @@ turned-onward n file at (scan.Ended place) w = tt
 
 turn-onward : (n : ℕ) (file : List ℕ) (at : ℕ) → at ≤ length file → Onward (length file) at (turnOf n file at)
 unfolding turnOf
-turn-onward n file at h = turned-onward n file at (nextCommand file at) (next-within file at h)
+turn-onward n file at h = turned-onward n file at (nextCommand Old file at) (next-within Old file at h)
 
 -- the number of turns does not matter where it is enough for the bytes left
 enough : (file : List ℕ) (k j n at : ℕ) → at ≤ length file → length file < k + at → length file < j + at → commandsFrom k n file at ≡ commandsFrom j n file at

@@ -1,41 +1,43 @@
 -- How a command leads on: 4, the end of the file's commands, or the next command (01, What is read; decisions 41 and 42).
+use Rattle.command.specs.declared.Flaw.{Flaw}
+use Rattle.command.specs.declared.Flaw.the-variants as flaw
+use Rattle.command.specs.declared.Setting.{Setting}
+use Rattle.command.specs.declared.Setting.the-variants as setting
 use Rattle.command.specs.declared.Command.{Command}
 use Rattle.command.specs.declared.Command.the-variants as cmd
 use Rattle.commands.specs.declared.Lead.{Lead}
 use Rattle.commands.specs.declared.Lead.the-variants.{Broken, Last, Format, Plain}
 
--- one not of its form is 4; M02 is the last; FS says how many digits coordinates have from there on
+-- one not of its form is 4; a number out of its range is the reading's matter
+unfoldable pub leadOfFlaw : Flaw → Lead
+leadOfFlaw flaw.NotForm = Broken
+leadOfFlaw flaw.TooLong = Plain
+
+-- FS says how many digits coordinates have from there on
+unfoldable pub leadOfSetting : Setting → Lead
+leadOfSetting (setting.Format n) = Format n
+leadOfSetting setting.Linear = Plain
+leadOfSetting setting.Clockwise = Plain
+leadOfSetting setting.Counterclockwise = Plain
+leadOfSetting setting.MultiQuadrant = Plain
+leadOfSetting setting.RegionStart = Plain
+leadOfSetting setting.RegionEnd = Plain
+leadOfSetting setting.Millimetres = Plain
+leadOfSetting setting.Inches = Plain
+leadOfSetting setting.Dark = Plain
+leadOfSetting setting.Clear = Plain
+leadOfSetting (setting.Mirror x y) = Plain
+leadOfSetting (setting.Rotation angle rounded) = Plain
+leadOfSetting (setting.Scale factor rounded) = Plain
+
+-- M02 is the last
 unfoldable pub leadOf : Command → Lead
-leadOf cmd.NotForm = Broken
-leadOf cmd.TooLong = Plain
-leadOf cmd.Comment = Plain
-leadOf cmd.Linear = Plain
-leadOf cmd.Clockwise = Plain
-leadOf cmd.Counterclockwise = Plain
-leadOf cmd.MultiQuadrant = Plain
-leadOf cmd.RegionStart = Plain
-leadOf cmd.RegionEnd = Plain
+leadOf (cmd.Broken f) = leadOfFlaw f
 leadOf cmd.End = Last
+leadOf (cmd.Set s) = leadOfSetting s
+leadOf cmd.Note = Plain
+leadOf (cmd.Operate o) = Plain
 leadOf (cmd.Select n) = Plain
-leadOf (cmd.Draw x y centre) = Plain
-leadOf (cmd.Move x y) = Plain
-leadOf (cmd.Flash x y) = Plain
-leadOf (cmd.Format n) = Format n
-leadOf cmd.Millimetres = Plain
-leadOf cmd.Inches = Plain
-leadOf cmd.Dark = Plain
-leadOf cmd.Clear = Plain
-leadOf (cmd.Mirror x y) = Plain
-leadOf (cmd.Rotation a) = Plain
-leadOf (cmd.Scale a) = Plain
-leadOf (cmd.Aperture n name ps count) = Plain
-leadOf (cmd.Macro name blocks deep) = Plain
-leadOf (cmd.BlockStart n) = Plain
-leadOf cmd.BlockEnd = Plain
-leadOf (cmd.RepeatStart nx ny dx dy) = Plain
-leadOf cmd.RepeatEnd = Plain
-leadOf (cmd.FileAttribute name value) = Plain
-leadOf (cmd.ApertureAttribute name value) = Plain
-leadOf (cmd.ObjectAttribute name value) = Plain
-leadOf (cmd.Delete name) = Plain
-leadOf cmd.DeleteAll = Plain
+leadOf (cmd.Define d) = Plain
+leadOf (cmd.Contain b) = Plain
+leadOf (cmd.Attribute d) = Plain

@@ -1,3 +1,4 @@
 pub mod Commands
 pub mod Leads
+pub mod Rounded
 pub mod Turns

@@ -1,9 +1,12 @@
 // The commands of a file, one after the other, with the faults 2, 3, 4 and 18.
 ghost use mathlib.Core.Path.{_≡_};
 ghost use Rattle.scan.specs.Tail.{tailOf};
-ghost use Rattle.commands.specs.Leads.{leadOf};
+ghost use Rattle.commands.specs.Leads.{leadOfFlaw, leadOfSetting, leadOf};
 ghost use Rattle.commands.specs.Turns.{led, turnOf, tailFault};
 use command::Command;
+use command::Flaw;
+use command::Setting;
+use scan::Letters;
 use scan::Scan;
 use scan::Tail;
 
@@ -43,15 +46,52 @@ pub enum Turn {
     },
 }
 
+// How a command that cannot be read leads on.
+fn lead_of_flaw(f: Flaw) -> Lead
+    ensures { λ r. ⌜ r ≡ leadOfFlaw f ⌝ }
+{
+    match f {
+        Flaw::NotForm => Lead::Broken,
+        Flaw::TooLong => Lead::Plain,
+    }
+}
+
+// How a setting leads on.
+fn lead_of_setting(s: Setting) -> Lead
+    ensures { λ r. ⌜ r ≡ leadOfSetting s ⌝ }
+{
+    match s {
+        Setting::Format(n) => Lead::Format(n),
+        Setting::Linear => Lead::Plain,
+        Setting::Clockwise => Lead::Plain,
+        Setting::Counterclockwise => Lead::Plain,
+        Setting::MultiQuadrant => Lead::Plain,
+        Setting::RegionStart => Lead::Plain,
+        Setting::RegionEnd => Lead::Plain,
+        Setting::Millimetres => Lead::Plain,
+        Setting::Inches => Lead::Plain,
+        Setting::Dark => Lead::Plain,
+        Setting::Clear => Lead::Plain,
+        Setting::Mirror { .. } => Lead::Plain,
+        Setting::Rotation { .. } => Lead::Plain,
+        Setting::Scale { .. } => Lead::Plain,
+    }
+}
+
 // How a command leads on.
 fn lead_of(c: Command) -> Lead
     ensures { λ r. ⌜ r ≡ leadOf c ⌝ }
 {
     match c {
-        Command::NotForm => Lead::Broken,
+        Command::Broken(f) => lead_of_flaw(f),
         Command::End => Lead::Last,
-        Command::Format(n) => Lead::Format(n),
-        _ => Lead::Plain,
+        Command::Set(s) => lead_of_setting(s),
+        Command::Note => Lead::Plain,
+        Command::Operate(_) => Lead::Plain,
+        Command::Select(_) => Lead::Plain,
+        Command::Define(_) => Lead::Plain,
+        Command::Contain(_) => Lead::Plain,
+        Command::Attribute(_) => Lead::Plain,
     }
 }
 
@@ -82,7 +122,7 @@ fn led(n: usize, c: Placed, lead: Lead, next: usize) -> Turn
 pub fn turn_at(n: usize, file: &[u8], at: usize) -> Turn
     ensures { λ r. ⌜ r ≡ turnOf n (now (file .entry)) at ⌝ }
 {
-    let s = scan::next_command(file, at);
+    let s = scan::next_command(Letters::Old, file, at);
     match s {
         Scan::Command {
             kind,

@@ -12,13 +12,14 @@ use Rattle.base.specs.Or.{_or_}
 use Rattle.place.specs.Mark.{finish, edges, written}
 use Rattle.graphics.specs.declared.Graphics.{Graphics}
 use Rattle.graphics.specs.Graphics.{origin, unset, withPoint}
+use Rattle.command.specs.declared.Bracket.the-variants as bracket
 use Rattle.command.specs.declared.Command.the-variants as command
 use Rattle.changes.specs.After.{after}
-use Rattle.fits.specs.declared.Level.{Level}
+use Rattle.graphics.specs.declared.Level.{Level}
 use Rattle.drawing.specs.Counts.{most}
-use Rattle.drawing.proofs.Faults.{unbroken}
+use Rattle.base.proofs.Faults.{unbroken}
 use Rattle.rules.specs.Rules.{closingFault}
-use Rattle.marks.specs.Marks.{marksOf}
+use Rattle.marks.specs.Marks.{bracketMarks, marksOf}
 use Rattle.bounds.proofs.Tables.{neither}
 use Rattle.sheet.specs.Records.{entryRoom, apertureOf, apertureRoom}
 use Rattle.building.specs.Open.{opener}
@@ -33,6 +34,7 @@ use Rattle.reading.specs.Apertures.{closing}
 use Rattle.reading.specs.Steps as steps
 use Rattle.reading.specs.Steps.{passed, withLevel, withOpened, blockEnds, blockEndStep}
 use Rattle.progress.specs.declared.Progress.{Progress}
+use Rattle.progress.specs.Parts.{withGraphics, withBuilder, withDepth}
 use Rattle.progress.specs.Lent.{Lent, withEntries, withApertures}
 use Rattle.progress.specs.Levels.{levelOf}
 use Rattle.progress.specs.Tables.{ApertureTable, Chosen}
@@ -46,18 +48,8 @@ use Rattle.containers.proofs.Levels.{inside-block, AroundBlock, around-
 use Rattle.containers.proofs.Tables.{closing-room, closing-kept, table-closed, chosen-closed}
 
 -- how far reading has come behind the AB that closes
-abbrev pub unblocked : Progress → Builder → Progress
-unblocked p b = record {
-  graphics = after command.BlockEnd (p .graphics);
-  builder = b;
-  contour = p .contour;
-  depth = p .depth - 1;
-  copies = p .copies;
-  sheet = p .sheet;
-  apertures = p .apertures;
-  macros = p .macros;
-  numbers = p .numbers;
-}
+abbrev pub unblocked : Progress → Graphics → Builder → Progress
+unblocked p g b = withDepth (p .depth - 1) (withBuilder b (withGraphics g p))
 
 module _ (w : Lent) (s : State) (p : Progress) (k : Knows w p s) where
   pub block-end-fault : (place : ℕ) → blockEndStep place s .fault ≡ closingFault (p .graphics) (levelOf p) 1
@@ -146,18 +138,18 @@ module _ (w : Lent) (s : State) (p : Progress) (k : Knows w p s) where
           rw (c .next) (omega arith)
 
       next-is : (place : ℕ) → blockEndStep place s .next ≡
-          withLevel (inner .outer) (withOpened (inner .others) (steps.withApertures (closing n (p .builder .items) (p .builder .height) (s .apertures)) (passed command.BlockEnd place 0 s)))
+          withLevel (inner .outer) (withOpened (inner .others) (steps.withApertures (closing n (p .builder .items) (p .builder .height) (s .apertures)) (passed (command.Contain bracket.BlockEnd) place 0 s)))
       unfolding blockEndStep blockEnds passed
       next-is place =
-          ap (λ os. blockEnds os (passed command.BlockEnd place 0 s)) (inner .is)
-          ∙ (λ i. withLevel (inner .outer) (withOpened (inner .others) (steps.withApertures (closing n (level-is i .items) (level-is i .height) (s .apertures)) (passed command.BlockEnd place 0 s))))
+          ap (λ os. blockEnds os (passed (command.Contain bracket.BlockEnd) place 0 s)) (inner .is)
+          ∙ (λ i. withLevel (inner .outer) (withOpened (inner .others) (steps.withApertures (closing n (level-is i .items) (level-is i .height) (s .apertures)) (passed (command.Contain bracket.BlockEnd) place 0 s))))
 
-      pub block-ends : (place : ℕ) → Knows (withApertures a′ (withEntries e′ w)) (unblocked p b) (blockEndStep place s .next)
-      unfolding withLevel withOpened steps.withApertures passed withEntries withApertures after withPoint unset origin marksOf levelOf
+      pub block-ends : (place : ℕ) → Knows (withApertures a′ (withEntries e′ w)) (unblocked p (after (command.Contain bracket.BlockEnd) (p .graphics)) b) (blockEndStep place s .next)
+      unfolding withLevel withOpened steps.withApertures passed withEntries withApertures after withPoint unset origin marksOf bracketMarks levelOf
       block-ends place =
           rw (next-is place)
           (record {
-            graphics = ap (after command.BlockEnd) (k .graphics);
+            graphics = ap (after (command.Contain bracket.BlockEnd)) (k .graphics);
             point = record { across = lit≤ tt; up = lit≤ tt };
             mode = k .mode;
             inside = k .inside;
@@ -195,20 +187,9 @@ module _ (e a : List ℕ) (p : Progress) (l : Level) (level-told : l ≡ levelOf
         let k = known .knows in
         rw (← known .is .0, ← known .is .1) (block-closes w (known .state) p k (sym fault-is ∙ none), block-record w (known .state) p k (sym fault-is ∙ none))
 
-    pub block-end-ends : (e′ a′ : List ℕ) (b : Builder) → BlockClosed e e′ a a′ (p .builder) b → (g : Graphics) → g ≡ after command.BlockEnd (p .graphics) →
-        (place : ℕ) → StepsTo (λ room s. blockEndStep place s) lends (λ w. withApertures a′ (withEntries e′ w)) p
-        (Next (record {
-          graphics = g;
-          builder = b;
-          contour = p .contour;
-          depth = p .depth - 1;
-          copies = p .copies;
-          sheet = p .sheet;
-          apertures = p .apertures;
-          macros = p .macros;
-          numbers = p .numbers;
-        }))
+    pub block-end-ends : (e′ a′ : List ℕ) (b : Builder) → BlockClosed e e′ a a′ (p .builder) b → {g : Graphics} → g ≡ after (command.Contain bracket.BlockEnd) (p .graphics) → {r : Progress} → r ≡ unblocked p g b →
+        (place : ℕ) → StepsTo (λ room s. blockEndStep place s) lends (λ w. withApertures a′ (withEntries e′ w)) p (Next r)
     unfolding Follows
-    block-end-ends e′ a′ b c g g-is place w s q k =
+    block-end-ends e′ a′ b c g-is r-is place w s q k =
         let closed : BlockClosed (w .entries) e′ (w .apertures) a′ (p .builder) b = rw (q .0, q .1) c in
-        rw g-is (block-end-fault w s p k place ∙ sym fault-is ∙ none, block-ends w s p k (sym fault-is ∙ none) e′ a′ b closed place)
+        rw (r-is, g-is) (block-end-fault w s p k place ∙ sym fault-is ∙ none, block-ends w s p k (sym fault-is ∙ none) e′ a′ b closed place)

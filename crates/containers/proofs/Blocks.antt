@@ -13,14 +13,15 @@ use Rattle.base.specs.Or.{_or_}
 use Rattle.place.specs.Mark.{begin, block, edges, written}
 use Rattle.graphics.specs.declared.Graphics.{Graphics}
 use Rattle.graphics.specs.Graphics.{origin, unset, withPoint}
-use Rattle.command.specs.Choose.{pick}
+use Rattle.base.specs.Choose.{pick}
+use Rattle.command.specs.declared.Bracket.the-variants as bracket
 use Rattle.command.specs.declared.Command.the-variants as command
 use Rattle.changes.specs.After.{after}
-use Rattle.fits.specs.declared.Level.{Level}
+use Rattle.graphics.specs.declared.Level.{Level}
 use Rattle.drawing.specs.Counts.{counted}
-use Rattle.drawing.proofs.Faults.{unbroken}
+use Rattle.base.proofs.Faults.{unbroken}
 use Rattle.rules.specs.Rules.{blockStartFault}
-use Rattle.marks.specs.Marks.{marksOf}
+use Rattle.marks.specs.Marks.{bracketMarks, marksOf}
 use Rattle.bounds.proofs.Tables.{neither}
 use Rattle.index.specs.declared.Search.{Search}
 use Rattle.index.specs.declared.Search.the-variants.{At, Free}
@@ -37,9 +38,7 @@ use Rattle.tables.proofs.Apertures.{aperture-numbered}
 use Rattle.building.specs.Open.{opener}
 use Rattle.building.proofs.Grow.{stays-as-high}
 use Rattle.build.specs.declared.Builder.{Builder}
-use Rattle.build.specs.declared.Put.{Put}
-use Rattle.build.specs.declared.Put.the-variants as put
-use Rattle.build.specs.Builder.{inner, begun}
+use Rattle.build.specs.Builder.{inner}
 use Rattle.build.specs.Entries.{blockEntry}
 use Rattle.shown.specs.Shown.{blank, Shows}
 use Rattle.shown.proofs.Entries.{pushed-is}
@@ -51,9 +50,11 @@ use Rattle.reading.specs.Levels.{inBlock}
 use Rattle.reading.specs.Steps as steps
 use Rattle.reading.specs.Steps.{Step, passed, withLevel, withOpened, blockStartStep}
 use Rattle.progress.specs.declared.Progress.{Progress}
+use Rattle.progress.specs.Parts as parts
+use Rattle.progress.specs.Parts.{withGraphics, withBuilder, withDepth}
 use Rattle.progress.specs.Lent.{Lent, roomOf, withEntries, withApertures}
 use Rattle.progress.specs.Levels.{levelAt, levelOf, Counted}
-use Rattle.progress.specs.Tables.{asRead, ApertureTable}
+use Rattle.progress.specs.Tables.{asStored, asRead, ApertureTable}
 use Rattle.progress.specs.Around.{Around}
 use Rattle.progress.specs.Knows.{Knows, Known, Follows, StepsTo}
 use Rattle.progress.specs.declared.Stepped.the-variants.{Next, Fault}
@@ -72,19 +73,13 @@ taken-fault g l full = go (g .region .on)
     go true = lit≤ tt
     go false = lit≤ tt
 
+-- the record of a block that opens
+abbrev openRecord : ℕ → Aperture
+openRecord n = record { number = n; kind = 0; first = 0; len = 0; items = 0; height = 0 }
+
 -- how far reading has come behind AB
-abbrev pub blocked : Progress → ℕ → Progress
-blocked p n = record {
-  graphics = after (command.BlockStart n) (p .graphics);
-  builder = inner (p .builder) 1;
-  contour = p .contour;
-  depth = p .depth + 1;
-  copies = p .copies;
-  sheet = p .sheet;
-  apertures = p .apertures + 1;
-  macros = p .macros;
-  numbers = p .numbers;
-}
+abbrev pub blocked : Progress → Graphics → Builder → Progress
+blocked p g b = parts.withApertures (p .apertures + 1) (withDepth (p .depth + 1) (withBuilder b (withGraphics g p)))
 
 -- room is full
 abbrev fullAt : List ℕ → List ℕ → Progress → Bool
@@ -116,29 +111,31 @@ module _ (w : Lent) (s : State) (p : Progress) (k : Knows w p s) (place n : ℕ)
     unfolding levelOf levelAt
     block-depth = leb-false 8 (p .depth) (passes .1)
 
-    pub block-room : hasRoom (w .entries) (p .builder .closed) (p .builder .high) ≡ true
-    block-room = not-false _ (neither _ _ (passes .2) .0)
+    pub block-room : p .builder .closed + p .builder .high < entryRoom (w .entries)
+    block-room = room-left _ _ _ (not-false _ (neither _ _ (passes .2) .0))
+
+    high-room : p .builder .high < entryRoom (w .entries)
+    high-room = let l = block-room in omega arith
 
     pub record-room : p .apertures < apertureRoom (w .apertures)
     record-room = leb-false _ _ (neither _ _ (passes .2) .1)
 
     abbrev leaves : List ℕ
-    leaves = pushed (w .entries) (p .builder .closed) (p .builder .high) (blockEntry (p .builder .items) (p .apertures) (p .builder .start) (p .builder .height) place)
+    leaves = pushed (w .entries) (p .builder .high) (blockEntry (p .builder .items) (p .apertures) (p .builder .start) (p .builder .height) place)
 
     abbrev records : List ℕ
-    records = added (w .apertures) (p .apertures) link (apertureWords (opening n))
+    records = added (w .apertures) (p .apertures) link (apertureWords (openRecord n))
 
-    opening-free : numbered (w .apertures) (p .apertures) (opening n .number) ≡ Free link
-    unfolding opening
+    opening-free : numbered (w .apertures) (p .apertures) (openRecord n .number) ≡ Free link
     opening-free = free
 
     kept : (i : ℕ) → i < p .apertures → apertureOf records i ≡ apertureOf (w .apertures) i
-    kept = record-kept (w .apertures) (p .apertures) (s .apertures) (k .apertures) link (opening n) record-room opening-free
+    kept = record-kept (w .apertures) (p .apertures) (s .apertures) (k .apertures) link (openRecord n) record-room opening-free
 
-    new : apertureOf records (p .apertures) ≡ opening n
-    new = record-new (w .apertures) (p .apertures) (s .apertures) (k .apertures) link (opening n) record-room opening-free
+    new : apertureOf records (p .apertures) ≡ openRecord n
+    new = record-new (w .apertures) (p .apertures) (s .apertures) (k .apertures) link (openRecord n) record-room opening-free
 
-    level-then : levelOf (blocked p n) ≡ inBlock (s .level)
+    level-then : levelOf (blocked p (after (command.Contain (bracket.BlockStart n)) (p .graphics)) (inner (p .builder) 1)) ≡ inBlock (s .level)
     unfolding levelOf inner inBlock levelAt
     level-then = block-level 1 0 (p .depth + 1) (p .copies) (p .sheet) (lit≤ tt) ∙ rw (← k .level)
 
@@ -147,15 +144,15 @@ module _ (w : Lent) (s : State) (p : Progress) (k : Knows w p s) (place n : ℕ)
     counts-then = record { within = lit≤ tt; before = lit≤ tt; some = lit≤ tt }
 
     long : entryRoom leaves ≡ entryRoom (w .entries)
-    long = pushed-is (w .entries) (p .builder .closed) (p .builder .high) _ block-room .as-long
+    long = pushed-is (w .entries) (p .builder .high) _ high-room .as-long
 
     opener-is : opener leaves (entryRoom (w .entries)) (p .builder .high + 1) ≡ blockEntry (p .builder .items) (p .apertures) (p .builder .start) (p .builder .height) place
-    opener-is = rw (add-one (p .builder .high)) (pushed-is (w .entries) (p .builder .closed) (p .builder .high) _ block-room .new)
+    opener-is = rw (add-one (p .builder .high)) (pushed-is (w .entries) (p .builder .high) _ high-room .new)
 
     openers : (q : ℕ) → 1 ≤ q → q ≤ p .builder .high → opener (w .entries) (entryRoom (w .entries)) q ≡ opener leaves (entryRoom (w .entries)) q
     openers q some below =
-        let f = room-left (w .entries) (p .builder .closed) (p .builder .high) block-room in
-        sym (pushed-is (w .entries) (p .builder .closed) (p .builder .high) _ block-room .kept _
+        let f = high-room in
+        sym (pushed-is (w .entries) (p .builder .high) _ high-room .kept _
         (λ z. let z′ : entryRoom (w .entries) - q ≡ entryRoom (w .entries) - suc (p .builder .high) = z in absurd (omega arith)))
 
     around-then : Around leaves records (entryRoom leaves) (p .apertures + 1) (opened.block n (s .level) ∷ s .opened) (p .builder .high + 1) 1 (p .depth + 1) (p .copies) (p .sheet)
@@ -185,19 +182,19 @@ module _ (w : Lent) (s : State) (p : Progress) (k : Knows w p s) (place n : ℕ)
         rw (one-more (s .marks) (begin (block n)) refl, long, add-one (p .apertures))
         (opens-block (written (s .marks) blank) (w .entries) (w .apertures) (entryRoom (w .entries)) (p .apertures) (p .builder) (k .shows) block-room
         n place records (λ i l. sym (kept i l)) (ap (λ (x : Aperture). x .number) new) (ap (λ (x : Aperture). eqb (x .kind) 6) new)
-        (λ c d l m q. aperture-numbered (w .apertures) (p .apertures) link (opening n) record-room (k .apertures .indexed) opening-free .distinct c d l m
+        (λ c d l m q. aperture-numbered (w .apertures) (p .apertures) link (openRecord n) record-room (k .apertures .indexed) opening-free .distinct c d l m
         (sym (aperture-number records c) ∙ q ∙ aperture-number records d)))
 
     table-then : ApertureTable records (p .apertures + 1) (s .apertures ++ (opening n ∷ []))
-    unfolding asRead opening
-    table-then = table-more (w .apertures) (p .apertures) (s .apertures) (k .apertures) link (opening n) record-room opening-free (lit≤ tt) (lit≤ tt)
+    unfolding asRead asStored opening
+    table-then = table-more (w .apertures) (p .apertures) (s .apertures) (k .apertures) link (openRecord n) record-room opening-free (lit≤ tt) (lit≤ tt)
 
-    pub block-begins : Knows (withApertures records (withEntries leaves w)) (blocked p n) (blockStartStep (roomOf w) place n s .next)
-    unfolding blockStartStep withLevel withOpened steps.withApertures passed withEntries withApertures after withPoint unset origin marksOf inner
+    pub block-begins : Knows (withApertures records (withEntries leaves w)) (blocked p (after (command.Contain (bracket.BlockStart n)) (p .graphics)) (inner (p .builder) 1)) (blockStartStep (roomOf w) place n s .next)
+    unfolding blockStartStep withLevel withOpened steps.withApertures passed withEntries withApertures after withPoint unset origin marksOf bracketMarks inner
     block-begins =
         let entries = k .entries in
         record {
-          graphics = ap (after (command.BlockStart n)) (k .graphics);
+          graphics = ap (after (command.Contain (bracket.BlockStart n))) (k .graphics);
           point = record { across = lit≤ tt; up = lit≤ tt };
           mode = k .mode;
           inside = k .inside;
@@ -268,33 +265,13 @@ module _ (e a : List ℕ) (p : Progress) (place n : ℕ) (known : Known (λ w. (
       pub record-fits : p .apertures < apertureRoom a
       record-fits = rw (known .is .1) at (record-room (known .lent) (known .state) p (known .knows) place n link (free-at (known .lent) (known .is)) (none-at (known .lent) (known .is)))
 
-      left-room : hasRoom e (p .builder .closed) (p .builder .high) ≡ true
-      left-room = rw (known .is .0) at (block-room (known .lent) (known .state) p (known .knows) place n link (free-at (known .lent) (known .is)) (none-at (known .lent) (known .is)))
+      pub block-fits : p .builder .closed + p .builder .high < entryRoom e
+      block-fits = rw (known .is .0) at (block-room (known .lent) (known .state) p (known .knows) place n link (free-at (known .lent) (known .is)) (none-at (known .lent) (known .is)))
 
-      next-is : begun e (p .builder) 1 ≡ put.Next (inner (p .builder) 1)
-      unfolding begun
-      next-is = rw left-room
-
-      module _ (x : Put) (put-told : x ≡ begun e (p .builder) 1) where
-        pub block-fits : x ≡ put.Full → ⊥
-        block-fits q = let z = next-is in let y : _≡_ {A = ℕ} 0 1 = cc in omega arith
-
-        pub block-opens : (e′ a′ : List ℕ) → a′ ≡ added a (p .apertures) link (apertureWords (record { number = n; kind = 0; first = 0; len = 0; items = 0; height = 0 })) →
-            e′ ≡ pushed e (p .builder .closed) (p .builder .high) (blockEntry (p .builder .items) (p .apertures) (p .builder .start) (p .builder .height) place) →
-            (b : Builder) → x ≡ put.Next b → (g : Graphics) → g ≡ after (command.BlockStart n) (p .graphics) →
-            StepsTo step lends (λ w. withApertures a′ (withEntries e′ w)) p
-            (Next (record {
-              graphics = g;
-              builder = b;
-              contour = p .contour;
-              depth = p .depth + 1;
-              copies = p .copies;
-              sheet = p .sheet;
-              apertures = p .apertures + 1;
-              macros = p .macros;
-              numbers = p .numbers;
-            }))
-        unfolding Follows opening
-        block-opens e′ a′ a′-is e′-is b b-is g g-is w s q k =
-            let grown : b ≡ inner (p .builder) 1 = let z = next-is in cc in
-            rw (g-is, grown, e′-is, a′-is, ← q .0, ← q .1) (found-fault w s q k ∙ none, block-begins w s p k place n link (free-at w q) (none-at w q))
+      pub block-opens : (e′ a′ : List ℕ) → a′ ≡ added a (p .apertures) link (apertureWords (record { number = n; kind = 0; first = 0; len = 0; items = 0; height = 0 })) →
+          {b : Builder} → (b ≡ inner (p .builder) 1) × (e′ ≡ pushed e (p .builder .high) (blockEntry (p .builder .items) (p .apertures) (p .builder .start) (p .builder .height) place)) →
+          {g : Graphics} → g ≡ after (command.Contain (bracket.BlockStart n)) (p .graphics) → {r : Progress} → r ≡ blocked p g b →
+          StepsTo step lends (λ w. withApertures a′ (withEntries e′ w)) p (Next r)
+      unfolding Follows opening
+      block-opens e′ a′ a′-is put g-is r-is w s q k =
+          rw (r-is, g-is, put .0, put .1, a′-is, ← q .0, ← q .1) (found-fault w s q k ∙ none, block-begins w s p k place n link (free-at w q) (none-at w q))

@@ -12,13 +12,14 @@ use Rattle.base.specs.Or.{_or_}
 use Rattle.place.specs.Mark.{finish, edges, written}
 use Rattle.graphics.specs.declared.Graphics.{Graphics}
 use Rattle.graphics.specs.Graphics.{origin, unset, withPoint}
+use Rattle.command.specs.declared.Bracket.the-variants as bracket
 use Rattle.command.specs.declared.Command.the-variants as command
 use Rattle.changes.specs.After.{after}
-use Rattle.fits.specs.declared.Level.{Level}
+use Rattle.graphics.specs.declared.Level.{Level}
 use Rattle.drawing.specs.Counts.{most, counted}
-use Rattle.drawing.proofs.Faults.{unbroken}
+use Rattle.base.proofs.Faults.{unbroken}
 use Rattle.rules.specs.Rules.{closingFault}
-use Rattle.marks.specs.Marks.{marksOf}
+use Rattle.marks.specs.Marks.{bracketMarks, marksOf}
 use Rattle.bounds.proofs.Tables.{neither}
 use Rattle.sheet.specs.Records.{entryRoom}
 use Rattle.sheet.specs.declared.Entry.{Entry}
@@ -33,6 +34,7 @@ use Rattle.reading.specs.State.{State}
 use Rattle.reading.specs.Levels.{raisedTo, withItems}
 use Rattle.reading.specs.Steps.{passed, withLevel, withOpened, repeatEnds, repeatEndStep}
 use Rattle.progress.specs.declared.Progress.{Progress}
+use Rattle.progress.specs.Parts.{withGraphics, withBuilder, withRepeat}
 use Rattle.progress.specs.Lent.{Lent, withEntries}
 use Rattle.progress.specs.Levels.{levelOf, Counted}
 use Rattle.progress.specs.Around.{Around}
@@ -44,18 +46,8 @@ use Rattle.progress.proofs.Levels.{repeat-level, top-level}
 use Rattle.containers.proofs.Levels.{inside-repeat, AroundRepeat, around-repeat}
 
 -- how far reading has come behind the SR that closes
-abbrev pub unrepeated : Progress → Builder → Progress
-unrepeated p b = record {
-  graphics = after command.RepeatEnd (p .graphics);
-  builder = b;
-  contour = p .contour;
-  depth = p .depth;
-  copies = 1;
-  sheet = 0;
-  apertures = p .apertures;
-  macros = p .macros;
-  numbers = p .numbers;
-}
+abbrev pub unrepeated : Progress → Graphics → Builder → Progress
+unrepeated p g b = withRepeat 1 0 (withBuilder b (withGraphics g p))
 
 module _ (w : Lent) (s : State) (p : Progress) (k : Knows w p s) where
   pub repeat-end-fault : (place : ℕ) → repeatEndStep place s .fault ≡ closingFault (p .graphics) (levelOf p) 2
@@ -102,7 +94,7 @@ module _ (w : Lent) (s : State) (p : Progress) (k : Knows w p s) where
     outer-is = sym (inner .here .level) ∙ top-level 10 (o .before) 0 1 0 (lit≤ tt) (λ q. let z : _≡_ {A = ℕ} 10 9 = q in omega arith)
 
     module _ (e′ : List ℕ) (b : Builder) (c : RepeatClosed (w .entries) e′ (p .builder) (p .copies) b) where
-      level-then : levelOf (unrepeated p b) ≡ withItems copied 0 (inner .outer)
+      level-then : levelOf (unrepeated p (after (command.Contain bracket.RepeatEnd) (p .graphics)) b) ≡ withItems copied 0 (inner .outer)
       unfolding levelOf withItems raisedTo
       level-then =
           rw (c .next)
@@ -136,18 +128,18 @@ module _ (w : Lent) (s : State) (p : Progress) (k : Knows w p s) where
           let below = repeat-closes .below in
           rw (c .next) (omega arith)
 
-      next-is : (place : ℕ) → repeatEndStep place s .next ≡ withLevel (withItems copied 0 (inner .outer)) (withOpened (inner .others) (passed command.RepeatEnd place 0 s))
+      next-is : (place : ℕ) → repeatEndStep place s .next ≡ withLevel (withItems copied 0 (inner .outer)) (withOpened (inner .others) (passed (command.Contain bracket.RepeatEnd) place 0 s))
       unfolding repeatEndStep repeatEnds passed
       next-is place =
-          ap (λ os. repeatEnds os (passed command.RepeatEnd place 0 s)) (inner .is)
-          ∙ (λ i. withLevel (withItems (level-is i .copies * level-is i .items) 0 (inner .outer)) (withOpened (inner .others) (passed command.RepeatEnd place 0 s)))
+          ap (λ os. repeatEnds os (passed (command.Contain bracket.RepeatEnd) place 0 s)) (inner .is)
+          ∙ (λ i. withLevel (withItems (level-is i .copies * level-is i .items) 0 (inner .outer)) (withOpened (inner .others) (passed (command.Contain bracket.RepeatEnd) place 0 s)))
 
-      pub repeat-ends : (place : ℕ) → Knows (withEntries e′ w) (unrepeated p b) (repeatEndStep place s .next)
-      unfolding withLevel withOpened passed withEntries after withPoint unset origin marksOf
+      pub repeat-ends : (place : ℕ) → Knows (withEntries e′ w) (unrepeated p (after (command.Contain bracket.RepeatEnd) (p .graphics)) b) (repeatEndStep place s .next)
+      unfolding withLevel withOpened passed withEntries after withPoint unset origin marksOf bracketMarks
       repeat-ends place =
           rw (next-is place)
           (record {
-            graphics = ap (after command.RepeatEnd) (k .graphics);
+            graphics = ap (after (command.Contain bracket.RepeatEnd)) (k .graphics);
             point = record { across = lit≤ tt; up = lit≤ tt };
             mode = k .mode;
             inside = k .inside;
@@ -179,20 +171,9 @@ module _ (e : List ℕ) (p : Progress) (l : Level) (level-told : l ≡ levelOf p
         let k = known .knows in
         rw (← known .is) (repeat-closes w (known .state) p k (sym fault-is ∙ none), repeat-whole w (known .state) p k (sym fault-is ∙ none))
 
-    pub repeat-end-ends : (e′ : List ℕ) (b : Builder) → RepeatClosed e e′ (p .builder) (p .copies) b → (g : Graphics) → g ≡ after command.RepeatEnd (p .graphics) →
-        (place : ℕ) → StepsTo (λ room s. repeatEndStep place s) (λ w. w .entries ≡ e) (withEntries e′) p
-        (Next (record {
-          graphics = g;
-          builder = b;
-          contour = p .contour;
-          depth = p .depth;
-          copies = 1;
-          sheet = 0;
-          apertures = p .apertures;
-          macros = p .macros;
-          numbers = p .numbers;
-        }))
+    pub repeat-end-ends : (e′ : List ℕ) (b : Builder) → RepeatClosed e e′ (p .builder) (p .copies) b → {g : Graphics} → g ≡ after (command.Contain bracket.RepeatEnd) (p .graphics) → {r : Progress} → r ≡ unrepeated p g b →
+        (place : ℕ) → StepsTo (λ room s. repeatEndStep place s) (λ w. w .entries ≡ e) (withEntries e′) p (Next r)
     unfolding Follows
-    repeat-end-ends e′ b c g g-is place w s q k =
+    repeat-end-ends e′ b c g-is r-is place w s q k =
         let closed : RepeatClosed (w .entries) e′ (p .builder) (p .copies) b = rw q c in
-        rw g-is (repeat-end-fault w s p k place ∙ sym fault-is ∙ none, repeat-ends w s p k (sym fault-is ∙ none) e′ b closed place)
+        rw (r-is, g-is) (repeat-end-fault w s p k place ∙ sym fault-is ∙ none, repeat-ends w s p k (sym fault-is ∙ none) e′ b closed place)

@@ -16,23 +16,23 @@ use Rattle.place.specs.Mark.{begin, repeat, edges, written}
 use Rattle.place.specs.declared.Repeat.{Repeat}
 use Rattle.graphics.specs.declared.Graphics.{Graphics}
 use Rattle.graphics.specs.Graphics.{origin, unset, withPoint}
+use Rattle.command.specs.declared.Bracket.the-variants as bracket
 use Rattle.command.specs.declared.Command.the-variants as command
 use Rattle.changes.specs.After.{after}
-use Rattle.fits.specs.declared.Level.{Level}
+use Rattle.graphics.specs.declared.Level.{Level}
 use Rattle.drawing.specs.Counts.{most, counted}
 use Rattle.rules.specs.Bounds.{isCount, isRepeat}
-use Rattle.drawing.proofs.Faults.{unbroken}
+use Rattle.base.proofs.Faults.{unbroken}
 use Rattle.rules.specs.Rules.{repeatStartFault}
-use Rattle.marks.specs.Marks.{repeatOf, marksOf}
+use Rattle.marks.specs.Marks.{repeatOf, bracketMarks, marksOf}
 use Rattle.bounds.specs.Bounded.{Repeats}
 use Rattle.bounds.proofs.Tables.{neither}
 use Rattle.sheet.specs.Records.{entryRoom}
 use Rattle.stack.specs.Stack.{hasRoom, pushed}
+use Rattle.stack.proofs.Turning.{room-left}
 use Rattle.building.specs.Open.{opener}
 use Rattle.build.specs.declared.Builder.{Builder}
-use Rattle.build.specs.declared.Put.{Put}
-use Rattle.build.specs.declared.Put.the-variants as put
-use Rattle.build.specs.Builder.{inner, begun}
+use Rattle.build.specs.Builder.{inner}
 use Rattle.build.specs.Entries.{repeatEntry}
 use Rattle.shown.specs.Shown.{blank, Shows}
 use Rattle.shown.proofs.Entries.{pushed-is}
@@ -42,6 +42,7 @@ use Rattle.reading.specs.State.{State}
 use Rattle.reading.specs.Levels.{inRepeat}
 use Rattle.reading.specs.Steps.{passed, withLevel, withOpened, repeatStartStep}
 use Rattle.progress.specs.declared.Progress.{Progress}
+use Rattle.progress.specs.Parts.{withGraphics, withBuilder, withRepeat}
 use Rattle.progress.specs.Lent.{Lent, roomOf, withEntries}
 use Rattle.progress.specs.Levels.{levelOf, Counted}
 use Rattle.progress.specs.Around.{Around}
@@ -74,18 +75,8 @@ counts-of nx ny dx dy q =
     record { nx-low = a; nx-high = b; ny-low = c; ny-high = d; some = one-le-mul a c; few = mul-le-mul b d }
 
 -- how far reading has come behind SR
-abbrev pub repeated : Progress → ℕ → ℕ → Amount → Amount → Progress
-repeated p nx ny dx dy = record {
-  graphics = after (command.RepeatStart nx ny dx dy) (p .graphics);
-  builder = inner (p .builder) 9;
-  contour = p .contour;
-  depth = p .depth;
-  copies = nx * ny;
-  sheet = p .builder .items;
-  apertures = p .apertures;
-  macros = p .macros;
-  numbers = p .numbers;
-}
+abbrev pub repeated : Progress → ℕ → ℕ → Graphics → Builder → Progress
+repeated p nx ny g b = withRepeat (nx * ny) (p .builder .items) (withBuilder b (withGraphics g p))
 
 module _ (w : Lent) (s : State) (p : Progress) (k : Knows w p s) (place nx ny : ℕ) (dx dy : Amount) (bounds : Repeats nx ny dx dy) where
   -- the test of the code is the rule
@@ -109,8 +100,11 @@ module _ (w : Lent) (s : State) (p : Progress) (k : Knows w p s) (place nx ny : 
     pub repeat-counts : Counts nx ny
     repeat-counts = counts-of nx ny dx dy (passes .1)
 
-    pub repeat-room : hasRoom (w .entries) (p .builder .closed) (p .builder .high) ≡ true
-    repeat-room = passes .2
+    pub repeat-room : p .builder .closed + p .builder .high < entryRoom (w .entries)
+    repeat-room = room-left _ _ _ (passes .2)
+
+    high-room : p .builder .high < entryRoom (w .entries)
+    high-room = let l = repeat-room in omega arith
 
     at-top : (8 < p .builder .height) × (p .builder .height ≡ 9 → ⊥)
     unfolding levelOf
@@ -128,7 +122,7 @@ module _ (w : Lent) (s : State) (p : Progress) (k : Knows w p s) (place nx ny : 
     few : p .builder .items ≤ most
     few = items-known w p s k
 
-    level-then : levelOf (repeated p nx ny dx dy) ≡ inRepeat nx ny (s .level)
+    level-then : levelOf (repeated p nx ny (after (command.Contain (bracket.RepeatStart nx ny dx dy 0)) (p .graphics)) (inner (p .builder) 9)) ≡ inRepeat nx ny (s .level)
     unfolding levelOf inner inRepeat
     level-then = repeat-level 9 0 (p .depth) (nx * ny) (p .builder .items) refl ∙ rw level-is
 
@@ -140,13 +134,13 @@ module _ (w : Lent) (s : State) (p : Progress) (k : Knows w p s) (place nx ny : 
         rw level-is (record { within = omega arith; before = f; some = c })
 
     abbrev left : List ℕ
-    left = pushed (w .entries) (p .builder .closed) (p .builder .high) (repeatEntry (p .builder .items) (p .builder .start) (repeatOf nx ny dx dy) place)
+    left = pushed (w .entries) (p .builder .high) (repeatEntry (p .builder .items) (p .builder .start) (repeatOf nx ny dx dy) place)
 
     long : entryRoom left ≡ entryRoom (w .entries)
-    long = pushed-is (w .entries) (p .builder .closed) (p .builder .high) _ (passes .2) .as-long
+    long = pushed-is (w .entries) (p .builder .high) _ high-room .as-long
 
     opener-is : opener left (entryRoom left) (p .builder .high + 1) ≡ repeatEntry (p .builder .items) (p .builder .start) (repeatOf nx ny dx dy) place
-    opener-is = rw (long, add-one (p .builder .high)) (pushed-is (w .entries) (p .builder .closed) (p .builder .high) _ (passes .2) .new)
+    opener-is = rw (long, add-one (p .builder .high)) (pushed-is (w .entries) (p .builder .high) _ high-room .new)
 
     around-then : Around left (w .apertures) (entryRoom left) (p .apertures) (opened.repeat (s .level) ∷ s .opened) (p .builder .high + 1) 9 (p .depth) (nx * ny) (p .builder .items)
     unfolding Around repeatEntry repeatOf
@@ -170,16 +164,16 @@ module _ (w : Lent) (s : State) (p : Progress) (k : Knows w p s) (place nx ny : 
     shows-then =
         let c = repeat-counts in
         rw (one-more (s .marks) (begin (repeat (repeatOf nx ny dx dy))) refl, long)
-        (opens-repeat (written (s .marks) blank) (w .entries) (w .apertures) (entryRoom (w .entries)) (p .apertures) (p .builder) (k .shows) (passes .2)
+        (opens-repeat (written (s .marks) blank) (w .entries) (w .apertures) (entryRoom (w .entries)) (p .apertures) (p .builder) (k .shows) repeat-room
         (repeatOf nx ny dx dy) place (tops .2) (c .nx-low) (c .nx-high) (c .ny-low) (c .ny-high) (bounds .across) (bounds .up))
 
-    pub repeat-begins : Knows (withEntries (pushed (w .entries) (p .builder .closed) (p .builder .high) (repeatEntry (p .builder .items) (p .builder .start) (repeatOf nx ny dx dy) place)) w)
-        (repeated p nx ny dx dy) (repeatStartStep (roomOf w) place nx ny dx dy s .next)
-    unfolding repeatStartStep withLevel withOpened passed withEntries after withPoint unset origin marksOf inner
+    pub repeat-begins : Knows (withEntries (pushed (w .entries) (p .builder .high) (repeatEntry (p .builder .items) (p .builder .start) (repeatOf nx ny dx dy) place)) w)
+        (repeated p nx ny (after (command.Contain (bracket.RepeatStart nx ny dx dy 0)) (p .graphics)) (inner (p .builder) 9)) (repeatStartStep (roomOf w) place nx ny dx dy s .next)
+    unfolding repeatStartStep withLevel withOpened passed withEntries after withPoint unset origin marksOf bracketMarks inner
     repeat-begins =
         let entries = k .entries in
         record {
-          graphics = ap (after (command.RepeatStart nx ny dx dy)) (k .graphics);
+          graphics = ap (after (command.Contain (bracket.RepeatStart nx ny dx dy 0))) (k .graphics);
           point = record { across = lit≤ tt; up = lit≤ tt };
           mode = k .mode;
           inside = k .inside;
@@ -213,33 +207,14 @@ module _ (e : List ℕ) (p : Progress) (place nx ny : ℕ) (dx dy : Amount) (bou
     pub repeat-few : nx * ny ≤ 99_980_001
     repeat-few = repeat-counts (known .lent) (known .state) p (known .knows) place nx ny dx dy bounds none-is .few
 
-    left-room : hasRoom e (p .builder .closed) (p .builder .high) ≡ true
-    left-room = rw (known .is) at (repeat-room (known .lent) (known .state) p (known .knows) place nx ny dx dy bounds none-is)
+    pub repeat-fits : p .builder .closed + p .builder .high < entryRoom e
+    repeat-fits = rw (known .is) at (repeat-room (known .lent) (known .state) p (known .knows) place nx ny dx dy bounds none-is)
 
-    next-is : begun e (p .builder) 9 ≡ put.Next (inner (p .builder) 9)
-    unfolding begun
-    next-is = rw left-room
-
-    module _ (x : Put) (put-told : x ≡ begun e (p .builder) 9) where
-      pub repeat-fits : x ≡ put.Full → ⊥
-      repeat-fits q = let z = next-is in let y : _≡_ {A = ℕ} 0 1 = cc in omega arith
-
-      pub repeat-opens : (e′ : List ℕ) (r : Repeat) → r ≡ repeatOf nx ny dx dy → e′ ≡ pushed e (p .builder .closed) (p .builder .high) (repeatEntry (p .builder .items) (p .builder .start) r place) →
-          (b : Builder) → x ≡ put.Next b → (g : Graphics) → g ≡ after (command.RepeatStart nx ny dx dy) (p .graphics) →
-          StepsTo (λ room s. repeatStartStep room place nx ny dx dy s) (λ w. w .entries ≡ e) (withEntries e′) p
-          (Next (record {
-            graphics = g;
-            builder = b;
-            contour = p .contour;
-            depth = p .depth;
-            copies = nx * ny;
-            sheet = p .builder .items;
-            apertures = p .apertures;
-            macros = p .macros;
-            numbers = p .numbers;
-          }))
-      unfolding Follows
-      repeat-opens e′ r r-is e′-is b b-is g g-is w s q k =
-          let none-here = rw (← q) at (sym fault-is ∙ none) in
-          let grown : b ≡ inner (p .builder) 9 = let z = next-is in cc in
-          rw (g-is, grown, e′-is, r-is, ← q) (repeat-fault w s p k place nx ny dx dy bounds ∙ none-here, repeat-begins w s p k place nx ny dx dy bounds none-here)
+    pub repeat-opens : (e′ : List ℕ) {r : Repeat} → r ≡ repeatOf nx ny dx dy →
+        {b : Builder} → (b ≡ inner (p .builder) 9) × (e′ ≡ pushed e (p .builder .high) (repeatEntry (p .builder .items) (p .builder .start) r place)) →
+        {g : Graphics} → g ≡ after (command.Contain (bracket.RepeatStart nx ny dx dy 0)) (p .graphics) → {next : Progress} → next ≡ repeated p nx ny g b →
+        StepsTo (λ room s. repeatStartStep room place nx ny dx dy s) (λ w. w .entries ≡ e) (withEntries e′) p (Next next)
+    unfolding Follows
+    repeat-opens e′ r-is put g-is next-is w s q k =
+        let none-here = rw (← q) at (sym fault-is ∙ none) in
+        rw (next-is, g-is, put .0, put .1, r-is, ← q) (repeat-fault w s p k place nx ny dx dy bounds ∙ none-here, repeat-begins w s p k place nx ny dx dy bounds none-here)

@@ -12,16 +12,17 @@ use Rattle.base.specs.Run.{run}
 use Rattle.index.specs.Tree.{linkOf}
 use Rattle.index.specs.Numbers.{Numbered}
 use Rattle.index.proofs.Seek.{link-words}
-use Rattle.sheet.specs.Records.{apertureOf, apertureRoom, stored}
-use Rattle.sheet.specs.declared.Aperture.{Aperture}
+use Rattle.sheet.specs.Records.{apertureWidth, apertureOf, apertureRoom, stored}
+use Rattle.sheet.specs.declared.Aperture as store
 use Rattle.sheet.proofs.Stored.{stored-below, stored-above, stored-long}
 use Rattle.sheet.proofs.Apertures.{aperture-number}
 use Rattle.shown.proofs.Closed.{block-written, others-kept}
 use Rattle.tables.proofs.Numbers.{numbered-agree}
 use Rattle.drawing.specs.Counts.{most}
 use Rattle.graphics.specs.declared.Selected.{Selected}
+use Rattle.reading.specs.State.{Aperture}
 use Rattle.reading.specs.Apertures.{selected, blockOf, closing}
-use Rattle.progress.specs.Tables.{asRead, ApertureTable, Chosen}
+use Rattle.progress.specs.Tables.{asStored, asRead, ApertureTable, Chosen}
 use Rattle.progress.proofs.AsRead.{block-as-read, number-as-read}
 
 -- `closing` goes over the records one by one
@@ -36,23 +37,23 @@ closing-run f g n items height p (suc k) each =
 
 module _ (a : List ℕ) (used : ℕ) (known : List Aperture) (t : ApertureTable a used known) (i first len items height : ℕ) (inside : i < used) where
   abbrev a′ : List ℕ
-  a′ = stored a (i * 8 + 1) (6 ∷ first ∷ len ∷ items ∷ height ∷ [])
+  a′ = stored a (i * apertureWidth + 1) (6 ∷ first ∷ len ∷ items ∷ height ∷ [])
 
-  rooms : used * 8 ≤ length a
+  rooms : used * apertureWidth ≤ length a
   rooms = t .indexed .tree .inside
 
   pub closing-room : i < apertureRoom a
   closing-room = let r = rooms in omega arith
 
-  fits : i * 8 + 1 + 5 ≤ length a
+  fits : i * apertureWidth + 1 + 5 ≤ length a
   fits = let r = rooms in omega arith
 
-  word-kept : (k : ℕ) → (i * 8 + 1 ≤ k → i * 8 + 6 ≤ k) → getD a′ k 0 ≡ getD a k 0
-  word-kept k out = go (ltb k (i * 8 + 1)) refl
+  word-kept : (k : ℕ) → (i * apertureWidth + 1 ≤ k → i * apertureWidth + 6 ≤ k) → getD a′ k 0 ≡ getD a k 0
+  word-kept k out = go (ltb k (i * apertureWidth + 1)) refl
     where
-      go : (x : Bool) → ltb k (i * 8 + 1) ≡ x → getD a′ k 0 ≡ getD a k 0
-      go true q = stored-below a (i * 8 + 1) (6 ∷ first ∷ len ∷ items ∷ height ∷ []) fits k (ltb-true k (i * 8 + 1) q)
-      go false q = let p = out (ltb-false k (i * 8 + 1) q) in stored-above a (i * 8 + 1) (6 ∷ first ∷ len ∷ items ∷ height ∷ []) fits k (omega arith)
+      go : (x : Bool) → ltb k (i * apertureWidth + 1) ≡ x → getD a′ k 0 ≡ getD a k 0
+      go true q = stored-below a (i * apertureWidth + 1) (6 ∷ first ∷ len ∷ items ∷ height ∷ []) fits k (ltb-true k (i * apertureWidth + 1) q)
+      go false q = let p = out (ltb-false k (i * apertureWidth + 1) q) in stored-above a (i * apertureWidth + 1) (6 ∷ first ∷ len ∷ items ∷ height ∷ []) fits k (omega arith)
 
   pub closing-kept : (j : ℕ) → (j ≡ i → ⊥) → apertureOf a′ j ≡ apertureOf a j
   closing-kept = others-kept a i first len items height closing-room
@@ -62,11 +63,11 @@ module _ (a : List ℕ) (used : ℕ) (known : List Aperture) (t : ApertureTable 
 
   indexed-then : Numbered a′ used
   indexed-then =
-      let long = stored-long a (i * 8 + 1) (6 ∷ first ∷ len ∷ items ∷ height ∷ []) fits in
+      let long = stored-long a (i * apertureWidth + 1) (6 ∷ first ∷ len ∷ items ∷ height ∷ []) fits in
       let r = rooms in
       numbered-agree a a′ used (t .indexed) (omega arith)
       (λ j key l. let p = link-words j key in word-kept (linkOf j key) (λ q. omega arith))
-      (λ j l. word-kept (j * 8) (λ q. omega arith))
+      (λ j l. word-kept (j * apertureWidth) (λ q. omega arith))
 
   -- a statement of the record that closes, and of every other
   either : (P : ℕ → Type 0) → P i → ((j : ℕ) → (j ≡ i → ⊥) → P j) → (j : ℕ) → P j
@@ -94,8 +95,8 @@ module _ (a : List ℕ) (used : ℕ) (known : List Aperture) (t : ApertureTable 
   }
 
   -- the aperture that is chosen is no block that is open
-  open-unset : (slot : ℕ) (r : Aperture) → r .kind ≡ 0 → selected slot (asRead r) .set ≡ false
-  unfolding selected asRead
+  open-unset : (slot : ℕ) (r : store.Aperture) → r .kind ≡ 0 → selected slot (asRead r) .set ≡ false
+  unfolding selected asRead asStored
   open-unset slot r q = rw q
 
   pub chosen-closed : (c : Selected) → apertureOf a i .kind ≡ 0 → Chosen a used c → Chosen a′ used c

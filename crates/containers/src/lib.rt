@@ -6,7 +6,7 @@ ghost use Rattle.reading.specs.Steps.{blockStartStep, blockEndStep, repeatStart
 ghost use Rattle.bounds.specs.Bounded.{Repeats};
 ghost use Rattle.progress.specs.Lent.{withEntries, withApertures};
 ghost use Rattle.progress.specs.Knows.{Known, StepsTo};
-use build::Put;
+use command::Bracket;
 use command::Command;
 use decimal::Amount;
 use index::Search;
@@ -25,7 +25,7 @@ pub fn block_start(e: &mut [u64], a: &mut [u64], p: Progress, place: u64, n: u64
     let b = p.builder;
     let used = p.apertures;
     let room = stack::has_room(e, b.closed, b.high);
-    let full = base::either(!room, used >= a.len() / 8);
+    let full = base::either(!room, used >= a.len() / sheet::APERTURE_WORDS);
     let level = progress::level_of(p);
     let found = index::search_number(a, used, n);
     let Search::Free(link) = found else {
@@ -44,21 +44,10 @@ pub fn block_start(e: &mut [u64], a: &mut [u64], p: Progress, place: u64, n: u64
         height: 0,
     };
     tables::put_aperture(a, used, link, opening);
-    let put = build::open_block(e, b, used as u64, place);
-    let Put::Next(builder) = put else {
-        return Stepped::Fault(17);
-    };
-    Stepped::Next(Progress {
-        graphics: changes::after(Command::BlockStart(n), g),
-        builder,
-        contour: p.contour,
-        depth: p.depth + 1,
-        copies: p.copies,
-        sheet: p.sheet,
-        apertures: used + 1,
-        macros: p.macros,
-        numbers: p.numbers,
-    })
+    let builder = build::open_block(e, b, used as u64, place);
+    let c = Command::Contain(Bracket::BlockStart(n));
+    let built = progress::with_builder(builder, progress::with_graphics(changes::after(c, g), p));
+    Stepped::Next(progress::with_apertures(used + 1, progress::with_depth(p.depth + 1, built)))
 }
 
 // AB, closing: the record of its number is a block from here on.
@@ -75,17 +64,9 @@ pub fn block_end(e: &mut [u64], a: &mut [u64], p: Progress) -> Stepped
         return Stepped::Fault(fault);
     }
     let builder = close::close_block(e, a, b);
-    Stepped::Next(Progress {
-        graphics: changes::after(Command::BlockEnd, g),
-        builder,
-        contour: p.contour,
-        depth: p.depth - 1,
-        copies: p.copies,
-        sheet: p.sheet,
-        apertures: p.apertures,
-        macros: p.macros,
-        numbers: p.numbers,
-    })
+    let c = Command::Contain(Bracket::BlockEnd);
+    let built = progress::with_builder(builder, progress::with_graphics(changes::after(c, g), p));
+    Stepped::Next(progress::with_depth(p.depth - 1, built))
 }
 
 // SR, opening.
@@ -115,21 +96,16 @@ pub fn repeat_start(
     if fault != 0 {
         return Stepped::Fault(fault);
     }
-    let put = build::open_repeat(e, b, marks::repeat_of(nx, ny, dx, dy), place);
-    let Put::Next(builder) = put else {
-        return Stepped::Fault(17);
-    };
-    Stepped::Next(Progress {
-        graphics: changes::after(Command::RepeatStart { nx, ny, dx, dy }, g),
-        builder,
-        contour: p.contour,
-        depth: p.depth,
-        copies: nx * ny,
-        sheet: b.items,
-        apertures: p.apertures,
-        macros: p.macros,
-        numbers: p.numbers,
-    })
+    let builder = build::open_repeat(e, b, marks::repeat_of(nx, ny, dx, dy), place);
+    let c = Command::Contain(Bracket::RepeatStart {
+        nx,
+        ny,
+        dx,
+        dy,
+        rounded: 0,
+    });
+    let built = progress::with_builder(builder, progress::with_graphics(changes::after(c, g), p));
+    Stepped::Next(progress::with_repeat(nx * ny, b.items, built))
 }
 
 // SR, closing: the sheet goes on with the copies.
@@ -145,15 +121,7 @@ pub fn repeat_end(e: &mut [u64], p: Progress) -> Stepped
         return Stepped::Fault(fault);
     }
     let builder = close::close_repeat(e, b, p.copies);
-    Stepped::Next(Progress {
-        graphics: changes::after(Command::RepeatEnd, g),
-        builder,
-        contour: p.contour,
-        depth: p.depth,
-        copies: 1,
-        sheet: 0,
-        apertures: p.apertures,
-        macros: p.macros,
-        numbers: p.numbers,
-    })
+    let c = Command::Contain(Bracket::RepeatEnd);
+    let built = progress::with_builder(builder, progress::with_graphics(changes::after(c, g), p));
+    Stepped::Next(progress::with_repeat(1, 0, built))
 }

@@ -1,11 +1,10 @@
 -- An edge more of a contour: it is counted, and put.
 use Prim.Native.Nat.{ℕ, suc, _+_, _-_, _*_}
-use mathlib.Core.Bool.{cond}
 use mathlib.Core.List.{List}
 use Rattle.place.specs.declared.Item.{Item}
-use Rattle.sheet.specs.Records.{entryOf, entryRoom, entryWords, stored}
+use Rattle.sheet.specs.Records.{entryWidth, entryOf, entryRoom, entryWords, stored}
 use Rattle.sheet.specs.declared.Entry.{Entry}
-use Rattle.stack.specs.Stack.{hasRoom, pushed}
+use Rattle.stack.specs.Stack.{pushed}
 use Rattle.build.specs.declared.Builder.{Builder}
 use Rattle.build.specs.Entries.{itemEntry}
 
@@ -30,7 +29,7 @@ counted r = record {
 
 -- the contour at place c of the stack counts one more
 unfoldable pub countedAt : List ℕ → ℕ → List ℕ
-countedAt e c = stored e ((entryRoom e - suc c) * 15) (entryWords (counted (entryOf e (entryRoom e - suc c))))
+countedAt e c = stored e ((entryRoom e - suc c) * entryWidth) (entryWords (counted (entryOf e (entryRoom e - suc c))))
 
 unfoldable pub edged : List ℕ → Builder → ℕ → Item → List ℕ
-edged e b c t = cond (hasRoom e (b .closed) (b .high)) (pushed (countedAt e c) (b .closed) (b .high) (itemEntry (b .items) t)) e
+edged e b c t = pushed (countedAt e c) (b .high) (itemEntry (b .items) t)

@@ -1,13 +1,12 @@
 // A contour's edges: each is counted in the contour's entry and put behind the others. The contour itself is put as an item without edges.
 use build::Builder;
-use build::Put;
 use place::Item;
 use sheet::Entry;
 ghost use mathlib.Core.Path.{_≡_};
-ghost use Prim.Native.Nat.{suc, _-_, _*_, _≤_, _<_};
-ghost use Rattle.sheet.specs.Records.{entryOf, entryRoom, entryWords, stored};
-ghost use Rattle.build.specs.Builder.{added};
-ghost use Rattle.contours.specs.Counted.{counted, edged};
+ghost use Prim.Native.Nat.{suc, _+_, _-_, _≤_, _<_};
+ghost use Rattle.sheet.specs.Records.{entryOf, entryRoom};
+ghost use Rattle.build.specs.Builder.{grown};
+ghost use Rattle.contours.specs.Counted.{counted, countedAt, edged};
 
 // The entry with one edge more.
 fn one_more(r: Entry) -> Entry
@@ -33,24 +32,22 @@ fn one_more(r: Entry) -> Entry
     }
 }
 
-// Counts an edge more in entry i.
-fn count_edge(e: &mut [u64], i: usize)
-    requires { ⌜ (i < entryRoom (now e)) × (entryOf (now e) i .count ≤ 1000000000000) ⌝ }
-    ensures { λ _. ⌜ now (e .exit) ≡ stored (now (e .entry)) (i * 15) (entryWords (counted (entryOf (now (e .entry)) i))) ⌝ }
+// Counts an edge more in the contour at place c of the stack.
+fn count_edge(e: &mut [u64], c: usize)
+    requires { ⌜ (c < entryRoom (now e)) × (entryOf (now e) (entryRoom (now e) - suc c) .count ≤ 1000000000000) ⌝ }
+    ensures { λ _. ⌜ now (e .exit) ≡ countedAt (now (e .entry)) c ⌝ }
 {
+    let i = e.len() / sheet::ENTRY_WORDS - 1 - c;
     let r = one_more(sheet::entry_at(e, i));
     sheet::put_entry(e, i, r);
 }
 
-// Puts an edge of the contour that stands at place c of the stack; where there is no room, nothing is counted.
-pub fn add_edge(e: &mut [u64], b: Builder, c: usize, t: Item) -> Put
+// Puts an edge of the contour at place c of the stack.
+pub fn add_edge(e: &mut [u64], b: Builder, c: usize, t: Item) -> Builder
+    requires { ⌜ b .closed + b .high < entryRoom (now e) ⌝ }
     requires { ⌜ (b .items ≤ 1000000000000) × (c < b .high) × (entryOf (now e) (entryRoom (now e) - suc c) .count ≤ 1000000000000) ⌝ }
-    ensures { λ x. ⌜ (x ≡ added (now (e .entry)) b 1 (b .height)) × (now (e .exit) ≡ edged (now (e .entry)) b c t) ⌝ }
+    ensures { λ x. ⌜ (x ≡ grown b 1 (b .height)) × (now (e .exit) ≡ edged (now (e .entry)) b c t) ⌝ }
 {
-    if stack::has_room(e, b.closed, b.high) {
-        let i = e.len() / 15 - 1 - c;
-        count_edge(e, i);
-        return build::add_item(e, b, t);
-    }
-    Put::Full
+    count_edge(e, c);
+    build::add_item(e, b, t)
 }

@@ -34,7 +34,7 @@ fn value(v: u64, w: u64) -> u64 {
 
 // What asking for item n comes to: 0, 20 or 21.
 fn asked(head: &[u64; 8], e: &[u64], a: &[u64], n: u64) -> u64 {
-    let mut out = [0; 15];
+    let mut out = [0; place::ITEM_WORDS];
     match descend::sheet_run(head, e, a, n, &mut out) {
         Fetch::Done => 0,
         Fetch::Past => 20,

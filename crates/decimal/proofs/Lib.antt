@@ -1,3 +1,4 @@
+pub mod Exact
 pub mod Millionths
 pub mod Point
 pub mod Rounding

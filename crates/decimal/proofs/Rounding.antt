@@ -67,15 +67,23 @@ value-split (suc k) (b ∷ s) h =
 
 -- up to six digits after the point: nothing is rounded
 module _ (whole fraction : List ℕ) (h : length fraction ≤ 6) where
-  rounds-short : inMillionths whole fraction ≡ inSix whole fraction
-  unfolding inMillionths inSix
-  rounds-short =
+  exact-short : (valueOf whole * 10 ^ length fraction + valueOf fraction) * 10 ^ 6 ≡ inSix whole fraction * 10 ^ length fraction + 0
+  unfolding inSix
+  exact-short =
       let n : ℕ = length fraction in
       let e : n + (6 - n) ≡ 6 = omega arith in
       let p : 10 ^ n * 10 ^ (6 - n) ≡ 10 ^ 6 = sym (pow-add 10 n (6 - n)) ∙ ap (λ (x : ℕ). 10 ^ x) e in
       let q : valueOf fraction * (10 ^ n * 10 ^ (6 - n)) ≡ valueOf fraction * 10 ^ 6 = ap (λ (x : ℕ). valueOf fraction * x) p in
-      let z : (valueOf whole * 10 ^ n + valueOf fraction) * 10 ^ 6 ≡ (valueOf whole * 10 ^ 6 + valueOf fraction * 10 ^ (6 - n)) * 10 ^ n + 0 = omega (arith, q) in
-      rw z (nearest-down (valueOf whole * 10 ^ 6 + valueOf fraction * 10 ^ (6 - n)) (10 ^ n) 0 (one-le-pow n 10 (omega arith)))
+      omega (arith, q)
+
+  rounds-short : inMillionths whole fraction ≡ inSix whole fraction
+  unfolding inMillionths
+  rounds-short =
+      let n : ℕ = length fraction in
+      rw exact-short (nearest-down (inSix whole fraction) (10 ^ n) 0 (one-le-pow n 10 (omega arith)))
+
+  pub kept-exactly : inMillionths whole fraction * 10 ^ length fraction ≡ (valueOf whole * 10 ^ length fraction + valueOf fraction) * 10 ^ 6
+  kept-exactly = rw rounds-short (omega (arith, exact-short))
 
 -- more: the seventh digit tells whether those from it on are a half or above
 module _ (whole fraction : List ℕ) (d : allDigits fraction ≡ true) (h : 6 < length fraction) where

@@ -30,7 +30,7 @@ inMillionths whole fraction =
     let n : ℕ = length fraction in
     nearest ((valueOf whole * 10 ^ n + valueOf fraction) * 10 ^ 6) (10 ^ n)
 
--- a seventh digit after the point: no trailing zero, so the exact value is no whole number of millionths
+-- a seventh digit after the point: no trailing zero, so that what is written is no whole number of millionths (a law: proofs/Exact)
 unfoldable pub isRounded : List ℕ → Bool
 isRounded fraction = leb 7 (length fraction)
 

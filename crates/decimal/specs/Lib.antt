@@ -1,4 +1,5 @@
 pub mod Amounts
 pub mod Decimal
+pub mod Exact
 pub mod Kept
 pub mod Point

@@ -11,7 +11,7 @@ use lib.IntN.{ℤ}
 use lib.ListN.{length}
 use borrow.Author.Tests.{ltb-true, not-false, ne-eqb}
 use Rattle.base.specs.Or.{_or_}
-use Rattle.command.specs.Choose.{pick}
+use Rattle.base.specs.Choose.{pick}
 use Rattle.index.specs.declared.Search.the-variants.{At, Free}
 use Rattle.index.specs.Numbers.{numbered}
 use Rattle.sheet.specs.Records.{entryRoom, apertureRoom}
@@ -28,11 +28,12 @@ use Rattle.reading.specs.Apertures as reading
 use Rattle.reading.specs.Apertures.{isStandard, isAmong, namesOf, outcomeOf, defined}
 use Rattle.reading.specs.Steps.{apertureStep}
 use Rattle.reading.specs.Steps as steps
-use Rattle.drawing.proofs.Faults.{unbroken}
+use Rattle.base.proofs.Faults.{unbroken}
 use Rattle.building.proofs.Grow.{stays-as-high}
+use Rattle.progress.specs.Parts as parts
 use Rattle.progress.specs.Lent.{Lent, roomOf, withApertures, withNumbers}
 use Rattle.progress.specs.Levels.{levelOf}
-use Rattle.progress.specs.Tables.{ApertureTable, NumberTable}
+use Rattle.progress.specs.Tables.{asStored, ApertureTable, NumberTable}
 use Rattle.progress.specs.Knows.{Knows, Follows}
 use Rattle.progress.specs.declared.Progress.{Progress}
 use Rattle.progress.specs.declared.Stepped.the-variants.{Next, Fault}
@@ -215,8 +216,8 @@ module _ (w : Lent) (p : Progress) (s : State) (k : Knows w p s) (file a m : Lis
         other : eqb kind 6 ≡ false
         other = rw ek (no-block name)
 
-        is-defined : r ≡ defined n name (length (s .numbers)) (e .kept)
-        unfolding defined
+        is-defined : asStored r ≡ defined n name (length (s .numbers)) (e .kept)
+        unfolding asStored defined
         is-defined =
             let u = used-is in
             let len : o .used - p .numbers ≡ length (e .kept) = omega arith in
@@ -224,22 +225,13 @@ module _ (w : Lent) (p : Progress) (s : State) (k : Knows w p s) (file a m : Lis
             λ i. record { number = n; kind = ek i; first = first i; len = len i; items = 0; height = 0 }
 
         pub aperture-goes : (a′ : List ℕ) → a′ ≡ added a (p .apertures) link (apertureWords r)
-            → Follows (Knows (withApertures a′ (withNumbers l′ w))) (apertureStep (roomOf w) n name parameters s) (Next (record {
-              graphics = p .graphics;
-              builder = p .builder;
-              contour = p .contour;
-              depth = p .depth;
-              copies = p .copies;
-              sheet = p .sheet;
-              apertures = p .apertures + 1;
-              macros = p .macros;
-              numbers = o .used;
-            }))
+            → {next : Progress} → next ≡ parts.withApertures (p .apertures + 1) (parts.withNumbers (o .used) p)
+            → Follows (Knows (withApertures a′ (withNumbers l′ w))) (apertureStep (roomOf w) n name parameters s) (Next next)
         unfolding Follows apertureStep steps.withApertures steps.withNumbers withApertures withNumbers levelOf
-        aperture-goes a′ ea =
+        aperture-goes a′ ea next-is =
             let kept = record-kept a (p .apertures) (s .apertures) table link r there free in (
               fault-is ∙ z,
-              record {
+              rw next-is (record {
                 graphics = k .graphics;
                 point = k .point;
                 mode = k .mode;
@@ -255,5 +247,5 @@ module _ (w : Lent) (p : Progress) (s : State) (k : Knows w p s) (file a m : Lis
                 entries = k .entries;
                 shows = rw ea (shows-more a (p .apertures) (s .apertures) table link r there free (s .marks) (w .entries) (p .builder) other (rw (lends .apertures-are) at (k .shows)));
                 contour = λ c. absurd (no-contour w p s k outside c);
-              },
+              }),
             )

@@ -12,7 +12,7 @@ use lib.ListN.{length, drop, set}
 use lib.Seq.{slice}
 use Rattle.text.specs.First.{place}
 use Rattle.text.proofs.First.{first-from}
-use Rattle.command.specs.Choose.{pick}
+use Rattle.base.specs.Choose.{pick}
 use Rattle.command.specs.Numbers.{sizeOf}
 use Rattle.decimal.specs.declared.answers.Amount.{Amount}
 use Rattle.text.proofs.Pieces.{pieces-next, pieces-end}

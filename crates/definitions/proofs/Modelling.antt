@@ -10,7 +10,7 @@ use lib.ListN.{length}
 use lib.Seq.{slice}
 use borrow.Author.Tests.{ltb-true, not-false}
 use Rattle.base.specs.Or.{_or_}
-use Rattle.command.specs.Choose.{pick}
+use Rattle.base.specs.Choose.{pick}
 use Rattle.index.specs.declared.Search.the-variants.{At, Free}
 use Rattle.index.specs.Names.{named}
 use Rattle.tables.specs.Added.{hasRoom, added}
@@ -23,7 +23,8 @@ use Rattle.reading.specs.State.{State}
 use Rattle.reading.specs.Apertures.{isAmong, namesOf, isStandard}
 use Rattle.reading.specs.Steps.{macroStep}
 use Rattle.reading.specs.Steps as steps
-use Rattle.drawing.proofs.Faults.{unbroken}
+use Rattle.base.proofs.Faults.{unbroken}
+use Rattle.progress.specs.Parts as parts
 use Rattle.progress.specs.Lent.{Lent, roomOf, withMacros}
 use Rattle.progress.specs.Levels.{levelOf}
 use Rattle.progress.specs.Tables.{templateOf, MacroTable}
@@ -72,25 +73,16 @@ module _ (w : Lent) (p : Progress) (s : State) (k : Knows w p s) (file m : List 
     macro-refused K h = (fault-is, omega arith)
 
     pub macro-goes : fault ≡ 0 → (r : Macro) → slice (r .from) (r .to) file ≡ name → slice (r .first) (r .end) file ≡ blocks → r .first ≤ r .end → r .end ≤ length file
-        → (m′ : List ℕ) → m′ ≡ added m (p .macros) link (macroWords r) → Follows (Knows (withMacros m′ w)) (macroStep (roomOf w) name blocks deep s) (Next (record {
-          graphics = p .graphics;
-          builder = p .builder;
-          contour = p .contour;
-          depth = p .depth;
-          copies = p .copies;
-          sheet = p .sheet;
-          apertures = p .apertures;
-          macros = p .macros + 1;
-          numbers = p .numbers;
-        }))
+        → (m′ : List ℕ) → m′ ≡ added m (p .macros) link (macroWords r) → {next : Progress} → next ≡ parts.withMacros (p .macros + 1) p
+        → Follows (Knows (withMacros m′ w)) (macroStep (roomOf w) name blocks deep s) (Next next)
     unfolding Follows macroStep steps.withMacros withMacros levelOf macroFault hasRoom templateOf
-    macro-goes z r en eb ordered inside m′ em =
+    macro-goes z r en eb ordered inside m′ em next-is =
         let f = unbroken (omega arith) (unbroken (omega arith) (unbroken (omega arith) (sym ef ∙ z) .1) .1) .1 in
         let has : room ≡ true = not-false _ (unbroken (omega arith) f .0) in
         let there : p .macros < macroRoom m = ltb-true _ _ (sym er ∙ has) in
         let more = table-more file m (p .macros) (s .macros) table link r there (rw en free) ordered inside in (
           fault-is ∙ z,
-          record {
+          rw next-is (record {
             graphics = k .graphics;
             point = k .point;
             mode = k .mode;
@@ -105,5 +97,5 @@ module _ (w : Lent) (p : Progress) (s : State) (k : Knows w p s) (file m : List 
             entries = k .entries;
             shows = k .shows;
             contour = k .contour;
-          },
+          }),
         )

@@ -6,7 +6,7 @@ use mathlib.Core.Bool.{Bool, true, false, not}
 use lib.Dec.{eqb, leb, ltb}
 use borrow.Author.Tests.{eqb-true, eqb-false, ltb-true, ltb-false, le-leb, lt-leb}
 use Rattle.base.specs.Or.{_or_}
-use Rattle.command.specs.Choose.{pick}
+use Rattle.base.specs.Choose.{pick}
 
 -- a row that gives the number it tests
 pub passes-number : (x rest : ℕ) → pick (not (eqb x 0)) x rest ≡ 0 → (x ≡ 0) × (rest ≡ 0)

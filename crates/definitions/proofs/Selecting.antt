@@ -17,7 +17,8 @@ use Rattle.rules.specs.Rules.{selectFault}
 use Rattle.reading.specs.State.{State}
 use Rattle.reading.specs.Apertures.{selected, apertureWith}
 use Rattle.reading.specs.Steps.{withGraphics, selectStep}
-use Rattle.drawing.proofs.Faults.{unbroken}
+use Rattle.base.proofs.Faults.{unbroken}
+use Rattle.progress.specs.Parts as parts
 use Rattle.progress.specs.Lent.{Lent}
 use Rattle.progress.specs.Levels.{levelOf}
 use Rattle.progress.specs.Tables.{ApertureTable, Chosen}
@@ -65,23 +66,13 @@ module _ (w : Lent) (p : Progress) (s : State) (k : Knows w p s) (n : ℕ) (a : 
   unfolding Follows selectStep
   select-refused h = (fault-is, omega arith)
 
-  pub select-goes : fault ≡ 0 → (g : Graphics) → g ≡ withAperture c (p .graphics) → Follows (Knows w) (selectStep n s) (Next (record {
-    graphics = g;
-    builder = p .builder;
-    contour = p .contour;
-    depth = p .depth;
-    copies = p .copies;
-    sheet = p .sheet;
-    apertures = p .apertures;
-    macros = p .macros;
-    numbers = p .numbers;
-  }))
+  pub select-goes : fault ≡ 0 → {g : Graphics} → g ≡ withAperture c (p .graphics) → {r : Progress} → r ≡ parts.withGraphics g p → Follows (Knows w) (selectStep n s) (Next r)
   unfolding Follows selectStep withGraphics withAperture levelOf selectFault
-  select-goes z g eg =
+  select-goes z eg er =
       let on = unbroken (omega arith) (sym ef ∙ z) .1 in
       let set : c .set ≡ true = not-false _ (unbroken (omega arith) on .0) in (
         fault-is ∙ z,
-        record {
+        rw er (record {
           graphics = rw (eg, chosen-is, k .graphics);
           point = k .point;
           mode = k .mode;
@@ -96,5 +87,5 @@ module _ (w : Lent) (p : Progress) (s : State) (k : Knows w p s) (n : ℕ) (a : 
           entries = k .entries;
           shows = k .shows;
           contour = k .contour;
-        },
+        }),
       )

@@ -7,7 +7,8 @@ use Rattle.sheet.specs.Records.{apertureOf}
 use Rattle.graphics.specs.Graphics.{noAperture}
 use Rattle.graphics.specs.declared.Selected.{Selected}
 use Rattle.reading.specs.Apertures.{selected}
+use Rattle.progress.specs.Tables.{asStored}
 
 unfoldable pub chosenBy : List ℕ → Search → Selected
-chosenBy a (At i) = selected i (apertureOf a i)
+chosenBy a (At i) = selected i (asStored (apertureOf a i))
 chosenBy a (Free link) = noAperture

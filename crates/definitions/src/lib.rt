@@ -63,18 +63,7 @@ pub fn select(a: &[u64], p: Progress, n: u64) -> Stepped
     if fault != 0 {
         return Stepped::Fault(fault);
     }
-    let builder = p.builder;
-    Stepped::Next(Progress {
-        graphics: graphics::with_aperture(chosen, g),
-        builder,
-        contour: p.contour,
-        depth: p.depth,
-        copies: p.copies,
-        sheet: p.sheet,
-        apertures: p.apertures,
-        macros: p.macros,
-        numbers: p.numbers,
-    })
+    Stepped::Next(progress::with_graphics(graphics::with_aperture(chosen, g), p))
 }
 
 // What the parameters of a standard template come to, from their comma on; they are written as far as there is room.
@@ -95,7 +84,7 @@ fn standard(kind: u64, t: &[u8], numbers: &mut [i64], used: usize) -> Outcome
         q = primitives::one_more(q, a);
         at = next;
     }
-    let fault = drawing::fault(templates::keeps_rule(kind, q), 0, 10);
+    let fault = base::row(templates::keeps_rule(kind, q), 0, 10);
     macros::answered(fault, pen)
 }
 
@@ -165,18 +154,7 @@ pub fn define(
     if fault != 0 {
         return Stepped::Fault(fault);
     }
-    let builder = p.builder;
-    Stepped::Next(Progress {
-        graphics: g,
-        builder,
-        contour: p.contour,
-        depth: p.depth,
-        copies: p.copies,
-        sheet: p.sheet,
-        apertures: p.apertures + 1,
-        macros: p.macros,
-        numbers: o.used,
-    })
+    Stepped::Next(progress::with_apertures(p.apertures + 1, progress::with_numbers(o.used, p)))
 }
 
 // AM, whose text is file[from..end]; its name and its blocks lie in the text.
@@ -212,16 +190,5 @@ pub fn add_macro(
     if fault != 0 {
         return Stepped::Fault(fault);
     }
-    let builder = p.builder;
-    Stepped::Next(Progress {
-        graphics: g,
-        builder,
-        contour: p.contour,
-        depth: p.depth,
-        copies: p.copies,
-        sheet: p.sheet,
-        apertures: p.apertures,
-        macros: p.macros + 1,
-        numbers: p.numbers,
-    })
+    Stepped::Next(progress::with_macros(p.macros + 1, p))
 }

@@ -1,4 +1,4 @@
--- Items as words, fifteen each (docs/SHEET.md), and a run of them in a lent slice.
+-- Items as words (docs/SHEET.md), and a run of them in a lent slice.
 use Prim.Native.Nat.{ℕ, _/_, _%_}
 use mathlib.Core.Bool.{cond}
 use mathlib.Core.List.{List, [], _∷_, _++_}
@@ -8,7 +8,7 @@ use mir.Syntax.{w64}
 use mir.Val.{ofZ}
 use Rattle.base.specs.Run.{run}
 use Rattle.place.specs.declared.Item.{Item}
-use Rattle.place.specs.Item.{zeroItem}
+use Rattle.place.specs.Item.{itemWidth, zeroItem}
 use Rattle.sheet.specs.Meaning.{flagWord, sheetItems}
 use Rattle.sheet.specs.Valid.{valid}
 use Rattle.descend.specs.declared.Fetch.{Fetch}
@@ -29,7 +29,7 @@ slot ts i = itemWords (getD ts i zeroItem)
 
 -- items k, k + 1, .. in as many slots as the words have room for; words past the last whole slot are 0
 unfoldable pub slots : List Item → ℕ → ℕ → List ℕ
-slots ts k words = run (slot ts) k (words / 15) ++ replicate (words % 15) 0
+slots ts k words = run (slot ts) k (words / itemWidth) ++ replicate (words % itemWidth) 0
 
 -- the answer, "21 comes before 20"
 unfoldable pub fetchOf : List ℕ → List ℕ → List ℕ → ℕ → Fetch

@@ -7,6 +7,7 @@ use sheet::Role;
 ghost use mathlib.Core.Path.{_≡_};
 ghost use Prim.Native.Nat.{_≤_, _<_, _+_};
 ghost use lib.ListN.{length, replicate};
+ghost use Rattle.place.specs.Item.{itemWidth};
 ghost use Rattle.sheet.specs.Records.{entryOf, entryRoom, stored};
 ghost use Rattle.sheet.specs.Meaning.{items};
 ghost use Rattle.descend.specs.Search.{Found, Held, Split, copyOf, Descends, Asked, Answered, Whole};
@@ -18,7 +19,7 @@ fn before_at(e: &[u64], i: usize) -> u64
     requires { ⌜ i < entryRoom (now e) ⌝ }
     ensures { λ r. ⌜ r ≡ entryOf (now (e .entry)) i .before ⌝ }
 {
-    base::word_at(e, i * 15 + 1)
+    base::word_at(e, i * sheet::ENTRY_WORDS + 1)
 }
 
 // The last entry of a container that has at most n items before it.
@@ -140,9 +141,9 @@ pub enum Fetch {
     NotSheet,
 }
 
-// Stores an item's fifteen words from a place on.
+// Stores an item's words from a place on.
 fn put_item(out: &mut [u64], at: usize, t: Item)
-    requires { ⌜ at + 15 ≤ length (now out) ⌝ }
+    requires { ⌜ at + itemWidth ≤ length (now out) ⌝ }
     ensures { λ _. ⌜ now (out .exit) ≡ stored (now (out .entry)) at (itemWords t) ⌝ }
 {
     let start = t.start;
@@ -173,19 +174,19 @@ fn fill(e: &[u64], a: &[u64], k: Container, n: u64, out: &mut [u64])
     requires { ⌜ Whole (now e) (now a) k n × (now out ≡ replicate (length (now out)) 0) ⌝ }
     ensures { λ _. ⌜ now (out .exit) ≡ slots (items (now (e .entry)) (now (a .entry)) 10 k) n (length (now (out .entry))) ⌝ }
 {
-    let room = (out.len() / 15) as u64;
+    let room = (out.len() / place::ITEM_WORDS) as u64;
     let mut j: u64 = 0;
     while j < room {
         if n + j >= k.items {
             return;
         }
         let t = item_at(e, a, 10, k, n + j);
-        put_item(out, sheet::index(j * 15), t);
+        put_item(out, sheet::index(j * place::ITEM_WORDS as u64), t);
         j += 1;
     }
 }
 
-// Items n, n + 1, .. of a sheet, fifteen words each, in as many slots as there is room for; the store is looked at once.
+// Items n, n + 1, .. of a sheet, in as many slots as there is room for; the store is looked at once.
 pub fn sheet_run(head: &[u64; 8], e: &[u64], a: &[u64], n: u64, out: &mut [u64]) -> Fetch
     ensures { λ r. ⌜ (r ≡ fetchOf (now (head .entry)) (now (e .entry)) (now (a .entry)) n)
         × (now (out .exit) ≡ fetched (now (head .entry)) (now (e .entry)) (now (a .entry)) n (length (now (out .entry)))) ⌝ }

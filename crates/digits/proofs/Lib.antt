@@ -1,4 +1,6 @@
+pub mod Coordinate
 pub mod Digits
+pub mod Past
 pub mod Sign
 pub mod Sizes
 pub mod Ways

@@ -5,11 +5,13 @@ use mathlib.Core.Bool.{Bool, cond}
 use mathlib.Core.List.{List}
 use lib.Dec.{leb}
 use lib.ListN.{length}
+use lib.Seq.{slice}
 use Rattle.ints.specs.Ints.{signed}
-use Rattle.digits.specs.Digits.{isNumber, valueOf}
-use Rattle.digits.specs.Sign.{hasMinus, afterSign}
+use Rattle.digits.specs.Digits.{pastDigits, isNumber, valueOf}
+use Rattle.digits.specs.Sign.{hasMinus, afterSign, pastSign}
 use Rattle.digits.specs.declared.answers.Coordinate.{Coordinate}
 use Rattle.digits.specs.declared.answers.Coordinate.the-variants.{NotForm, TooLong, Value}
+use Rattle.digits.specs.declared.answers.Taken.{Taken}
 
 -- what stands behind the sign
 unfoldable pub wholeOf : Bool → List ℕ → ℕ → Coordinate
@@ -20,6 +22,16 @@ wholeOf minus s limit =
 
 unfoldable pub coordinateOf : List ℕ → ℕ → Coordinate
 coordinateOf s limit = wholeOf (hasMinus s) (afterSign s) limit
+
+-- a coordinate ends behind its sign and all digits that follow it
+unfoldable pub coordinateEnd : List ℕ → ℕ → ℕ
+coordinateEnd s at = pastDigits s (pastSign s at)
+
+-- the coordinate that stands at a place of a text, and the place behind it
+unfoldable pub coordinateAt : List ℕ → ℕ → ℕ → Taken
+coordinateAt s at limit =
+    let next : ℕ = coordinateEnd s at in
+    record { coordinate = coordinateOf (slice at next s) limit; next = next }
 
 -- document 01's number of each case
 unfoldable pub coordinateRefusal : Coordinate → ℕ

@@ -7,6 +7,18 @@ pub enum Coordinate {
     Value(i64),
 }
 
+// The coordinate that stands at a place of a text, and the place behind it.
+pub struct Taken {
+    pub coordinate: Coordinate,
+    pub next: usize,
+}
+
+// Digits that stand at a place of a text: their value, and the place behind them.
+pub struct Digits {
+    pub value: u64,
+    pub next: usize,
+}
+
 // A number of digits alone, however many are written; TooLarge is 10^12 or more.
 pub enum Natural {
     NotForm,

@@ -1,19 +1,21 @@
 // Strings of digits, and the whole numbers that they write: coordinates, and numbers of digits alone.
 ghost use mathlib.Core.Path.{_≡_};
 ghost use mathlib.Core.Bool.{true};
-ghost use Prim.Native.Nat.{_≤_};
+ghost use Prim.Native.Nat.{_≤_, _+_, min};
 ghost use lib.ListN.{length};
 ghost use lib.Seq.{slice};
-ghost use Rattle.digits.specs.Digits.{isDigit, allDigits, isNumber, valueOf};
-ghost use Rattle.digits.specs.Sign.{hasMinus, afterSign};
+ghost use Rattle.digits.specs.Digits.{isDigit, Writes, pastDigits, allDigits, isNumber, valueOf, digitsIn};
+ghost use Rattle.digits.specs.Sign.{hasMinus, afterSign, pastSign};
 ghost use Rattle.digits.specs.Zeros.{dropLeadingZeros, dropTrailingZeros};
-ghost use Rattle.digits.specs.Coordinate.{wholeOf, coordinateOf};
+ghost use Rattle.digits.specs.Coordinate.{coordinateAt};
 ghost use Rattle.digits.specs.Natural.{naturalOf};
 
 mod answers;
 
 pub use answers::Coordinate;
+pub use answers::Digits;
 pub use answers::Natural;
+pub use answers::Taken;
 
 // '0' to '9'.
 pub fn is_digit(b: u8) -> bool
@@ -22,18 +24,52 @@ pub fn is_digit(b: u8) -> bool
     base::both(48 <= b, b <= 57)
 }
 
+// The digit that a byte writes, 10 or more where it writes none.
+fn digit(b: u8) -> u64
+    ensures { λ r. ⌜ Writes b r ⌝ }
+{
+    std::num::wrapping_sub_u64(base::wide(b), 48)
+}
+
+// The first place from `from` on that holds no digit.
+pub fn past_digits(s: &[u8], from: usize) -> usize
+    ensures { λ r. ⌜ r ≡ pastDigits (now (s .entry)) from ⌝ }
+{
+    let mut at = from;
+    while at < s.len() {
+        if is_digit(s[at]) {
+            at += 1;
+        } else {
+            return at;
+        }
+    }
+    at
+}
+
+// The digits from one place on, but none from `to` on.
+fn digits_in(s: &[u8], from: usize, to: usize) -> Digits
+    requires { ⌜ (from ≤ to) × (to ≤ from + 12) × (to ≤ length (now s)) ⌝ }
+    ensures { λ r. ⌜ r ≡ digitsIn (now (s .entry)) from to ⌝ }
+{
+    let mut value: u64 = 0;
+    let mut next = from;
+    while next < to {
+        let d = digit(s[next]);
+        if d < 10 {
+            value = value * 10 + d;
+            next += 1;
+        } else {
+            return Digits { value, next };
+        }
+    }
+    Digits { value, next }
+}
+
 // Every byte is a digit.
 pub fn all_digits(t: &[u8]) -> bool
     ensures { λ r. ⌜ r ≡ allDigits (now (t .entry)) ⌝ }
 {
-    let mut i: usize = 0;
-    while i < t.len() {
-        if !is_digit(t[i]) {
-            return false;
-        }
-        i += 1;
-    }
-    true
+    past_digits(t, 0) == t.len()
 }
 
 // Digits alone, one at least.
@@ -48,13 +84,7 @@ pub fn value(t: &[u8]) -> u64
     requires { ⌜ (allDigits (now t) ≡ true) × (length (now t) ≤ 12) ⌝ }
     ensures { λ r. ⌜ r ≡ valueOf (now (t .entry)) ⌝ }
 {
-    let mut v: u64 = 0;
-    let mut i: usize = 0;
-    while i < t.len() {
-        v = v * 10 + (base::wide(t[i]) - 48);
-        i += 1;
-    }
-    v
+    digits_in(t, 0, t.len()).value
 }
 
 // The text begins with a minus.
@@ -103,27 +133,56 @@ pub fn without_trailing_zeros(t: &[u8]) -> &[u8]
     base::up_to(t, n)
 }
 
-// What stands behind the sign of a coordinate, as one of at most limit digits.
-fn whole(minus: bool, t: &[u8], limit: usize) -> Coordinate
-    requires { ⌜ limit ≤ 12 ⌝ }
-    ensures { λ r. ⌜ r ≡ wholeOf minus (now (t .entry)) limit ⌝ }
+// The place behind the sign at a place, or that place where there is none.
+fn past_sign(s: &[u8], at: usize) -> usize
+    requires { ⌜ at ≤ length (now s) ⌝ }
+    ensures { λ r. ⌜ r ≡ pastSign (now (s .entry)) at ⌝ }
 {
-    if !is_number(t) {
-        return Coordinate::NotForm;
+    if at < s.len() {
+        let b = s[at];
+        if base::either(b == 43, b == 45) {
+            return at + 1;
+        }
     }
-    if limit < t.len() {
-        return Coordinate::TooLong;
-    }
-    Coordinate::Value(ints::with_sign(minus, value(t)))
+    at
 }
 
-// s[from..to] as a coordinate of at most limit digits.
-pub fn coordinate(s: &[u8], from: usize, to: usize, limit: usize) -> Coordinate
-    requires { ⌜ limit ≤ 12 ⌝ }
-    ensures { λ r. ⌜ r ≡ coordinateOf (slice from to (now (s .entry))) limit ⌝ }
+// The place n bytes on, or the end where it is nearer.
+fn onward(s: &[u8], from: usize, n: usize) -> usize
+    requires { ⌜ from ≤ length (now s) ⌝ }
+    ensures { λ r. ⌜ r ≡ min (length (now (s .entry))) (from + n) ⌝ }
 {
-    let text = base::part(s, from, to);
-    whole(has_minus(text), after_sign(text), limit)
+    if s.len() - from < n {
+        return s.len();
+    }
+    from + n
+}
+
+// The coordinate of at most limit digits that stands at a place, and the place behind it.
+pub fn coordinate_at(s: &[u8], at: usize, limit: usize) -> Taken
+    requires { ⌜ (at ≤ length (now s)) × (limit ≤ 12) ⌝ }
+    ensures { λ r. ⌜ r ≡ coordinateAt (now (s .entry)) at limit ⌝ }
+{
+    let minus = base::byte_at(s, at) == 45;
+    let from = past_sign(s, at);
+    let digits = digits_in(s, from, onward(s, from, limit));
+    let next = past_digits(s, digits.next);
+    if next == from {
+        return Taken {
+            coordinate: Coordinate::NotForm,
+            next,
+        };
+    }
+    if digits.next < next {
+        return Taken {
+            coordinate: Coordinate::TooLong,
+            next,
+        };
+    }
+    Taken {
+        coordinate: Coordinate::Value(ints::with_sign(minus, digits.value)),
+        next,
+    }
 }
 
 // s[from..to] as a number of digits alone.

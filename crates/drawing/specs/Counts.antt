@@ -2,8 +2,8 @@
 use Prim.Native.Nat.{ℕ, _+_, _*_, _≤_}
 use mathlib.Core.Bool.{Bool, cond, not}
 use lib.Dec.{eqb, leb}
-use Rattle.fits.specs.Level.{repeat}
-use Rattle.fits.specs.declared.Level.{Level}
+use Rattle.graphics.specs.Level.{repeat}
+use Rattle.graphics.specs.declared.Level.{Level}
 
 -- 10^12
 abbrev pub most : ℕ

@@ -2,22 +2,14 @@
 ghost use mathlib.Core.Path.{_≡_};
 ghost use Prim.Native.Nat.{_≤_, _^_};
 ghost use Rattle.points.specs.Points.{Within};
-ghost use Rattle.command.specs.Choose.{pick};
 ghost use Rattle.changes.specs.After.{target};
 ghost use Rattle.fits.specs.Fits.{offsetOf};
 ghost use Rattle.drawing.specs.Counts.{most, Kept, tooMany};
 ghost use Rattle.drawing.specs.Faults.{drawItems, drawFault, moveFault, flashItems, flashFault, regionEndFault};
 use command::Axis;
 use command::Offset;
-use fits::Level;
 use graphics::Graphics;
-
-// A row of a table of rules: the number where the test holds, else what the rows after it say.
-pub fn fault(test: bool, number: u64, other: u64) -> u64
-    ensures { λ r. ⌜ r ≡ pick test number other ⌝ }
-{
-    if test { number } else { other }
-}
+use graphics::Level;
 
 // 16: with n items more the open block, or the sheet, has too many. Division keeps the product of the copies in a word.
 pub fn too_many(l: Level, n: u64) -> bool
@@ -60,21 +52,21 @@ pub fn draw_fault(g: Graphics, l: Level, room: u64, x: Axis, y: Axis, o: Offset)
     ensures { λ r. ⌜ r ≡ drawFault g l room x y o ⌝ }
 {
     let n = draw_items(g);
-    let room_used = fault(room < n, 17, 0);
-    let count = fault(too_many(l, n), 16, room_used);
-    let centre = fault(fits::bad_centre(g, changes::target(g, x, y), o), 12, count);
-    let own_move = fault(fits::is_moveless(g), 29, centre);
-    let misfit = fault(fits::draw_misfits(g, o), 11, own_move);
-    fault(fits::is_unready(g), 6, misfit)
+    let room_used = base::row(room < n, 17, 0);
+    let count = base::row(too_many(l, n), 16, room_used);
+    let centre = base::row(fits::bad_centre(g, changes::target(g, x, y), o), 12, count);
+    let own_move = base::row(fits::is_moveless(g), 29, centre);
+    let misfit = base::row(fits::draw_misfits(g, o), 11, own_move);
+    base::row(fits::is_unready(g), 6, misfit)
 }
 
 // D02.
 pub fn move_fault(g: Graphics, x: Axis, y: Axis) -> u64
     ensures { λ r. ⌜ r ≡ moveFault g x y ⌝ }
 {
-    let contour = fault(fits::is_unclosed(g), 13, 0);
-    let misfit = fault(fits::is_placeless(g, x, y), 11, contour);
-    fault(fits::is_unready(g), 6, misfit)
+    let contour = base::row(fits::is_unclosed(g), 13, 0);
+    let misfit = base::row(fits::is_placeless(g, x, y), 11, contour);
+    base::row(fits::is_unready(g), 6, misfit)
 }
 
 // D03, with room for so many entries.
@@ -83,20 +75,20 @@ pub fn flash_fault(g: Graphics, l: Level, room: u64, x: Axis, y: Axis) -> u64
     requires { ⌜ g .aperture .items ≤ most ⌝ }
     ensures { λ r. ⌜ r ≡ flashFault g l room x y ⌝ }
 {
-    let room_used = fault(room < 1, 17, 0);
-    let count = fault(too_many(l, flash_items(g)), 16, room_used);
-    let block = fault(
+    let room_used = base::row(room < 1, 17, 0);
+    let count = base::row(too_many(l, flash_items(g)), 16, room_used);
+    let block = base::row(
         fits::is_askew(g),
         14,
-        fault(fits::is_too_tall(g, l), 15, count),
+        base::row(fits::is_too_tall(g, l), 15, count),
     );
-    let misfit = fault(fits::flash_misfits(g, x, y), 11, block);
-    fault(fits::is_unready(g), 6, fault(g.region.on, 7, misfit))
+    let misfit = base::row(fits::flash_misfits(g, x, y), 11, block);
+    base::row(fits::is_unready(g), 6, base::row(g.region.on, 7, misfit))
 }
 
 // G37.
 pub fn region_end_fault(g: Graphics) -> u64
     ensures { λ r. ⌜ r ≡ regionEndFault g ⌝ }
 {
-    fault(!g.region.on, 7, fault(fits::is_unclosed(g), 13, 0))
+    base::row(!g.region.on, 7, base::row(fits::is_unclosed(g), 13, 0))
 }

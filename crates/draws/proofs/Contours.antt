@@ -10,7 +10,7 @@ use Rattle.place.specs.Mark as mark
 use Rattle.place.specs.Mark.{Mark, written, withCount}
 use Rattle.place.specs.Placing.{ItemWithin}
 use Rattle.sheet.specs.Valid.{far}
-use Rattle.sheet.specs.Records.{entryOf, entryRoom}
+use Rattle.sheet.specs.Records.{entryWidth, entryOf, entryRoom}
 use Rattle.sheet.specs.Meaning as meaning
 use Rattle.sheet.proofs.Stored.{entry-kept}
 use Rattle.stack.specs.Stack.{pushed}
@@ -24,7 +24,7 @@ use Rattle.contours.proofs.Counting.{counted-long}
 use Rattle.shown.specs.Shown.{blank, Shows}
 use Rattle.shown.proofs.Contours.{edge-draws, contour-opens, contour-shown}
 use Rattle.progress.specs.Contour.{Contour}
-use Rattle.draws.proofs.Items.{has-room, below-pushed}
+use Rattle.draws.proofs.Items.{below-pushed}
 
 -- what is drawn of a contour is shown
 pub contour-shows : (e a : List ℕ) (n : ℕ) (b : Builder) (at : ℕ) (ms : List Mark) → Contour e a n b at ms → Shows ms e a (entryRoom e) n b
@@ -41,7 +41,7 @@ module _ (e a : List ℕ) (n : ℕ) (b : Builder) (at : ℕ) (ms : List Mark) (d
     (t : Item) (near : ItemWithin far t) (low : 1 ≤ t .kind) (up : t .kind ≤ 8) (own : t .place ≡ t .outer) where
   draws-on : Drawing (written (d .before) blank) (d .contour) (d .edges ++ t ∷ []) (edged e b at t) a (entryRoom e) n (b .closed) at (b .start) (b .height) (d .items)
   draws-on = edge-draws (written (d .before) blank) (d .contour) t (d .edges) e a n at (b .start) (b .height) (d .items) b (d .drawing) (d .high-is) (d .items-are)
-      (has-room e (b .closed) (b .high) left) near low up own
+      left near low up own
 
   pub edged-room : entryRoom (edged e b at t) ≡ entryRoom e
   edged-room = draws-on .base .as-long
@@ -83,19 +83,18 @@ module _ (e : List ℕ) (b : Builder) (at : ℕ) (t : Item) (left : b .closed + 
   pub below-edged : (start : ℕ) → start ≤ at → (q : ℕ) → q < start → entryOf e (entryRoom e - suc q) ≡ entryOf (edged e b at t) (entryRoom e - suc q)
   unfolding edged countedAt
   below-edged start l q m =
-      let long : entryRoom (countedAt e at) ≡ entryRoom e = ap (λ x. x / 15) (counted-long e at (omega arith)) in
+      let long : entryRoom (countedAt e at) ≡ entryRoom e = ap (λ x. x / entryWidth) (counted-long e at (omega arith)) in
       let i : entryRoom e - suc at < entryRoom e = omega arith in
-      rw (has-room e (b .closed) (b .high) left)
-      (sym (entry-kept e (entryRoom e - suc at) _ i (entryRoom e - suc q) (λ z. let z′ : entryRoom e - suc q ≡ entryRoom e - suc at = z in absurd (omega arith)))
-      ∙ rw long at (below-pushed (countedAt e at) (b .closed) (b .high) start (itemEntry (b .items) t) (rw long left) (omega arith) q m))
+      sym (entry-kept e (entryRoom e - suc at) _ i (entryRoom e - suc q) (λ z. let z′ : entryRoom e - suc q ≡ entryRoom e - suc at = z in absurd (omega arith)))
+      ∙ rw long at (below-pushed (countedAt e at) (b .high) start (itemEntry (b .items) t) (omega arith) (omega arith) q m)
 
 -- a contour begins
 pub contour-begun : (e a : List ℕ) (n : ℕ) (b : Builder) (ms : List Mark) (c : Item) → Shows ms e a (entryRoom e) n b → b .closed + b .high < entryRoom e →
     ItemWithin far (withCount 0 c) → 1 ≤ withCount 0 c .kind → withCount 0 c .kind ≤ 8 → withCount 0 c .place ≡ withCount 0 c .outer →
-    Contour (pushed e (b .closed) (b .high) (itemEntry (b .items) (withCount 0 c))) a n (grown b 1 (b .height)) (b .high) (ms ++ mark.contour c ∷ [])
+    Contour (pushed e (b .high) (itemEntry (b .items) (withCount 0 c))) a n (grown b 1 (b .height)) (b .high) (ms ++ mark.contour c ∷ [])
 unfolding grown
 contour-begun e a n b ms c shows left near low up own =
-    let d = contour-opens (written ms blank) c e a n b shows (has-room e (b .closed) (b .high) left) near low up own in
+    let d = contour-opens (written ms blank) c e a n b shows left near low up own in
     record {
       before = ms;
       contour = c;

@@ -14,7 +14,7 @@ use Rattle.place.specs.declared.Item.{Item}
 use Rattle.place.specs.Mark as mark
 use Rattle.place.specs.Mark.{withCount}
 use Rattle.sheet.specs.Records.{entryOf, entryRoom}
-use Rattle.stack.specs.Stack.{hasRoom, pushed}
+use Rattle.stack.specs.Stack.{pushed}
 use Rattle.building.proofs.Grow.{stays-as-high}
 use Rattle.build.specs.declared.Builder.{Builder}
 use Rattle.build.specs.Builder.{grown}
@@ -24,33 +24,35 @@ use Rattle.shown.proofs.Entries.{pushed-is}
 use Rattle.command.specs.declared.Axis.{Axis}
 use Rattle.command.specs.declared.Offset.{Offset}
 use Rattle.command.specs.declared.Command.the-variants as command
+use Rattle.command.specs.declared.Operation.the-variants as operation
 use Rattle.graphics.specs.Graphics.{withPoint, withRegion}
 use Rattle.graphics.specs.declared.Graphics.{Graphics}
-use Rattle.changes.specs.After.{target, goingTo, startsContour, drawing, after}
+use Rattle.changes.specs.After.{target, goingTo, startsContour, drawing, afterOperation, after}
 use Rattle.bounds.specs.Bounded.{Draws}
 use Rattle.bounds.proofs.Target.{target-within}
-use Rattle.fits.specs.declared.Level.{Level}
+use Rattle.graphics.specs.declared.Level.{Level}
 use Rattle.drawing.specs.Counts.{most, counted}
 use Rattle.drawing.specs.Faults.{drawItems, drawFault}
 use Rattle.marks.specs.Items.{drawn, edge, contour}
-use Rattle.marks.specs.Marks.{drawMarks, marksOf}
+use Rattle.marks.specs.Marks.{drawMarks, operationMarks, marksOf}
 use Rattle.reading.specs.State.{State}
 use Rattle.reading.specs.Steps.{drawStep}
 use Rattle.progress.specs.Lent.{Lent, withEntries, roomOf}
 use Rattle.progress.specs.Levels.{levelAt, levelOf}
+use Rattle.progress.specs.Parts.{withGraphics, withBuilder, withContour}
 use Rattle.progress.specs.Contour.{Contour}
 use Rattle.progress.specs.Knows.{Knows, Known, StepsTo}
 use Rattle.progress.specs.declared.Progress.{Progress}
 use Rattle.progress.specs.declared.Stepped.the-variants.{Next, Fault}
 use Rattle.progress.proofs.Around.{start-low}
 use Rattle.progress.proofs.Levels.{items-few}
-use Rattle.draws.specs.Draws.{leftOf, advanced, Leads, MayDraw}
+use Rattle.draws.specs.Draws.{leftOf, Leads, MayDraw}
 use Rattle.draws.proofs.Faults.{and-rest, draw-mode, draw-counts, draw-room}
 use Rattle.draws.proofs.Levels.{items-level}
 use Rattle.draws.proofs.Within.{drawn-near, edge-near, contour-near}
-use Rattle.draws.proofs.Grown.{grown-knows}
+use Rattle.draws.proofs.Grown.{advanced, grown-knows}
 use Rattle.draws.proofs.Operations.{draw-moves}
-use Rattle.draws.proofs.Items.{below-pushed, has-room, item-grows}
+use Rattle.draws.proofs.Items.{below-pushed, item-grows}
 use Rattle.draws.proofs.Contours.{contour-shows, edged-room, contour-grows, contour-low, contour-few, contour-start, below-edged, contour-begun}
 use Rattle.draws.proofs.Known.{known-fits, known-kept, known-items, draw-faults, refused, goes}
 
@@ -82,16 +84,16 @@ module _ (w : Lent) (p : Progress) (s : State) (k : Knows w p s) (place : ℕ) (
     unfolding drawItems startsContour
     one-item = rw (outside, false-and (not (s .graphics .region .contour)))
 
-    item-marks : marksOf (command.Draw x y o) (s .graphics) place ≡ mark.draw (drawn (s .graphics) (target (s .graphics) x y) o place) ∷ []
-    unfolding marksOf drawMarks
+    item-marks : marksOf (command.Operate (operation.Draw x y o)) (s .graphics) place ≡ mark.draw (drawn (s .graphics) (target (s .graphics) x y) o place) ∷ []
+    unfolding marksOf operationMarks drawMarks
     item-marks = rw outside
 
-    item-none : after (command.Draw x y o) (s .graphics) .region .contour ≡ true → ⊥
-    unfolding after goingTo withPoint withRegion drawing
+    item-none : after (command.Operate (operation.Draw x y o)) (s .graphics) .region .contour ≡ true → ⊥
+    unfolding after afterOperation goingTo withPoint withRegion drawing
     item-none q = false≢true (sym outside ∙ q)
 
-    pub item-knows : Knows (withEntries (pushed (w .entries) (p .builder .closed) (p .builder .high) (itemEntry (p .builder .items) (drawn (s .graphics) (target (s .graphics) x y) o place))) w)
-        (advanced p (after (command.Draw x y o) (s .graphics)) (grown (p .builder) 1 (p .builder .height)) (p .contour)) (drawStep (roomOf w) place x y o s .next)
+    pub item-knows : Knows (withEntries (pushed (w .entries) (p .builder .high) (itemEntry (p .builder .items) (drawn (s .graphics) (target (s .graphics) x y) o place))) w)
+        (advanced p (after (command.Operate (operation.Draw x y o)) (s .graphics)) (grown (p .builder) 1 (p .builder .height)) (p .contour)) (drawStep (roomOf w) place x y o s .next)
     unfolding drawStep drawn
     item-knows =
         let l = left in
@@ -99,8 +101,8 @@ module _ (w : Lent) (p : Progress) (s : State) (k : Knows w p s) (place : ℕ) (
         let m = k .mode in
         let n = mode in
         rw one-item
-        (grown-knows w p s (command.Draw x y o) place 1 1 0 _ _ _ k (draw-moves w p s x y o k (near .goes))
-        (item-grows w p s k (omega arith) (command.Draw x y o) place (drawn (s .graphics) (target (s .graphics) x y) o place)
+        (grown-knows w p s (command.Operate (operation.Draw x y o)) place 1 1 0 _ _ _ k (draw-moves w p s x y o k (near .goes))
+        (item-grows w p s k (omega arith) (command.Operate (operation.Draw x y o)) place (drawn (s .graphics) (target (s .graphics) x y) o place)
         (drawn-near (s .graphics) (k .point) (target (s .graphics) x y) there place o (near .centre)) n (omega arith) refl
         item-marks item-none (rw one-item at counts)))
 
@@ -117,11 +119,11 @@ module _ (w : Lent) (p : Progress) (s : State) (k : Knows w p s) (place : ℕ) (
     unfolding drawItems
     one-edge = rw later
 
-    edge-marks : marksOf (command.Draw x y o) (s .graphics) place ≡ mark.edge (edge (s .graphics) (target (s .graphics) x y) o place) ∷ []
-    unfolding marksOf drawMarks
+    edge-marks : marksOf (command.Operate (operation.Draw x y o)) (s .graphics) place ≡ mark.edge (edge (s .graphics) (target (s .graphics) x y) o place) ∷ []
+    unfolding marksOf operationMarks drawMarks
     edge-marks = rw (later, inside)
 
-    pub edge-knows : Knows (withEntries e-edge w) (advanced p (after (command.Draw x y o) (s .graphics)) (grown (p .builder) 1 (p .builder .height)) (p .contour)) (drawStep (roomOf w) place x y o s .next)
+    pub edge-knows : Knows (withEntries e-edge w) (advanced p (after (command.Operate (operation.Draw x y o)) (s .graphics)) (grown (p .builder) 1 (p .builder .height)) (p .contour)) (drawStep (roomOf w) place x y o s .next)
     unfolding drawStep edge grown levelOf
     edge-knows =
         let l = left in
@@ -136,7 +138,7 @@ module _ (w : Lent) (p : Progress) (s : State) (k : Knows w p s) (place : ℕ) (
         let as-long = edged-room (w .entries) (w .apertures) (p .apertures) (p .builder) (p .contour) (s .marks) d fits _ t low up refl in
         let grows = contour-grows (w .entries) (w .apertures) (p .apertures) (p .builder) (p .contour) (s .marks) d fits _ t low up refl in
         rw one-edge
-        (grown-knows w p s (command.Draw x y o) place 1 1 0 _ _ _ k (draw-moves w p s x y o k (near .goes))
+        (grown-knows w p s (command.Operate (operation.Draw x y o)) place 1 1 0 _ _ _ k (draw-moves w p s x y o k (near .goes))
         (record {
           as-long = as-long;
           below = below-edged (w .entries) (p .builder) (p .contour) _ fits (contour-low _ _ _ _ _ _ d) (p .builder .start) (contour-start _ _ _ _ _ _ d);
@@ -151,7 +153,7 @@ module _ (w : Lent) (p : Progress) (s : State) (k : Knows w p s) (place : ℕ) (
 
   -- the first of a contour
   abbrev e-begun : List ℕ
-  e-begun = pushed (w .entries) (p .builder .closed) (p .builder .high) (itemEntry (p .builder .items) (contour (s .graphics) place))
+  e-begun = pushed (w .entries) (p .builder .high) (itemEntry (p .builder .items) (contour (s .graphics) place))
 
   abbrev b-begun : Builder
   b-begun = grown (p .builder) 1 (p .builder .height)
@@ -168,14 +170,14 @@ module _ (w : Lent) (p : Progress) (s : State) (k : Knows w p s) (place : ℕ) (
     unfolding drawItems
     two-items = rw first
 
-    contour-marks : marksOf (command.Draw x y o) (s .graphics) place
+    contour-marks : marksOf (command.Operate (operation.Draw x y o)) (s .graphics) place
         ≡ mark.contour (contour (s .graphics) place) ∷ mark.edge (edge (s .graphics) (target (s .graphics) x y) o place) ∷ []
-    unfolding marksOf drawMarks
+    unfolding marksOf operationMarks drawMarks
     contour-marks = rw (first, in-region)
 
     begun-room : entryRoom e-begun ≡ entryRoom (w .entries)
     begun-room = let l = left in let q = two-items in
-        pushed-is (w .entries) (p .builder .closed) (p .builder .high) _ (has-room (w .entries) (p .builder .closed) (p .builder .high) (omega arith)) .as-long
+        pushed-is (w .entries) (p .builder .high) _ (omega arith) .as-long
 
     begun : Contour e-begun (w .apertures) (p .apertures) b-begun (p .builder .high) (s .marks ++ mark.contour (contour (s .graphics) place) ∷ [])
     unfolding contour withCount
@@ -185,7 +187,7 @@ module _ (w : Lent) (p : Progress) (s : State) (k : Knows w p s) (place : ℕ) (
         contour-begun (w .entries) (w .apertures) (p .apertures) (p .builder) (s .marks) (contour (s .graphics) place) (k .shows) (omega arith)
         (contour-near (s .graphics) (k .point) place) (omega arith) (omega arith) refl
 
-    pub contour-knows : Knows (withEntries e-contour w) (advanced p (after (command.Draw x y o) (s .graphics)) (grown b-begun 1 (p .builder .height)) (p .builder .high)) (drawStep (roomOf w) place x y o s .next)
+    pub contour-knows : Knows (withEntries e-contour w) (advanced p (after (command.Operate (operation.Draw x y o)) (s .graphics)) (grown b-begun 1 (p .builder .height)) (p .builder .high)) (drawStep (roomOf w) place x y o s .next)
     unfolding drawStep edge grown levelOf
     contour-knows =
         let l = left in
@@ -205,10 +207,10 @@ module _ (w : Lent) (p : Progress) (s : State) (k : Knows w p s) (place : ℕ) (
         let start = start-low w p s k in
         let more : p .builder .items + 1 + 1 ≡ p .builder .items + 2 = omega arith in
         rw two-items
-        (grown-knows w p s (command.Draw x y o) place 2 2 0 _ _ _ k (draw-moves w p s x y o k (near .goes))
+        (grown-knows w p s (command.Operate (operation.Draw x y o)) place 2 2 0 _ _ _ k (draw-moves w p s x y o k (near .goes))
         (record {
           as-long = as-long;
-          below = λ r z. below-pushed (w .entries) (p .builder .closed) (p .builder .high) (p .builder .start) _ fits start r z
+          below = λ r z. below-pushed (w .entries) (p .builder .high) (p .builder .start) _ (omega arith) start r z
               ∙ rw room at (below-edged e-begun b-begun (p .builder .high) (edge (s .graphics) (target (s .graphics) x y) o place) fits-still (omega arith) (p .builder .start) start r z);
           start-is = refl;
           rises = stays-as-high _;
@@ -235,77 +237,78 @@ module _ (e : List ℕ) (p : Progress) (place : ℕ) (x y : Axis) (o : Offset) (
       go true = omega arith
       go false = omega arith
 
-  pub draw-has-room : hasRoom e (p .builder .closed) (p .builder .high) ≡ true
-  draw-has-room = let l = left-here in let m = some in has-room _ _ _ (omega arith)
+  pub draw-has-room : p .builder .closed + p .builder .high < entryRoom e
+  draw-has-room = let l = left-here in let m = some in omega arith
 
   -- what an edge more asks for
   pub edge-asks : (p .graphics .region .on ≡ true) × (startsContour (p .graphics .region) ≡ false) →
-      ((p .builder .items ≤ 1000000000000) × (p .contour < p .builder .high) × (entryOf e (entryRoom e - suc (p .contour)) .count ≤ 1000000000000))
-      × (hasRoom e (p .builder .closed) (p .builder .high) ≡ true)
+      (p .builder .closed + p .builder .high < entryRoom e)
+      × ((p .builder .items ≤ 1000000000000) × (p .contour < p .builder .high) × (entryOf e (entryRoom e - suc (p .contour)) .count ≤ 1000000000000))
   unfolding startsContour
   edge-asks inside =
       let k = may .known in
       let d = k .knows .contour (not-false _ (and-rest _ _ (rw (k .knows .graphics) at (inside .0)) (rw (k .knows .graphics) at (inside .1)))) in
       let few = known-items e p k in
-      ((few, contour-low _ _ _ _ _ _ d, rw (k .is) at (contour-few _ _ _ _ _ _ d 1000000000000 few)), draw-has-room)
+      (draw-has-room, (few, contour-low _ _ _ _ _ _ d, rw (k .is) at (contour-few _ _ _ _ _ _ d 1000000000000 few)))
 
   -- what the contour's first edge asks for, behind the contour
   pub contour-asks : {u : Item} {e₁ : List ℕ} {b₁ : Builder} → startsContour (p .graphics .region) ≡ true → u ≡ contour (p .graphics) place →
-      (b₁ ≡ grown (p .builder) 1 (p .builder .height)) × (e₁ ≡ pushed e (p .builder .closed) (p .builder .high) (itemEntry (p .builder .items) u)) →
-      ((b₁ .items ≤ 1000000000000) × (p .builder .high < b₁ .high) × (entryOf e₁ (entryRoom e₁ - suc (p .builder .high)) .count ≤ 1000000000000))
-      × (hasRoom e₁ (b₁ .closed) (b₁ .high) ≡ true)
+      (b₁ ≡ grown (p .builder) 1 (p .builder .height)) × (e₁ ≡ pushed e (p .builder .high) (itemEntry (p .builder .items) u)) →
+      (b₁ .closed + b₁ .high < entryRoom e₁)
+      × ((b₁ .items ≤ 1000000000000) × (p .builder .high < b₁ .high) × (entryOf e₁ (entryRoom e₁ - suc (p .builder .high)) .count ≤ 1000000000000))
   unfolding drawItems itemEntry contour grown levelOf levelAt
   contour-asks first u-is begun =
       let l : p .builder .closed + p .builder .high + 2 ≤ entryRoom e = rw first at left-here in
       let few : p .builder .items + 2 ≤ most = items-few (levelOf p) 2 (known-kept e p (may .known) .copies-some) (rw first at (draw-counts _ _ _ _ _ _ (may .none))) in
-      let put = pushed-is e (p .builder .closed) (p .builder .high) (itemEntry (p .builder .items) (contour (p .graphics) place)) draw-has-room in
+      let put = pushed-is e (p .builder .high) (itemEntry (p .builder .items) (contour (p .graphics) place)) (omega arith) in
       let long = put .as-long in
-      rw (begun .0, begun .1, u-is, long) (((omega arith), (omega arith), rw (put .new) (omega arith)), has-room _ _ _ (omega arith))
+      rw (begun .0, begun .1, u-is, long) (omega arith, (omega arith, omega arith, rw (put .new) (omega arith)))
 
   abbrev leads : List ℕ → Progress → Type 0
   leads e′ r = Leads (λ room s. drawStep room place x y o s) (λ w. w .entries ≡ e) (withEntries e′) p r
 
   -- the parts, as the calls give them
   item-leads : p .graphics .region .on ≡ false →
-      leads (pushed e (p .builder .closed) (p .builder .high) (itemEntry (p .builder .items) (drawn (p .graphics) (target (p .graphics) x y) o place)))
-      (advanced p (after (command.Draw x y o) (p .graphics)) (grown (p .builder) 1 (p .builder .height)) (p .contour))
+      leads (pushed e (p .builder .high) (itemEntry (p .builder .items) (drawn (p .graphics) (target (p .graphics) x y) o place)))
+      (advanced p (after (command.Operate (operation.Draw x y o)) (p .graphics)) (grown (p .builder) 1 (p .builder .height)) (p .contour))
   item-leads outside w s lent k =
       rw (← lent, k .graphics)
       (item-knows w p s k place x y o (may .near) (rw (← lent) at (may .none)) (rw (k .graphics) at outside))
 
   edge-leads : p .graphics .region .on ≡ true → startsContour (p .graphics .region) ≡ false →
       leads (edged e (p .builder) (p .contour) (edge (p .graphics) (target (p .graphics) x y) o place))
-      (advanced p (after (command.Draw x y o) (p .graphics)) (grown (p .builder) 1 (p .builder .height)) (p .contour))
+      (advanced p (after (command.Operate (operation.Draw x y o)) (p .graphics)) (grown (p .builder) 1 (p .builder .height)) (p .contour))
   edge-leads inside later w s lent k =
       rw (← lent, k .graphics)
       (edge-knows w p s k place x y o (may .near) (rw (← lent) at (may .none)) (rw (k .graphics) at inside) (rw (k .graphics) at later))
 
   contour-leads : startsContour (p .graphics .region) ≡ true →
-      leads (edged (pushed e (p .builder .closed) (p .builder .high) (itemEntry (p .builder .items) (contour (p .graphics) place)))
+      leads (edged (pushed e (p .builder .high) (itemEntry (p .builder .items) (contour (p .graphics) place)))
       (grown (p .builder) 1 (p .builder .height)) (p .builder .high) (edge (p .graphics) (target (p .graphics) x y) o place))
-      (advanced p (after (command.Draw x y o) (p .graphics)) (grown (grown (p .builder) 1 (p .builder .height)) 1 (p .builder .height)) (p .builder .high))
+      (advanced p (after (command.Operate (operation.Draw x y o)) (p .graphics)) (grown (grown (p .builder) 1 (p .builder .height)) 1 (p .builder .height)) (p .builder .high))
   contour-leads first w s lent k =
       rw (← lent, k .graphics)
       (contour-knows w p s k place x y o (may .near) (rw (← lent) at (may .none)) (rw (k .graphics) at first))
 
-  module _ {end : Point} {t : Item} {e′ : List ℕ} {b′ : Builder} {g′ : Graphics} {r : Progress} (end-is : end ≡ target (p .graphics) x y) (after-is : g′ ≡ after (command.Draw x y o) (p .graphics)) where
+  module _ {end : Point} {t : Item} {e′ : List ℕ} {b′ : Builder} {g′ : Graphics} {q r : Progress} (end-is : end ≡ target (p .graphics) x y) (after-is : g′ ≡ after (command.Operate (operation.Draw x y o)) (p .graphics))
+      (q-is : q ≡ withGraphics g′ p) where
     pub item-drawn : p .graphics .region .on ≡ false → t ≡ drawn (p .graphics) end o place →
-        (b′ ≡ grown (p .builder) 1 (p .builder .height)) × (e′ ≡ pushed e (p .builder .closed) (p .builder .high) (itemEntry (p .builder .items) t)) →
-        r ≡ advanced p g′ b′ (p .contour) → leads e′ r
-    item-drawn outside t-is put r-is = rw (r-is, after-is, put .0, put .1, t-is, end-is) (item-leads outside)
+        (b′ ≡ grown (p .builder) 1 (p .builder .height)) × (e′ ≡ pushed e (p .builder .high) (itemEntry (p .builder .items) t)) →
+        r ≡ withBuilder b′ q → leads e′ r
+    item-drawn outside t-is put r-is = rw (r-is, q-is, after-is, put .0, put .1, t-is, end-is) (item-leads outside)
 
     pub edge-drawn : (p .graphics .region .on ≡ true) × (startsContour (p .graphics .region) ≡ false) → t ≡ edge (p .graphics) end o place →
         (b′ ≡ grown (p .builder) 1 (p .builder .height)) × (e′ ≡ edged e (p .builder) (p .contour) t) →
-        r ≡ advanced p g′ b′ (p .contour) → leads e′ r
-    edge-drawn inside t-is put r-is = rw (r-is, after-is, put .0, put .1, t-is, end-is) (edge-leads (inside .0) (inside .1))
+        r ≡ withBuilder b′ q → leads e′ r
+    edge-drawn inside t-is put r-is = rw (r-is, q-is, after-is, put .0, put .1, t-is, end-is) (edge-leads (inside .0) (inside .1))
 
-    pub contour-drawn : {u : Item} {e₁ : List ℕ} {b₁ : Builder} → startsContour (p .graphics .region) ≡ true → u ≡ contour (p .graphics) place →
-        (b₁ ≡ grown (p .builder) 1 (p .builder .height)) × (e₁ ≡ pushed e (p .builder .closed) (p .builder .high) (itemEntry (p .builder .items) u)) →
+    pub contour-drawn : {u : Item} {e₁ : List ℕ} {b₁ : Builder} {d : Progress} → startsContour (p .graphics .region) ≡ true → u ≡ contour (p .graphics) place →
+        (b₁ ≡ grown (p .builder) 1 (p .builder .height)) × (e₁ ≡ pushed e (p .builder .high) (itemEntry (p .builder .items) u)) →
         t ≡ edge (p .graphics) end o place →
         (b′ ≡ grown b₁ 1 (b₁ .height)) × (e′ ≡ edged e₁ b₁ (p .builder .high) t) →
-        r ≡ advanced p g′ b′ (p .builder .high) → leads e′ r
+        d ≡ withBuilder b′ q → r ≡ withContour (p .builder .high) d → leads e′ r
     unfolding grown
-    contour-drawn first u-is begun t-is put r-is = rw (r-is, after-is, put .0, put .1, begun .0, begun .1, u-is, t-is, end-is) (contour-leads first)
+    contour-drawn first u-is begun t-is put d-is r-is = rw (r-is, d-is, q-is, after-is, put .0, put .1, begun .0, begun .1, u-is, t-is, end-is) (contour-leads first)
 
 -- the number that the code has is that of the step's fault
 module _ (e : List ℕ) (p : Progress) (place : ℕ) (x y : Axis) (o : Offset) {n room : ℕ} {l : Level} (level-is : l ≡ levelOf p) (room-is : room ≡ leftOf e (p .builder))

@@ -11,9 +11,9 @@ use Rattle.command.specs.declared.Axis.{Axis}
 use Rattle.command.specs.declared.Offset.{Offset}
 use Rattle.graphics.specs.declared.Graphics.{Graphics}
 use Rattle.fits.specs.Fits.{drawMisfits, flashMisfits, askew, tooTall}
-use Rattle.fits.specs.declared.Level.{Level}
+use Rattle.graphics.specs.declared.Level.{Level}
 use Rattle.drawing.specs.Counts.{most, counted, tooMany}
-use Rattle.drawing.proofs.Faults.{unbroken}
+use Rattle.base.proofs.Faults.{unbroken}
 use Rattle.bounds.proofs.Tables.{neither}
 use Rattle.drawing.specs.Faults.{drawItems, drawFault, flashItems, flashFault}
 

@@ -15,7 +15,7 @@ use Rattle.place.specs.Mark.{edges}
 use Rattle.place.specs.Placing.{quarterTurn}
 use Rattle.sheet.specs.Records.{entryRoom}
 use Rattle.sheet.specs.Containers.{blockOf}
-use Rattle.stack.specs.Stack.{hasRoom, pushed}
+use Rattle.stack.specs.Stack.{pushed}
 use Rattle.build.specs.declared.Builder.{Builder}
 use Rattle.build.specs.Builder.{raised, grown}
 use Rattle.build.specs.Entries.{itemEntry, useEntry}
@@ -23,35 +23,37 @@ use Rattle.shown.proofs.Entries.{pushed-is}
 use Rattle.shown.proofs.Marks.{one-more, raised-rises, puts-flash}
 use Rattle.command.specs.declared.Axis.{Axis}
 use Rattle.command.specs.declared.Command.the-variants as command
+use Rattle.command.specs.declared.Operation.the-variants as operation
 use Rattle.graphics.specs.Graphics.{withPoint}
 use Rattle.graphics.specs.declared.Graphics.{Graphics}
-use Rattle.changes.specs.After.{target, goingTo, after}
+use Rattle.changes.specs.After.{target, goingTo, afterOperation, after}
 use Rattle.bounds.specs.Bounded.{Goes}
 use Rattle.bounds.proofs.Tables.{neither}
 use Rattle.bounds.proofs.Target.{target-within}
 use Rattle.fits.specs.Fits.{askew, tooTall}
-use Rattle.fits.specs.declared.Level.{Level}
+use Rattle.graphics.specs.declared.Level.{Level}
 use Rattle.drawing.specs.Counts.{most, counted}
 use Rattle.drawing.specs.Faults.{flashItems, flashFault}
 use Rattle.marks.specs.Items.{flashed, pose}
-use Rattle.marks.specs.Marks.{flashMarks, marksOf}
+use Rattle.marks.specs.Marks.{flashMarks, operationMarks, marksOf}
 use Rattle.reading.specs.State.{State}
 use Rattle.reading.specs.Steps.{flashHeight, flashStep}
 use Rattle.progress.specs.Lent.{Lent, withEntries, roomOf}
 use Rattle.progress.specs.Levels.{levelOf}
+use Rattle.progress.specs.Parts.{withGraphics, withBuilder}
 use Rattle.progress.specs.Knows.{Knows, Known, StepsTo}
 use Rattle.progress.specs.declared.Progress.{Progress}
 use Rattle.progress.specs.declared.Stepped.the-variants.{Next, Fault}
 use Rattle.progress.proofs.Levels.{block-level}
 use Rattle.progress.proofs.Around.{start-low}
 use Rattle.progress.proofs.Outside.{no-contour}
-use Rattle.draws.specs.Draws.{leftOf, advanced, Leads, MayFlash}
+use Rattle.draws.specs.Draws.{leftOf, Leads, MayFlash}
 use Rattle.draws.proofs.Faults.{and-rest, flash-outside, flash-set, flash-straight, flash-low, flash-counts, flash-room}
 use Rattle.draws.proofs.Levels.{flash-level}
 use Rattle.draws.proofs.Within.{flashed-near, pose-near}
-use Rattle.draws.proofs.Grown.{grown-knows}
+use Rattle.draws.proofs.Grown.{advanced, grown-knows}
 use Rattle.draws.proofs.Operations.{flash-moves}
-use Rattle.draws.proofs.Items.{below-pushed, has-room, item-grows}
+use Rattle.draws.proofs.Items.{below-pushed, item-grows}
 use Rattle.draws.proofs.Selected.{IsBlock, selected-block}
 use Rattle.draws.proofs.Known.{known-fits, known-items, known-few, flash-faults, refused, goes}
 
@@ -73,8 +75,8 @@ module _ (w : Lent) (p : Progress) (s : State) (k : Knows w p s) (place : ℕ) (
   counts : counted (s .level) (flashItems (s .graphics)) ≤ most
   counts = flash-counts _ _ _ _ _ none-there
 
-  none-drawn : after (command.Flash x y) (s .graphics) .region .contour ≡ true → ⊥
-  unfolding after goingTo withPoint
+  none-drawn : after (command.Operate (operation.Flash x y)) (s .graphics) .region .contour ≡ true → ⊥
+  unfolding after afterOperation goingTo withPoint
   none-drawn q = no-contour w p s k (flash-outside _ _ _ _ _ none-there) q
 
   -- an aperture that is no block
@@ -87,17 +89,17 @@ module _ (w : Lent) (p : Progress) (s : State) (k : Knows w p s) (place : ℕ) (
     unfolding flashHeight
     no-height = rw plain
 
-    item-marks : marksOf (command.Flash x y) (s .graphics) place ≡ mark.draw (flashed (s .graphics) (target (s .graphics) x y) place) ∷ []
-    unfolding marksOf flashMarks
+    item-marks : marksOf (command.Operate (operation.Flash x y)) (s .graphics) place ≡ mark.draw (flashed (s .graphics) (target (s .graphics) x y) place) ∷ []
+    unfolding marksOf operationMarks flashMarks
     item-marks = rw plain
 
-    pub item-knows : Knows (withEntries (pushed (w .entries) (p .builder .closed) (p .builder .high) (itemEntry (p .builder .items) (flashed (s .graphics) (target (s .graphics) x y) place))) w)
-        (advanced p (after (command.Flash x y) (s .graphics)) (grown (p .builder) 1 (p .builder .height)) (p .contour)) (flashStep (roomOf w) place x y s .next)
+    pub item-knows : Knows (withEntries (pushed (w .entries) (p .builder .high) (itemEntry (p .builder .items) (flashed (s .graphics) (target (s .graphics) x y) place))) w)
+        (advanced p (after (command.Operate (operation.Flash x y)) (s .graphics)) (grown (p .builder) 1 (p .builder .height)) (p .contour)) (flashStep (roomOf w) place x y s .next)
     unfolding flashStep flashed
     item-knows =
         rw (one-item, no-height)
-        (grown-knows w p s (command.Flash x y) place 1 1 0 _ _ _ k (flash-moves w p s x y k near)
-        (item-grows w p s k left (command.Flash x y) place (flashed (s .graphics) (target (s .graphics) x y) place)
+        (grown-knows w p s (command.Operate (operation.Flash x y)) place 1 1 0 _ _ _ k (flash-moves w p s x y k near)
+        (item-grows w p s k left (command.Operate (operation.Flash x y)) place (flashed (s .graphics) (target (s .graphics) x y) place)
         (flashed-near (s .graphics) (k .point) (target (s .graphics) x y) there place) (omega arith) (omega arith) refl
         item-marks none-drawn (rw one-item at counts)))
 
@@ -129,29 +131,30 @@ module _ (w : Lent) (p : Progress) (s : State) (k : Knows w p s) (place : ℕ) (
         let less : s .graphics .aperture .height < 8 = leb-false _ _ (and-rest _ _ (eq-eqb _ _ inside) (and-rest _ _ is-block (flash-low _ _ _ _ _ none-there))) in
         omega arith
 
-    block-marks : marksOf (command.Flash x y) (s .graphics) place ≡ mark.flash (s .graphics .aperture .number) (pose (s .graphics) (target (s .graphics) x y)) place ∷ []
-    unfolding marksOf flashMarks
+    block-marks : marksOf (command.Operate (operation.Flash x y)) (s .graphics) place ≡ mark.flash (s .graphics .aperture .number) (pose (s .graphics) (target (s .graphics) x y)) place ∷ []
+    unfolding marksOf operationMarks flashMarks
     block-marks = rw is-block
 
     abbrev e-used : List ℕ
-    e-used = pushed (w .entries) (p .builder .closed) (p .builder .high) (useEntry (p .builder .items) (s .graphics .aperture .slot) (pose (s .graphics) (target (s .graphics) x y)) place)
+    e-used = pushed (w .entries) (p .builder .high) (useEntry (p .builder .items) (s .graphics .aperture .slot) (pose (s .graphics) (target (s .graphics) x y)) place)
 
     abbrev b-used : Builder
     b-used = grown (p .builder) (s .graphics .aperture .items) (raised (p .builder .height) (s .graphics .aperture .height))
 
-    pub block-knows : Knows (withEntries e-used w) (advanced p (after (command.Flash x y) (s .graphics)) b-used (p .contour)) (flashStep (roomOf w) place x y s .next)
+    pub block-knows : Knows (withEntries e-used w) (advanced p (after (command.Operate (operation.Flash x y)) (s .graphics)) b-used (p .contour)) (flashStep (roomOf w) place x y s .next)
     unfolding flashStep grown levelOf blockOf edges
     block-knows =
-        let room = has-room (w .entries) (p .builder .closed) (p .builder .high) left in
+        let l = left in
+        let room : p .builder .high < entryRoom (w .entries) = omega arith in
         let b = chosen in
-        let shown = puts-flash _ (w .entries) (w .apertures) (entryRoom (w .entries)) (p .apertures) (p .builder) (k .shows) room (s .graphics .aperture .slot)
+        let shown = puts-flash _ (w .entries) (w .apertures) (entryRoom (w .entries)) (p .apertures) (p .builder) (k .shows) l (s .graphics .aperture .slot)
         (pose (s .graphics) (target (s .graphics) x y)) place (pose-near (s .graphics) (k .point) (target (s .graphics) x y) there place) quarters (b .inside) (b .is)
         (rw (b .height) low) (λ l. rw (b .height) (lower l)) in
         rw (block-items, block-height)
-        (grown-knows w p s (command.Flash x y) place 1 (s .graphics .aperture .items) (s .graphics .aperture .height + 1) e-used b-used (p .contour) k (flash-moves w p s x y k near)
+        (grown-knows w p s (command.Operate (operation.Flash x y)) place 1 (s .graphics .aperture .items) (s .graphics .aperture .height + 1) e-used b-used (p .contour) k (flash-moves w p s x y k near)
         (record {
-          as-long = pushed-is (w .entries) (p .builder .closed) (p .builder .high) _ room .as-long;
-          below = below-pushed (w .entries) (p .builder .closed) (p .builder .high) (p .builder .start) _ left (start-low w p s k);
+          as-long = pushed-is (w .entries) (p .builder .high) _ room .as-long;
+          below = below-pushed (w .entries) (p .builder .high) (p .builder .start) _ room (start-low w p s k);
           start-is = refl;
           rises = raised-rises (p .builder .height) (s .graphics .aperture .height) low lower;
           level = flash-level (p .builder .height) (s .graphics .aperture .height) (p .builder .items) (p .depth) (p .copies) (p .sheet) (s .graphics .aperture .items) low lower;
@@ -164,55 +167,56 @@ module _ (w : Lent) (p : Progress) (s : State) (k : Knows w p s) (place : ℕ) (
 
 -- as the code has it: by the progress, and the entries at the call
 module _ (e : List ℕ) (p : Progress) (place : ℕ) (x y : Axis) (may : MayFlash e p x y) where
-  pub flash-has-room : hasRoom e (p .builder .closed) (p .builder .high) ≡ true
+  pub flash-has-room : p .builder .closed + p .builder .high < entryRoom e
   flash-has-room =
       let l = flash-room _ _ _ _ _ (may .none) in
       let f = known-fits e p (may .known) in
-      has-room _ _ _ (omega arith)
+      omega arith
 
   -- what a flash of a block asks for
   pub use-asks : p .graphics .aperture .block ≡ true →
-      ((p .builder .items ≤ 1000000000000) × (p .graphics .aperture .items ≤ 1000000000000) × (p .graphics .aperture .height ≤ 8))
-      × (hasRoom e (p .builder .closed) (p .builder .high) ≡ true)
+      (p .builder .closed + p .builder .high < entryRoom e)
+      × ((p .builder .items ≤ 1000000000000) × (p .graphics .aperture .items ≤ 1000000000000) × (p .graphics .aperture .height ≤ 8))
   use-asks q =
       let k = may .known .knows in
       let lent = may .known .is in (
+        flash-has-room,
         (
           known-items e p (may .known),
           known-few e p (may .known),
           rw (k .graphics) (low (may .known .lent) p (may .known .state) k place x y (may .near) (rw (← lent) at (may .none)) (rw (k .graphics) at q)),
         ),
-        flash-has-room,
       )
 
   abbrev leads : List ℕ → Progress → Type 0
   leads e′ r = Leads (λ room s. flashStep room place x y s) (λ w. w .entries ≡ e) (withEntries e′) p r
 
   item-leads : p .graphics .aperture .block ≡ false →
-      leads (pushed e (p .builder .closed) (p .builder .high) (itemEntry (p .builder .items) (flashed (p .graphics) (target (p .graphics) x y) place)))
-      (advanced p (after (command.Flash x y) (p .graphics)) (grown (p .builder) 1 (p .builder .height)) (p .contour))
+      leads (pushed e (p .builder .high) (itemEntry (p .builder .items) (flashed (p .graphics) (target (p .graphics) x y) place)))
+      (advanced p (after (command.Operate (operation.Flash x y)) (p .graphics)) (grown (p .builder) 1 (p .builder .height)) (p .contour))
   item-leads plain w s lent k =
       rw (← lent, k .graphics)
       (item-knows w p s k place x y (may .near) (rw (← lent) at (may .none)) (rw (k .graphics) at plain))
 
   block-leads : p .graphics .aperture .block ≡ true →
-      leads (pushed e (p .builder .closed) (p .builder .high) (useEntry (p .builder .items) (p .graphics .aperture .slot) (pose (p .graphics) (target (p .graphics) x y)) place))
-      (advanced p (after (command.Flash x y) (p .graphics)) (grown (p .builder) (p .graphics .aperture .items) (raised (p .builder .height) (p .graphics .aperture .height))) (p .contour))
+      leads (pushed e (p .builder .high) (useEntry (p .builder .items) (p .graphics .aperture .slot) (pose (p .graphics) (target (p .graphics) x y)) place))
+      (advanced p (after (command.Operate (operation.Flash x y)) (p .graphics)) (grown (p .builder) (p .graphics .aperture .items) (raised (p .builder .height) (p .graphics .aperture .height))) (p .contour))
   block-leads is-block w s lent k =
       rw (← lent, k .graphics)
       (block-knows w p s k place x y (may .near) (rw (← lent) at (may .none)) (rw (k .graphics) at is-block))
 
-  module _ {end : Point} {e′ : List ℕ} {b′ : Builder} {g′ : Graphics} {r : Progress} (end-is : end ≡ target (p .graphics) x y) (after-is : g′ ≡ after (command.Flash x y) (p .graphics)) where
+  module _ {end : Point} {e′ : List ℕ} {b′ : Builder} {g′ : Graphics} {q r : Progress} (end-is : end ≡ target (p .graphics) x y) (after-is : g′ ≡ after (command.Operate (operation.Flash x y)) (p .graphics))
+      (q-is : q ≡ withGraphics g′ p) where
     pub item-flashed : {t : Item} → p .graphics .aperture .block ≡ false → t ≡ flashed (p .graphics) end place →
-        (b′ ≡ grown (p .builder) 1 (p .builder .height)) × (e′ ≡ pushed e (p .builder .closed) (p .builder .high) (itemEntry (p .builder .items) t)) →
-        r ≡ advanced p g′ b′ (p .contour) → leads e′ r
-    item-flashed plain t-is put r-is = rw (r-is, after-is, put .0, put .1, t-is, end-is) (item-leads plain)
+        (b′ ≡ grown (p .builder) 1 (p .builder .height)) × (e′ ≡ pushed e (p .builder .high) (itemEntry (p .builder .items) t)) →
+        r ≡ withBuilder b′ q → leads e′ r
+    item-flashed plain t-is put r-is = rw (r-is, q-is, after-is, put .0, put .1, t-is, end-is) (item-leads plain)
 
     pub block-flashed : {m : Pose} → p .graphics .aperture .block ≡ true → m ≡ pose (p .graphics) end →
         (b′ ≡ grown (p .builder) (p .graphics .aperture .items) (raised (p .builder .height) (p .graphics .aperture .height)))
-        × (e′ ≡ pushed e (p .builder .closed) (p .builder .high) (useEntry (p .builder .items) (p .graphics .aperture .slot) m place)) →
-        r ≡ advanced p g′ b′ (p .contour) → leads e′ r
-    block-flashed is-block m-is put r-is = rw (r-is, after-is, put .0, put .1, m-is, end-is) (block-leads is-block)
+        × (e′ ≡ pushed e (p .builder .high) (useEntry (p .builder .items) (p .graphics .aperture .slot) m place)) →
+        r ≡ withBuilder b′ q → leads e′ r
+    block-flashed is-block m-is put r-is = rw (r-is, q-is, after-is, put .0, put .1, m-is, end-is) (block-leads is-block)
 
 -- the number that the code has is that of the step's fault
 module _ (e : List ℕ) (p : Progress) (place : ℕ) (x y : Axis) {n room : ℕ} {l : Level} (level-is : l ≡ levelOf p) (room-is : room ≡ leftOf e (p .builder))

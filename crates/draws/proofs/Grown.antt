@@ -11,6 +11,7 @@ use Rattle.building.proofs.Grow.{MayRise}
 use Rattle.build.specs.declared.Builder.{Builder}
 use Rattle.shown.specs.Shown.{Shows}
 use Rattle.command.specs.declared.Command.{Command}
+use Rattle.graphics.specs.declared.Graphics.{Graphics}
 use Rattle.changes.specs.After.{after}
 use Rattle.drawing.specs.Counts.{most, counted}
 use Rattle.marks.specs.Marks.{marksOf}
@@ -20,11 +21,15 @@ use Rattle.reading.specs.Steps.{passed, withLevel}
 use Rattle.progress.specs.Lent.{Lent, withEntries}
 use Rattle.progress.specs.Levels.{levelAt, levelOf}
 use Rattle.progress.specs.Contour.{Contour}
+use Rattle.progress.specs.Parts.{withGraphics, withBuilder, withContour}
 use Rattle.progress.specs.Knows.{Knows}
 use Rattle.progress.specs.declared.Progress.{Progress}
 use Rattle.progress.proofs.Around.{openers-kept, around-kept}
-use Rattle.draws.specs.Draws.{advanced}
 use Rattle.draws.proofs.Levels.{items-counted}
+
+-- the parts that D01 and D03 change
+abbrev pub advanced : Progress → Graphics → Builder → ℕ → Progress
+advanced p g b at = withContour at (withBuilder b (withGraphics g p))
 
 -- the parts of reading's state that the command leaves, or moves within their bounds
 pub record Moves (c : Command) (s : State) : Type 0 where

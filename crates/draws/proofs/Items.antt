@@ -5,14 +5,13 @@ use mathlib.Core.Path.{_≡_, refl, sym}
 use mathlib.Core.Bool.{true}
 use mathlib.Core.List.{List, [], _∷_}
 use native.Mathlib.Omega.{arith}
-use borrow.Author.Tests.{lt-ltb}
 use Rattle.place.specs.declared.Item.{Item}
 use Rattle.place.specs.Mark.{draw, edges, marked}
 use Rattle.place.specs.Placing.{ItemWithin}
 use Rattle.sheet.specs.Records.{entryOf, entryRoom}
 use Rattle.sheet.specs.Valid.{far}
 use Rattle.sheet.specs.declared.Entry.{Entry}
-use Rattle.stack.specs.Stack.{hasRoom, pushed}
+use Rattle.stack.specs.Stack.{pushed}
 use Rattle.building.proofs.Grow.{stays-as-high}
 use Rattle.build.specs.Builder.{grown}
 use Rattle.build.specs.Entries.{itemEntry}
@@ -31,33 +30,29 @@ use Rattle.progress.proofs.Around.{start-low}
 use Rattle.draws.proofs.Grown.{Grows}
 use Rattle.draws.proofs.Levels.{items-level}
 
-pub has-room : (e : List ℕ) (closed high : ℕ) → closed + high < entryRoom e → hasRoom e closed high ≡ true
-unfolding hasRoom
-has-room e closed high l = lt-ltb _ _ l
-
 -- an entry pushed leaves the stack below it
-pub below-pushed : (e : List ℕ) (closed high start : ℕ) (r : Entry) → closed + high < entryRoom e → start ≤ high → (q : ℕ) → q < start →
-    entryOf e (entryRoom e - suc q) ≡ entryOf (pushed e closed high r) (entryRoom e - suc q)
-below-pushed e closed high start r left low q l =
-    sym (pushed-is e closed high r (has-room e closed high left) .kept (entryRoom e - suc q)
+pub below-pushed : (e : List ℕ) (high start : ℕ) (r : Entry) → high < entryRoom e → start ≤ high → (q : ℕ) → q < start →
+    entryOf e (entryRoom e - suc q) ≡ entryOf (pushed e high r) (entryRoom e - suc q)
+below-pushed e high start r left low q l =
+    sym (pushed-is e high r left .kept (entryRoom e - suc q)
     (λ z. let z′ : entryRoom e - suc q ≡ entryRoom e - suc high = z in absurd (omega arith)))
 
 module _ (w : Lent) (p : Progress) (s : State) (k : Knows w p s) (left : p .builder .closed + p .builder .high < entryRoom (w .entries))
     (c : Command) (place : ℕ) (t : Item) (near : ItemWithin far t) (low : 1 ≤ t .kind) (up : t .kind ≤ 8) (own : t .place ≡ t .outer)
     (marks-are : marksOf c (s .graphics) place ≡ draw t ∷ []) (none : after c (s .graphics) .region .contour ≡ true → ⊥) (counts : counted (s .level) 1 ≤ most) where
-  pub item-grows : Grows w p s c place 1 1 0 (pushed (w .entries) (p .builder .closed) (p .builder .high) (itemEntry (p .builder .items) t)) (grown (p .builder) 1 (p .builder .height)) (p .contour)
+  pub item-grows : Grows w p s c place 1 1 0 (pushed (w .entries) (p .builder .high) (itemEntry (p .builder .items) t)) (grown (p .builder) 1 (p .builder .height)) (p .contour)
   unfolding grown levelOf marked edges
   item-grows =
-      let room = has-room (w .entries) (p .builder .closed) (p .builder .high) left in
+      let room : p .builder .high < entryRoom (w .entries) = omega arith in
       record {
-        as-long = pushed-is (w .entries) (p .builder .closed) (p .builder .high) (itemEntry (p .builder .items) t) room .as-long;
-        below = below-pushed (w .entries) (p .builder .closed) (p .builder .high) (p .builder .start) (itemEntry (p .builder .items) t) left (start-low w p s k);
+        as-long = pushed-is (w .entries) (p .builder .high) (itemEntry (p .builder .items) t) room .as-long;
+        below = below-pushed (w .entries) (p .builder .high) (p .builder .start) (itemEntry (p .builder .items) t) room (start-low w p s k);
         start-is = refl;
         rises = stays-as-high _;
         level = items-level (p .builder .height) (p .builder .items) (p .depth) (p .copies) (p .sheet) 1;
         counts = counts;
         entries = omega arith;
         shows = rw (marks-are, one-more (s .marks) (draw t) refl)
-            (puts-item _ (w .entries) (w .apertures) (entryRoom (w .entries)) (p .apertures) (p .builder) (k .shows) room t near low up own);
+            (puts-item _ (w .entries) (w .apertures) (entryRoom (w .entries)) (p .apertures) (p .builder) (k .shows) left t near low up own);
         contour = λ q. absurd (none q);
       }

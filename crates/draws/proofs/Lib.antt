@@ -1,4 +1,3 @@
-pub mod Puts
 pub mod Faults
 pub mod Levels
 pub mod Within

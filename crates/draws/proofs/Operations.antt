@@ -4,8 +4,9 @@ use mathlib.Core.Path.{refl}
 use Rattle.command.specs.declared.Axis.{Axis}
 use Rattle.command.specs.declared.Offset.{Offset}
 use Rattle.command.specs.declared.Command.the-variants as command
+use Rattle.command.specs.declared.Operation.the-variants as operation
 use Rattle.graphics.specs.Graphics.{withPoint, withRegion}
-use Rattle.changes.specs.After.{goingTo, drawing, after}
+use Rattle.changes.specs.After.{goingTo, drawing, afterOperation, after}
 use Rattle.bounds.specs.Bounded.{Goes}
 use Rattle.bounds.proofs.Target.{target-within}
 use Rattle.reading.specs.State.{State}
@@ -14,10 +15,10 @@ use Rattle.progress.specs.Knows.{Knows}
 use Rattle.progress.specs.declared.Progress.{Progress}
 use Rattle.draws.proofs.Grown.{Moves}
 
-pub draw-moves : (w : Lent) (p : Progress) (s : State) (x y : Axis) (o : Offset) → Knows w p s → Goes x y → Moves (command.Draw x y o) s
-unfolding after goingTo withPoint withRegion drawing
+pub draw-moves : (w : Lent) (p : Progress) (s : State) (x y : Axis) (o : Offset) → Knows w p s → Goes x y → Moves (command.Operate (operation.Draw x y o)) s
+unfolding after afterOperation goingTo withPoint withRegion drawing
 draw-moves w p s x y o k goes = record { point = target-within (s .graphics) x y (k .point) goes; mode = refl; aperture = refl; inside = λ q. q }
 
-pub flash-moves : (w : Lent) (p : Progress) (s : State) (x y : Axis) → Knows w p s → Goes x y → Moves (command.Flash x y) s
-unfolding after goingTo withPoint
+pub flash-moves : (w : Lent) (p : Progress) (s : State) (x y : Axis) → Knows w p s → Goes x y → Moves (command.Operate (operation.Flash x y)) s
+unfolding after afterOperation goingTo withPoint
 flash-moves w p s x y k goes = record { point = target-within (s .graphics) x y (k .point) goes; mode = refl; aperture = refl; inside = k .inside }

@@ -7,7 +7,7 @@ use mathlib.Core.List.{List}
 use native.Mathlib.Omega.{arith}
 use Rattle.sheet.specs.Records.{apertureOf}
 use Rattle.sheet.specs.Valid.{isBlock}
-use Rattle.sheet.specs.declared.Aperture.{Aperture}
+use Rattle.reading.specs.State.{Aperture}
 use Rattle.graphics.specs.Graphics.{noAperture}
 use Rattle.graphics.specs.declared.Selected.{Selected}
 use Rattle.drawing.specs.Counts.{most}

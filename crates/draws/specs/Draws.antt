@@ -1,4 +1,4 @@
--- What a step that breaks no rule comes to, and the parts that D01 and D03 change.
+-- What a D01 and a D03 that break no rule come to.
 use Prim.Native.Nat.{ℕ, _+_, _-_}
 use mathlib.Core.Path.{_≡_}
 use mathlib.Core.List.{List}
@@ -6,7 +6,6 @@ use Rattle.sheet.specs.Records.{entryRoom}
 use Rattle.build.specs.declared.Builder.{Builder}
 use Rattle.command.specs.declared.Axis.{Axis}
 use Rattle.command.specs.declared.Offset.{Offset}
-use Rattle.graphics.specs.declared.Graphics.{Graphics}
 use Rattle.bounds.specs.Bounded.{Goes, Draws}
 use Rattle.drawing.specs.Faults.{drawFault, flashFault}
 use Rattle.reading.specs.State.{Room, State}
@@ -19,19 +18,6 @@ use Rattle.progress.specs.declared.Progress.{Progress}
 -- so many entries are left
 abbrev pub leftOf : List ℕ → Builder → ℕ
 leftOf e b = entryRoom e - (b .closed + b .high)
-
-abbrev pub advanced : Progress → Graphics → Builder → ℕ → Progress
-advanced p g b contour = record {
-  graphics = g;
-  builder = b;
-  contour = contour;
-  depth = p .depth;
-  copies = p .copies;
-  sheet = p .sheet;
-  apertures = p .apertures;
-  macros = p .macros;
-  numbers = p .numbers;
-}
 
 -- from p on, r is how far reading has come behind the step, whatever true of what is lent reading knows; `left` is what is lent behind it
 abbrev pub Leads : (Room → State → Step) → (Lent → Type 0) → (Lent → Lent) → Progress → Progress → Type 0

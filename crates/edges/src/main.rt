@@ -174,12 +174,12 @@ fn top_level(e: &mut [u64; 615]) {
 fn aperture(a: &mut [u64; 64], b: usize, first: u64, len: u64, items: u64)
     requires { ⌜ b ≤ 7 ⌝ }
 {
-    base::put(a, b * 8, 11 + b as u64);
-    base::put(a, b * 8 + 1, 6);
-    base::put(a, b * 8 + 2, first);
-    base::put(a, b * 8 + 3, len);
-    base::put(a, b * 8 + 4, items);
-    base::put(a, b * 8 + 5, 1 + b as u64);
+    base::put(a, b * sheet::APERTURE_WORDS, 11 + b as u64);
+    base::put(a, b * sheet::APERTURE_WORDS + 1, 6);
+    base::put(a, b * sheet::APERTURE_WORDS + 2, first);
+    base::put(a, b * sheet::APERTURE_WORDS + 3, len);
+    base::put(a, b * sheet::APERTURE_WORDS + 4, items);
+    base::put(a, b * sheet::APERTURE_WORDS + 5, 1 + b as u64);
 }
 
 fn apertures(a: &mut [u64; 64]) {
@@ -203,9 +203,9 @@ fn number(w: u64) {
     }
 }
 
-// Item n: its number, then its fifteen words; where there is none, 20 or 21.
+// Item n: its number, then its words; where there is none, 20 or 21.
 fn line(head: &[u64; 8], e: &[u64; 615], a: &[u64; 64], n: u64) {
-    let mut out = [0; 15];
+    let mut out = [0; place::ITEM_WORDS];
     io::print_decimal(STDOUT_FILENO, n);
     match descend::sheet_run(head, e, a, n, &mut out) {
         Fetch::Done => words(&out),
@@ -220,9 +220,9 @@ fn refused(n: u64) {
     io::print_decimal(STDOUT_FILENO, n);
 }
 
-fn words(out: &[u64; 15]) {
+fn words(out: &[u64; place::ITEM_WORDS]) {
     let mut i: usize = 0;
-    while i < 15 {
+    while i < place::ITEM_WORDS {
         io::write_all(STDOUT_FILENO, b" ");
         number(out[i]);
         i += 1;

@@ -17,7 +17,7 @@ use Rattle.decimal.specs.Decimal.{decimalOf}
 use Rattle.decimal.specs.declared.answers.Decimal.{Decimal}
 use Rattle.decimal.specs.declared.answers.Decimal.the-variants as decimal
 use Rattle.decimal.proofs.Sizes.{decimal-size}
-use Rattle.command.specs.Choose.{pick}
+use Rattle.base.specs.Choose.{pick}
 use Rattle.command.specs.Numbers.{sizedAs}
 use Rattle.tokens.specs.Tokens.{tokenOf, lexed, wordEnd}
 use Rattle.tokens.specs.declared.Token.{Token}

@@ -16,8 +16,8 @@ use Rattle.graphics.specs.Graphics.{origin}
 use Rattle.graphics.specs.Orientation.{orientation}
 use Rattle.graphics.specs.declared.Graphics.{Graphics}
 use Rattle.changes.specs.After.{startsContour}
-use Rattle.fits.specs.Level.{block}
-use Rattle.fits.specs.declared.Level.{Level}
+use Rattle.graphics.specs.Level.{block}
+use Rattle.graphics.specs.declared.Level.{Level}
 
 unfoldable pub isMissing : Axis → Bool
 isMissing axis.Missing = true

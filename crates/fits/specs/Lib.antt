@@ -1,2 +1,1 @@
-pub mod Level
 pub mod Fits

@@ -6,18 +6,8 @@ ghost use Rattle.fits.specs.Fits.{isMissing, unready, placeless, brushle
 use command::Axis;
 use command::Offset;
 use graphics::Graphics;
+use graphics::Level;
 use points::Point;
-
-// What stands open: innermost the top level (0), a block (1) or a repeat (2), its items and its height so far, how many blocks
-// are open, and of the open repeat its copies and the sheet's items before it.
-pub struct Level {
-    pub inside: u64,
-    pub items: u64,
-    pub height: u64,
-    pub depth: u64,
-    pub copies: u64,
-    pub sheet: u64,
-}
 
 // The coordinate is not given.
 fn is_missing(a: Axis) -> bool
@@ -118,9 +108,12 @@ pub fn bad_centre(g: Graphics, end: Point, o: Offset) -> bool
     requires { ⌜ Within (10 ^ 12) (offsetOf o) ⌝ }
     ensures { λ r. ⌜ r ≡ badCentre g end o ⌝ }
 {
-    let start = g.point.at;
-    let centre = points::shifted(start, offset_of(o));
-    base::both(is_circular(g), reckon::bad_centre(start, end, centre))
+    if is_circular(g) {
+        let start = g.point.at;
+        let centre = points::shifted(start, offset_of(o));
+        return reckon::bad_centre(start, end, centre);
+    }
+    false
 }
 
 // 13: a contour is open, and its last point is not its first.

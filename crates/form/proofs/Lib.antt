@@ -1,2 +1,3 @@
+pub mod Few
 pub mod Gathered
 pub mod Walked

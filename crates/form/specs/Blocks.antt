@@ -1,6 +1,7 @@
 -- The form of a macro's blocks: "One block at least, each a comment (first byte 0), `$n=` expression with n 1 to 64 (else 5), or
 -- primitive"; "a primitive is a code of digits, then expressions, each after a comma" (01, Macros; decisions 58, 61 and 63).
-use Prim.Native.Nat.{ℕ}
+-- The decimals of a macro are those of its expressions: a comment, a code and the number of a variable have none (02, [1]).
+use Prim.Native.Nat.{ℕ, _+_}
 use Prim.Native.Char.{code}
 use mathlib.Core.Bool.{false, not}
 use mathlib.Core.List.{List, [], _∷_}
@@ -9,7 +10,7 @@ use Rattle.base.specs.Or.{_or_}
 use Rattle.digits.specs.Digits.{isNumber}
 use Rattle.text.specs.First.{place, before, after}
 use Rattle.text.specs.Text.{byte}
-use Rattle.command.specs.Choose.{choose}
+use Rattle.base.specs.Choose.{choose}
 use Rattle.command.specs.declared.Number.{Number}
 use Rattle.tokens.specs.LineEnds.{withoutLeading}
 use Rattle.text.specs.Pieces.{pieces}
@@ -18,14 +19,19 @@ use Rattle.form.specs.Expression.{expressionForm}
 use Rattle.form.specs.declared.Form.{Form}
 
 unfoldable pub good : Form
-good = record { formless = false; long = false; deep = false }
+good = record { formless = false; long = false; deep = false; rounded = 0 }
 
--- what is wrong with either of two texts
+-- what is wrong with either of two texts, and the decimals of both that were rounded
 unfoldable pub joined : Form → Form → Form
 joined f g =
-    record { formless = f .formless or g .formless; long = f .long or g .long; deep = f .deep or g .deep }
+    record {
+      formless = f .formless or g .formless;
+      long = f .long or g .long;
+      deep = f .deep or g .deep;
+      rounded = f .rounded + g .rounded;
+    }
 
--- what is wrong with any of these texts
+-- the same of any number of texts
 unfoldable pub gathered : (List ℕ → Form) → Form → List (List ℕ) → Form
 gathered form f [] = f
 gathered form f (t ∷ ts) = gathered form (joined f (form t)) ts
@@ -39,11 +45,11 @@ unfoldable pub primitiveForm : List ℕ → Form
 primitiveForm t =
     let comma : ℕ = place (code ",") t 0 in
     gathered parameterForm
-    (record { formless = not (isNumber (take comma t)); long = false; deep = false })
+    (record { formless = not (isNumber (take comma t)); long = false; deep = false; rounded = 0 })
     (pieces (code ",") (drop comma t))
 
 unfoldable pub numbered : Number → Form
-numbered n = record { formless = n .formless; long = n .long; deep = false }
+numbered n = record { formless = n .formless; long = n .long; deep = false; rounded = 0 }
 
 -- without an `=` there is no expression
 unfoldable pub assignmentForm : List ℕ → Form

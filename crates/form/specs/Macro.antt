@@ -12,11 +12,13 @@ use Rattle.base.specs.Or.{_or_}
 use Rattle.text.specs.First.{place}
 use Rattle.text.specs.Name.{isName}
 use Rattle.text.specs.Text.{_begins_, _ends_}
-use Rattle.command.specs.Choose.{pick}
+use Rattle.base.specs.Choose.{pick}
 use Rattle.command.specs.Numbers.{judged}
 use Rattle.command.specs.Span.{span}
 use Rattle.command.specs.declared.Command.{Command}
-use Rattle.command.specs.declared.Command.the-variants.{NotForm, Macro}
+use Rattle.command.specs.declared.Command.the-variants.{Define}
+use Rattle.command.specs.declared.Definition.the-variants.{Macro}
+use Rattle.command.specs.Flaws.{notForm}
 use Rattle.tokens.specs.LineEnds.{withoutTrailing}
 use Rattle.form.specs.Blocks.{blocksForm}
 use Rattle.form.specs.declared.Form.{Form}
@@ -26,7 +28,7 @@ unfoldable pub headed : List ℕ → List ℕ → ℕ → Command
 headed t u q =
     let f : Form = blocksForm (drop q u) in
     judged (not (t ends "*" and (u begins "AM" and isName (slice 2 q u))) or f .formless) (f .long)
-    (Macro (span 2 q) (span (q + 1) (length u)) (f .deep))
+    (Define (Macro (span 2 q) (span (q + 1) (length u)) (f .deep) (f .rounded)))
 
 -- without a `*` behind the name's there is no block
 unfoldable pub macroOf : List ℕ → Command
@@ -34,4 +36,4 @@ macroOf s =
     let t : List ℕ = withoutTrailing s in
     let u : List ℕ = take (length t - 1) t in
     let q : ℕ = place (code "*") u 2 in
-    pick (ltb q (length u)) (headed t u q) NotForm
+    pick (ltb q (length u)) (headed t u q) notForm

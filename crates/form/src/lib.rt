@@ -1,4 +1,5 @@
-// AM's form (4), the range of its numbers (5) and its depth (15), the lowest of the whole command.
+// AM's form (4), the range of its numbers (5) and its depth (15), the lowest of the whole command, and how many of its decimals were
+// rounded.
 ghost use mathlib.Core.Path.{_≡_};
 ghost use Prim.Native.Nat.{_+_, _-_, _<_, _^_};
 ghost use lib.ListN.{drop};
@@ -6,19 +7,23 @@ ghost use Rattle.form.specs.Blocks.{joined, numbered, primitiveForm, ass
 ghost use Rattle.form.specs.Expression.{afterOperand, afterOperator, opened, closed, unknown, step, finished, expressionForm};
 ghost use Rattle.form.specs.Macro.{headed, macroOf};
 use command::Command;
+use command::Definition;
+use command::Flaw;
 use command::Number;
 use command::Span;
 use tokens::Token;
 
-// What is wrong with a text: not of its form (4), a number out of its range (5), parentheses too deep (15).
+// What is wrong with a text: not of its form (4), a number out of its range (5), parentheses too deep (15); and how many of its decimals
+// were rounded.
 pub struct Form {
     pub formless: bool,
     pub long: bool,
     pub deep: bool,
+    pub rounded: usize,
 }
 
 // How far an expression was walked through: what is wrong so far, the parentheses that are open, whether an operand stands just
-// before, and whether a sign may stand here.
+// before, whether a sign may stand here, and how many decimals were rounded.
 pub struct Walk {
     pub formless: bool,
     pub long: bool,
@@ -26,6 +31,7 @@ pub struct Walk {
     pub depth: usize,
     pub operand: bool,
     pub sign: bool,
+    pub rounded: usize,
 }
 
 // One less, 0 of none.
@@ -38,10 +44,12 @@ fn less_one(n: usize) -> usize
     n - 1
 }
 
-// A number or a variable, and what is wrong with it.
-fn after_operand(w: Walk, formless: bool, long: bool) -> Walk
-    ensures { λ r. ⌜ r ≡ afterOperand w formless long ⌝ }
+// A number or a variable, what is wrong with it, and whether it was rounded.
+fn after_operand(w: Walk, formless: bool, long: bool, rounded: bool) -> Walk
+    requires { ⌜ w .rounded + 1 < 2 ^ 64 ⌝ }
+    ensures { λ r. ⌜ r ≡ afterOperand w formless long rounded ⌝ }
 {
+    let count = w.rounded + command::counted(rounded);
     Walk {
         formless: base::either(base::either(w.formless, w.operand), formless),
         long: base::either(w.long, long),
@@ -49,6 +57,7 @@ fn after_operand(w: Walk, formless: bool, long: bool) -> Walk
         depth: w.depth,
         operand: true,
         sign: false,
+        rounded: count,
     }
 }
 
@@ -63,6 +72,7 @@ fn after_operator(w: Walk, may: bool) -> Walk
         depth: w.depth,
         operand: false,
         sign: false,
+        rounded: w.rounded,
     }
 }
 
@@ -78,6 +88,7 @@ fn after_open(w: Walk) -> Walk
         depth: w.depth + 1,
         operand: false,
         sign: true,
+        rounded: w.rounded,
     }
 }
 
@@ -92,6 +103,7 @@ fn after_close(w: Walk) -> Walk
         depth: less_one(w.depth),
         operand: true,
         sign: false,
+        rounded: w.rounded,
     }
 }
 
@@ -106,18 +118,19 @@ fn after_unknown(w: Walk) -> Walk
         depth: w.depth,
         operand: w.operand,
         sign: w.sign,
+        rounded: w.rounded,
     }
 }
 
 // One token further.
 fn step(w: Walk, token: Token) -> Walk
-    requires { ⌜ w .depth + 1 < 2 ^ 64 ⌝ }
+    requires { ⌜ (w .depth + 1 < 2 ^ 64) × (w .rounded + 1 < 2 ^ 64) ⌝ }
     ensures { λ r. ⌜ r ≡ step w token ⌝ }
 {
     match token {
         Token::End => after_unknown(w),
-        Token::Number(n) => after_operand(w, n.formless, n.long),
-        Token::Variable(n) => after_operand(w, n.formless, n.long),
+        Token::Number(n) => after_operand(w, n.formless, n.long, n.rounded),
+        Token::Variable(n) => after_operand(w, n.formless, n.long, false),
         Token::Plus => after_operator(w, base::either(w.operand, w.sign)),
         Token::Minus => after_operator(w, base::either(w.operand, w.sign)),
         Token::Times => after_operator(w, w.operand),
@@ -136,6 +149,7 @@ fn finish(w: Walk) -> Form
         formless: base::either(base::either(w.formless, !w.operand), 1 <= w.depth),
         long: w.long,
         deep: w.deep,
+        rounded: w.rounded,
     }
 }
 
@@ -150,6 +164,7 @@ pub fn expression(t: &[u8]) -> Form
         depth: 0,
         operand: false,
         sign: true,
+        rounded: 0,
     };
     let mut at: usize = 0;
     while at < t.len() {
@@ -161,14 +176,17 @@ pub fn expression(t: &[u8]) -> Form
     finish(w)
 }
 
-// What is wrong with either of two texts.
+// What is wrong with either of two texts, and the decimals of both that were rounded.
 fn both(f: Form, g: Form) -> Form
+    requires { ⌜ f .rounded + g .rounded < 2 ^ 64 ⌝ }
     ensures { λ r. ⌜ r ≡ joined f g ⌝ }
 {
+    let rounded = f.rounded + g.rounded;
     Form {
         formless: base::either(f.formless, g.formless),
         long: base::either(f.long, g.long),
         deep: base::either(f.deep, g.deep),
+        rounded,
     }
 }
 
@@ -181,6 +199,7 @@ fn primitive(t: &[u8]) -> Form
         formless: !digits::is_number(base::up_to(t, at)),
         long: false,
         deep: false,
+        rounded: 0,
     };
     while at < t.len() {
         let next = text::find(t, at + 1, b',');
@@ -201,6 +220,7 @@ fn numbered(n: Number) -> Form
         formless: n.formless,
         long: n.long,
         deep: false,
+        rounded: 0,
     }
 }
 
@@ -223,6 +243,7 @@ fn block(s: &[u8]) -> Form
             formless: false,
             long: false,
             deep: false,
+            rounded: 0,
         };
     }
     if b == b'$' {
@@ -239,6 +260,7 @@ fn blocks(s: &[u8], from: usize) -> Form
         formless: false,
         long: false,
         deep: false,
+        rounded: 0,
     };
     let mut at = from;
     while at < s.len() {
@@ -265,11 +287,12 @@ fn headed(t: &[u8], u: &[u8], q: usize) -> Command
     command::judged(
         base::either(!whole, f.formless),
         f.long,
-        Command::Macro {
+        Command::Define(Definition::Macro {
             name,
             blocks,
             deep: f.deep,
-        },
+            rounded: f.rounded,
+        }),
     )
 }
 
@@ -283,5 +306,5 @@ pub fn macro_of(s: &[u8]) -> Command
     if q < u.len() {
         return headed(t, u, q);
     }
-    Command::NotForm
+    Command::Broken(Flaw::NotForm)
 }

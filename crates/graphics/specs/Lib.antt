@@ -1,2 +1,3 @@
 pub mod Graphics
+pub mod Level
 pub mod Orientation

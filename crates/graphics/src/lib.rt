@@ -1,4 +1,4 @@
-// The graphics state, by value: what the commands so far have set, and what each command changes.
+// The state, by value: the graphics state, which is what the commands so far have set, and what stands open.
 ghost use mathlib.Core.Path.{_≡_};
 ghost use Rattle.graphics.specs.Graphics.{start, withFormat, withPoint, withAperture, withMode, withQuadrants, withTransform, withRegion};
 ghost use Rattle.graphics.specs.Orientation.{angleOf, angleAfter, orientation};
@@ -59,6 +59,17 @@ pub struct Graphics {
     pub quadrants: bool,
     pub transform: Transform,
     pub region: Region,
+}
+
+// What stands open: innermost the top level (0), a block (1) or a repeat (2), its items and its height so far, how many blocks
+// are open, and of the open repeat its copies and the sheet's items before it.
+pub struct Level {
+    pub inside: u64,
+    pub items: u64,
+    pub height: u64,
+    pub depth: u64,
+    pub copies: u64,
+    pub sheet: u64,
 }
 
 // Flip and angle, as LM and LR give them.

@@ -9,14 +9,14 @@ use lib.ListN.{length, getD, List·getD-eq-default}
 use borrow.Author.Tests.{ltb-false}
 use Rattle.base.specs.Run.{run}
 use Rattle.place.specs.declared.Item.{Item}
-use Rattle.place.specs.Item.{zeroItem}
+use Rattle.place.specs.Item.{itemWidth, zeroItem}
 use Rattle.sheet.specs.Meaning.{sheetItems}
 use Rattle.sheet.specs.Valid.{valid}
 use Rattle.descend.specs.Answers.{answerOf, answerItem}
 use Rattle.descend.specs.Slots.{itemWords, slot, slots, fetched}
 
 -- one slot
-one-slot : (ts : List Item) (k : ℕ) → slots ts k 15 ≡ itemWords (getD ts k zeroItem)
+one-slot : (ts : List Item) (k : ℕ) → slots ts k itemWidth ≡ itemWords (getD ts k zeroItem)
 unfolding slots slot run itemWords
 one-slot ts k = refl
 
@@ -28,6 +28,6 @@ item-answered head e a k true true p q = rw (p, q)
 item-answered head e a k true false p q = rw (p, q) (List·getD-eq-default (sheetItems head e a) zeroItem {n = k} (ltb-false _ _ q))
 item-answered head e a k false b p q = rw p
 
-pub one-item : (head e a : List ℕ) (k : ℕ) → fetched head e a k 15 ≡ itemWords (answerItem (answerOf head e a k))
+pub one-item : (head e a : List ℕ) (k : ℕ) → fetched head e a k itemWidth ≡ itemWords (answerItem (answerOf head e a k))
 unfolding fetched
 one-item head e a k = one-slot _ k ∙ ap itemWords (item-answered head e a k _ _ refl refl)

@@ -3,7 +3,7 @@ use Prim.Native.Nat.{ℕ}
 use mathlib.Core.Path.{_≡_}
 use mathlib.Core.List.{List}
 use Rattle.reading.specs.Reading.{Answer, accepted, refused}
-use Rattle.rounding.specs.Files.{roundedIn}
+use Rattle.commands.specs.Rounded.{roundedIn}
 use Rattle.progress.specs.Lent.{Lent}
 use Rattle.reader.specs.Leaves.{Leaves}
 use Rattle.reader.specs.Reads.{Zeroed, AsLong}

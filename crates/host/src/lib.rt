@@ -122,7 +122,7 @@ fn fetch_number(f: Fetch) -> u64
     }
 }
 
-// Items k, k + 1, .. of a sheet, fifteen words each, in as many slots as there is room for; 100 where there is room for none.
+// Items k, k + 1, .. of a sheet, in as many slots as there is room for; 100 where there is room for none.
 #[no_mangle]
 pub extern "C" fn sheet_items(
     head: &[u64; 8],
@@ -134,7 +134,7 @@ pub extern "C" fn sheet_items(
     ensures { λ r. ⌜ (r ≡ runNumber (fetchOf (now (head .entry)) (now (entries .entry)) (now (apertures .entry)) k) (length (now (items .entry))))
         × (now (items .exit) ≡ fetched (now (head .entry)) (now (entries .entry)) (now (apertures .entry)) k (length (now (items .entry)))) ⌝ }
 {
-    let short = items.len() < 15;
+    let short = items.len() < place::ITEM_WORDS;
     let f = descend::sheet_run(head, entries, apertures, k, items);
     if short {
         return 100;
@@ -142,7 +142,7 @@ pub extern "C" fn sheet_items(
     fetch_number(f)
 }
 
-// Item k of a sheet in the first fifteen of the lent words, the others 0; 100 where there are fewer.
+// Item k of a sheet in the first of the lent words, the others 0; 100 where there are fewer.
 #[no_mangle]
 pub extern "C" fn sheet_item(
     head: &[u64; 8],
@@ -155,10 +155,10 @@ pub extern "C" fn sheet_item(
         × (now (item .exit) ≡ itemIn (itemWords (answerItem (answerOf (now (head .entry)) (now (entries .entry)) (now (apertures .entry)) k))) (length (now (item .entry)))) ⌝ }
 {
     base::clear(item);
-    if item.len() < 15 {
+    if item.len() < place::ITEM_WORDS {
         return 100;
     }
-    let f = descend::sheet_run(head, entries, apertures, k, &mut item[..15]);
+    let f = descend::sheet_run(head, entries, apertures, k, &mut item[..place::ITEM_WORDS]);
     fetch_number(f)
 }
 
@@ -205,7 +205,7 @@ pub extern "C" fn sheet_object_attribute(
 pub extern "C" fn sheet_item_words() -> usize
     ensures { λ r. ⌜ ItemsAre r ⌝ }
 {
-    15
+    place::ITEM_WORDS
 }
 
 // The words of an entry.
@@ -213,7 +213,7 @@ pub extern "C" fn sheet_item_words() -> usize
 pub extern "C" fn sheet_entry_words() -> usize
     ensures { λ r. ⌜ EntriesAre r ⌝ }
 {
-    15
+    sheet::ENTRY_WORDS
 }
 
 // The words of an aperture.
@@ -221,7 +221,7 @@ pub extern "C" fn sheet_entry_words() -> usize
 pub extern "C" fn sheet_aperture_words() -> usize
     ensures { λ r. ⌜ AperturesAre r ⌝ }
 {
-    8
+    sheet::APERTURE_WORDS
 }
 
 // The words of a macro.
@@ -229,5 +229,5 @@ pub extern "C" fn sheet_aperture_words() -> usize
 pub extern "C" fn sheet_macro_words() -> usize
     ensures { λ r. ⌜ MacrosAre r ⌝ }
 {
-    8
+    tables::MACRO_WORDS
 }

@@ -11,7 +11,7 @@ use lib.Dec.{eqb}
 use lib.ListN.{length, getD, set, length-set}
 use lib.Seq.{getD-set-same, getD-set-other, set-getD}
 use borrow.Author.Tests.{eqb-true, eqb-false}
-use Rattle.index.specs.Tree.{linkWord, linkOf, next, lastLink, linked}
+use Rattle.index.specs.Tree.{recordWidth, linkWord, linkOf, next, lastLink, linked}
 use Rattle.index.specs.Indexed.{Leads, here, Indexed}
 use Rattle.index.specs.Numbers.{numberOf, Numbered}
 use Rattle.index.specs.Names.{nameOf, keyOf, Named}
@@ -21,7 +21,7 @@ use Rattle.base.proofs.Run.{below-snoc}
 use lib.Seq.{slice}
 use Rattle.index.proofs.Seek.{LinkBelow, link-words, link-place, link-other, leads-kept, leads-new, last-is, last-free}
 
-module _ (s : List ℕ) (keyOf : ℕ → ℕ) (m : ℕ) (t : Indexed s keyOf (suc m)) (room : suc (suc m) * 8 ≤ length s)
+module _ (s : List ℕ) (keyOf : ℕ → ℕ) (m : ℕ) (t : Indexed s keyOf (suc m)) (room : suc (suc m) * recordWidth ≤ length s)
     (free : (key : ℕ) → next s (suc m) key ≡ 0) (w : ℕ) (is : w ≡ lastLink s (suc m) 0 (keyOf (suc m))) where
   pub new-link : LinkBelow (suc m) w
   new-link = rw is (last-is t (suc m) (omega arith) (suc m) 0 (keyOf (suc m)) (omega arith) (omega arith))
@@ -55,7 +55,7 @@ module _ (s : List ℕ) (keyOf : ℕ → ℕ) (m : ℕ) (t : Indexed s keyOf (su
   }
 
 -- the first record, to which no link leads
-pub indexed-first : (s : List ℕ) (keyOf : ℕ → ℕ) → 8 ≤ length s → ((key : ℕ) → next s 0 key ≡ 0) → Indexed s keyOf 1
+pub indexed-first : (s : List ℕ) (keyOf : ℕ → ℕ) → recordWidth ≤ length s → ((key : ℕ) → next s 0 key ≡ 0) → Indexed s keyOf 1
 indexed-first s keyOf room free = record {
   inside = omega arith;
   later = λ i key l. below-snoc (λ i. (key : ℕ) → 0 < next s i key → (i < next s i key) × (next s i key < 1)) 0 (λ i l. absurd (omega arith)) (λ key h. absurd (let z = free key in omega arith)) i l key;
@@ -91,7 +91,7 @@ distinct-more R used turn old other i j l h e =
     (eq-or-lt-of-le (le-of-suc-le-suc l))
 
 -- a record more: linked where the search for its key ended, it is found, and so are all before it
-indexed-more : (s : List ℕ) (keyOf keyOf′ : ℕ → ℕ) (used w : ℕ) → Indexed s keyOf used → suc used * 8 ≤ length s → ((key : ℕ) → next s used key ≡ 0)
+indexed-more : (s : List ℕ) (keyOf keyOf′ : ℕ → ℕ) (used w : ℕ) → Indexed s keyOf used → suc used * recordWidth ≤ length s → ((key : ℕ) → next s used key ≡ 0)
     → w ≡ lastLink s used 0 (keyOf used) → ((j : ℕ) → keyOf j ≡ keyOf′ j) → Indexed (set s w used) keyOf′ (suc used)
 indexed-more s keyOf keyOf′ zero w t room free is same =
     subst (λ (l : List ℕ). Indexed l keyOf′ 1) (sym (ap (λ (i : ℕ). set s i 0) is ∙ linked-first s (keyOf 0) (free (keyOf 0)))) (indexed-first s keyOf′ room free)
@@ -99,33 +99,33 @@ indexed-more s keyOf keyOf′ (suc m) w t room free is same =
     indexed-by (set s w (suc m)) keyOf keyOf′ (suc (suc m)) (λ j l. same j) (indexed-set s keyOf m t room free w is)
 
 -- the link that is set holds none of a record's other words
-kept-word : (s : List ℕ) (keyOf : ℕ → ℕ) (used : ℕ) → Indexed s keyOf used → (j r : ℕ) → r < 6 → getD (linked s used (keyOf used)) (j * 8 + r) 0 ≡ getD s (j * 8 + r) 0
+kept-word : (s : List ℕ) (keyOf : ℕ → ℕ) (used : ℕ) → Indexed s keyOf used → (j r : ℕ) → r < 6 → getD (linked s used (keyOf used)) (j * recordWidth + r) 0 ≡ getD s (j * recordWidth + r) 0
 unfolding lastLink linkWord
-kept-word s keyOf zero t j r h = getD-set-other s (linkOf 0 (keyOf 0)) (j * 8 + r) 0 0 (λ e. let p = link-words 0 (keyOf 0) in omega arith)
+kept-word s keyOf zero t j r h = getD-set-other s (linkOf 0 (keyOf 0)) (j * recordWidth + r) 0 0 (λ e. let p = link-words 0 (keyOf 0) in omega arith)
 kept-word s keyOf (suc m) t j r h =
     let k = last-is t (suc m) (omega arith) (suc m) 0 (keyOf (suc m)) (omega arith) (omega arith) in
-    getD-set-other s (lastLink s (suc m) 0 (keyOf (suc m))) (j * 8 + r) (suc m) 0 (link-other k j r h)
+    getD-set-other s (lastLink s (suc m) 0 (keyOf (suc m))) (j * recordWidth + r) (suc m) 0 (link-other k j r h)
 
 -- a number that no other record has
-pub numbered-more : (s : List ℕ) (used : ℕ) → Numbered s used → suc used * 8 ≤ length s → ((key : ℕ) → next s used key ≡ 0)
+pub numbered-more : (s : List ℕ) (used : ℕ) → Numbered s used → suc used * recordWidth ≤ length s → ((key : ℕ) → next s used key ≡ 0)
     → ((j : ℕ) → j < used → numberOf s j ≡ numberOf s used → ⊥) → Numbered (linked s used (numberOf s used)) (suc used)
 numbered-more s used t room free other =
     let l = linked s used (numberOf s used) in
-    let same : (j : ℕ) → numberOf s j ≡ numberOf l j = λ j. sym (rw (add-zero (j * 8)) at (kept-word s (numberOf s) used (t .tree) j 0 (omega arith))) in
+    let same : (j : ℕ) → numberOf s j ≡ numberOf l j = λ j. sym (rw (add-zero (j * recordWidth)) at (kept-word s (numberOf s) used (t .tree) j 0 (omega arith))) in
     record {
       tree = indexed-more s (numberOf s) (numberOf l) used _ (t .tree) room free refl same;
       distinct = λ i j a b e. distinct-more (λ i j. numberOf s i ≡ numberOf s j) used (λ i j e. sym e) (t .distinct) other i j a b (same i ∙ e ∙ sym (same j));
     }
 
 -- a name that no other record has
-pub named-more : (file s : List ℕ) (used : ℕ) → Named file s used → suc used * 8 ≤ length s → ((key : ℕ) → next s used key ≡ 0)
+pub named-more : (file s : List ℕ) (used : ℕ) → Named file s used → suc used * recordWidth ≤ length s → ((key : ℕ) → next s used key ≡ 0)
     → ((j : ℕ) → j < used → sameBytes (nameOf file s j) (nameOf file s used) ≡ true → ⊥) → Named file (linked s used (keyOf (nameOf file s used))) (suc used)
 unfolding nameOf
 named-more file s used t room free other =
     let key : ℕ → ℕ = λ i. keyOf (nameOf file s i) in
     let l = linked s used (key used) in
-    let first : (j : ℕ) → getD s (j * 8) 0 ≡ getD l (j * 8) 0 = λ j. sym (rw (add-zero (j * 8)) at (kept-word s key used (t .tree) j 0 (omega arith))) in
-    let second : (j : ℕ) → getD s (j * 8 + 1) 0 ≡ getD l (j * 8 + 1) 0 = λ j. sym (kept-word s key used (t .tree) j 1 (omega arith)) in
+    let first : (j : ℕ) → getD s (j * recordWidth) 0 ≡ getD l (j * recordWidth) 0 = λ j. sym (rw (add-zero (j * recordWidth)) at (kept-word s key used (t .tree) j 0 (omega arith))) in
+    let second : (j : ℕ) → getD s (j * recordWidth + 1) 0 ≡ getD l (j * recordWidth + 1) 0 = λ j. sym (kept-word s key used (t .tree) j 1 (omega arith)) in
     let same : (j : ℕ) → nameOf file s j ≡ nameOf file l j = λ j i. slice (first j i) (second j i) file in
     record {
       tree = indexed-more s key (λ i. keyOf (nameOf file l i)) used _ (t .tree) room free refl (λ j. ap keyOf (same j));

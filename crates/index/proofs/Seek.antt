@@ -14,7 +14,7 @@ use borrow.Author.Tests.{eqb-true, eqb-false, eq-eqb, ne-eqb}
 use Rattle.index.specs.declared.Search.{Search}
 use Rattle.index.specs.declared.Search.the-variants.{At}
 use Rattle.index.specs.First.{firstOf}
-use Rattle.index.specs.Tree.{isHigh, bitsAbove, linkWord, linkOf, next, lastLink}
+use Rattle.index.specs.Tree.{recordWidth, isHigh, bitsAbove, linkWord, linkOf, next, lastLink}
 use Rattle.index.specs.Indexed.{Leads, here, on, Indexed}
 
 -- what a test picks, where only one record is picked, and where none is
@@ -130,19 +130,19 @@ pub record LinkBelow (used w : ℕ) : Type 0 where
   pub is : w ≡ linkOf of for
   pub low : of < used
 
-pub link-words : (i key : ℕ) → (i * 8 + 6 ≤ linkOf i key) × (linkOf i key ≤ i * 8 + 7)
+pub link-words : (i key : ℕ) → (i * recordWidth + 6 ≤ linkOf i key) × (linkOf i key ≤ i * recordWidth + 7)
 unfolding linkWord
 link-words i key = go (isHigh key)
   where
-    go : (b : Bool) → (i * 8 + 6 ≤ i * 8 + cond b 7 6) × (i * 8 + cond b 7 6 ≤ i * 8 + 7)
+    go : (b : Bool) → (i * recordWidth + 6 ≤ i * recordWidth + cond b 7 6) × (i * recordWidth + cond b 7 6 ≤ i * recordWidth + 7)
     go true = (omega arith, omega arith)
     go false = (omega arith, omega arith)
 
-pub link-place : {used w : ℕ} → LinkBelow used w → w < used * 8
+pub link-place : {used w : ℕ} → LinkBelow used w → w < used * recordWidth
 link-place k = let p = link-words (k .of) (k .for) in let q = k .is in let l = k .low in omega arith
 
 -- it is none of the first six words of a record
-pub link-other : {used w : ℕ} → LinkBelow used w → (j r : ℕ) → r < 6 → j * 8 + r ≡ w → ⊥
+pub link-other : {used w : ℕ} → LinkBelow used w → (j r : ℕ) → r < 6 → j * recordWidth + r ≡ w → ⊥
 link-other k j r h e = let p = link-words (k .of) (k .for) in let q = k .is in omega arith
 
 -- the search for a key comes to the record that is linked where it ended

@@ -9,11 +9,11 @@ use Rattle.base.specs.Bytes.{sameBytes}
 use Rattle.index.specs.declared.Search.{Search}
 use Rattle.index.specs.declared.Search.the-variants.{Free}
 use Rattle.index.specs.First.{firstOf}
-use Rattle.index.specs.Tree.{lastLink}
+use Rattle.index.specs.Tree.{recordWidth, lastLink}
 use Rattle.index.specs.Indexed.{Indexed}
 
 unfoldable pub nameOf : List ℕ → List ℕ → ℕ → List ℕ
-nameOf file s i = slice (getD s (i * 8) 0) (getD s (i * 8 + 1) 0) file
+nameOf file s i = slice (getD s (i * recordWidth) 0) (getD s (i * recordWidth + 1) 0) file
 
 -- a name as a key: its bytes as one number, the last byte lowest
 unfoldable pub keyFrom : ℕ → List ℕ → ℕ

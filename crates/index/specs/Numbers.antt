@@ -7,11 +7,11 @@ use lib.ListN.{getD}
 use Rattle.index.specs.declared.Search.{Search}
 use Rattle.index.specs.declared.Search.the-variants.{Free}
 use Rattle.index.specs.First.{firstOf}
-use Rattle.index.specs.Tree.{lastLink}
+use Rattle.index.specs.Tree.{recordWidth, lastLink}
 use Rattle.index.specs.Indexed.{Indexed}
 
 abbrev pub numberOf : List ℕ → ℕ → ℕ
-numberOf s i = getD s (i * 8) 0
+numberOf s i = getD s (i * recordWidth) 0
 
 -- the record in use that has the number; where none has, the link at which a new one goes
 unfoldable pub numbered : List ℕ → ℕ → ℕ → Search

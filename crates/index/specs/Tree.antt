@@ -1,10 +1,14 @@
--- A search tree in the last two of a record's eight words. For a key that is sought, a record leads on low or high, by the key's
+-- A search tree in the last two of a record's words. For a key that is sought, a record leads on low or high, by the key's
 -- lowest bit; from there the bits above it are the key. A link of 0 leads nowhere, since every search begins at record 0 (decision 209).
 use Prim.Native.Nat.{ℕ, zero, suc, _+_, _*_, _/_, _%_}
 use mathlib.Core.Bool.{Bool, true, false, cond}
 use mathlib.Core.List.{List}
 use lib.Dec.{eqb}
 use lib.ListN.{getD, set}
+
+-- the words of a record
+abbrev pub recordWidth : ℕ
+recordWidth = 8
 
 abbrev pub isHigh : ℕ → Bool
 isHigh key = eqb (key % 2) 1
@@ -14,7 +18,7 @@ bitsAbove key = key / 2
 
 -- the word of record i that leads on high, or low
 unfoldable pub linkWord : ℕ → Bool → ℕ
-linkWord i high = i * 8 + cond high 7 6
+linkWord i high = i * recordWidth + cond high 7 6
 
 abbrev pub linkOf : ℕ → ℕ → ℕ
 linkOf i key = linkWord i (isHigh key)

@@ -4,9 +4,12 @@ ghost use Prim.Native.Nat.{_+_, _*_, _/_, _^_, _≤_, _<_};
 ghost use lib.ListN.{length};
 ghost use lib.Seq.{slice};
 ghost use Rattle.base.specs.Bytes.{sameBytes};
-ghost use Rattle.index.specs.Tree.{linkWord, isHigh};
+ghost use Rattle.index.specs.Tree.{recordWidth, linkWord, isHigh};
 ghost use Rattle.index.specs.Numbers.{numbered, Numbered};
 ghost use Rattle.index.specs.Names.{nameOf, keyOf, named, Named};
+
+// The words of a record.
+pub const RECORD_WORDS: usize = 8;
 
 // What a search comes to: the record sought, or the word of the link that is to lead to a new one.
 pub enum Search {
@@ -16,10 +19,14 @@ pub enum Search {
 
 // The word of record i that leads on high, or low.
 fn link_word(i: usize, high: bool) -> usize
-    requires { ⌜ i * 8 + 8 ≤ 18446744073709551615 ⌝ }
+    requires { ⌜ i * recordWidth + recordWidth ≤ 18446744073709551615 ⌝ }
     ensures { λ r. ⌜ r ≡ linkWord i high ⌝ }
 {
-    if high { i * 8 + 7 } else { i * 8 + 6 }
+    if high {
+        i * RECORD_WORDS + 7
+    } else {
+        i * RECORD_WORDS + 6
+    }
 }
 
 // The record, of the first `used`, that has the number.
@@ -33,7 +40,7 @@ pub fn search_number(s: &[u64], used: usize, number: u64) -> Search
         return Search::Free(link);
     }
     let mut at: usize = 0;
-    while base::word_at(s, at * 8) != number {
+    while base::word_at(s, at * RECORD_WORDS) != number {
         let to = base::word_at(s, link) as usize;
         if to == 0 {
             return Search::Free(link);
@@ -67,11 +74,11 @@ fn name_bit(file: &[u8], from: usize, to: usize, d: usize) -> bool
 
 // Whether record i has the name file[from..to].
 fn has_name(file: &[u8], s: &[u64], i: usize, from: usize, to: usize) -> bool
-    requires { ⌜ i * 8 + 8 ≤ 18446744073709551615 ⌝ }
+    requires { ⌜ i * recordWidth + recordWidth ≤ 18446744073709551615 ⌝ }
     ensures { λ t. ⌜ t ≡ sameBytes (nameOf (now (file .entry)) (now (s .entry)) i) (slice from to (now (file .entry))) ⌝ }
 {
-    let begins = base::word_at(s, i * 8) as usize;
-    let ends = base::word_at(s, i * 8 + 1) as usize;
+    let begins = base::word_at(s, i * RECORD_WORDS) as usize;
+    let ends = base::word_at(s, i * RECORD_WORDS + 1) as usize;
     base::rest_is(
         base::part(file, begins, ends),
         0,

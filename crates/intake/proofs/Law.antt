@@ -14,14 +14,14 @@ use Rattle.digest.specs.Md5.{md5}
 use Rattle.digest.proofs.Cuts.{finished-md5}
 use Rattle.base.specs.Breaks.{isBreak}
 use Rattle.scan.specs.Permitted.{printable}
-use Rattle.scan.specs.Scan.{kindOf, textFrom, commandAt, skipped, nextCommand}
+use Rattle.scan.specs.Scan.{skipped, nextCommand}
 use Rattle.scan.specs.Tail.{tailOf}
-use Rattle.scan.specs.declared.Kind.the-variants.{Word}
+use Rattle.scan.specs.declared.Letters.the-variants.{Old}
 use Rattle.scan.specs.declared.Scan.{Scan}
 use Rattle.scan.specs.declared.Scan.the-variants.{Command, BadByte, Ended}
 use Rattle.scan.specs.declared.Tail.{Tail}
 use Rattle.scan.specs.declared.Tail.the-variants.{Clean, Unprintable, More}
-use Rattle.scan.proofs.Way.{way-starts}
+use Rattle.scan.specs.declared.Way.the-variants.{Bad}
 use Rattle.scan.proofs.Within.{Within, next-within}
 use Rattle.signature.specs.declared.Answer.{Answer}
 use Rattle.signature.specs.Form.{isEnd}
@@ -30,12 +30,11 @@ use Rattle.signature.specs.Signature.{refused, judged, bare, atEnd, walked, sig
 use Rattle.signature.proofs.Short.{judged-held}
 use Rattle.intake.specs.declared.Intake.{Intake}
 use Rattle.intake.specs.declared.Piece.{Piece}
-use Rattle.intake.specs.declared.Way.the-variants.{Over, Past, Bad}
-use Rattle.intake.specs.Ways.{after, wayAfter, begins, settled}
+use Rattle.intake.specs.declared.Stage.the-variants.{Cut, Over, Past}
+use Rattle.intake.specs.Stages.{over, settled, stageAfter, begins}
 use Rattle.intake.specs.Runs.{piece, empty, pushed, taken, inRuns, told}
-use Rattle.intake.proofs.Commands.{run, outcome, ended, kind-none}
-use Rattle.intake.proofs.Opening.{opening-run}
-use Rattle.intake.proofs.Stands.{along, between, part, goes, opens, skips, bare-none}
+use Rattle.intake.proofs.Commands.{run, outcome, next-run}
+use Rattle.intake.proofs.Stands.{along, between, part, goes, bare-none}
 use Rattle.intake.proofs.Steps.{taken-end, taken-next, bad-stays, past-stays}
 
 module _ (file : List ℕ) (short : length file < 2 ^ 64) where
@@ -53,31 +52,6 @@ module _ (file : List ℕ) (short : length file < 2 ^ 64) where
   skipped-here i h e = first-at (λ b. not (isBreak b)) file i h (ap not e)
 
   module _ (from at : ℕ) where
-    abbrev Next : ℕ → Type 0
-    Next i = (q : Piece) → told (taken (between file from at i q) (drop i file)) ≡ outcome file short from at (nextCommand file i)
-
-    none-left : (i : ℕ) → length file ≤ i → i ≤ length file → Next i
-    unfolding told nextCommand commandAt textFrom
-    none-left i h k q =
-        let none : kindOf (drop i file) ≡ Word = ap kindOf (drop-of-length-le file h) ∙ kind-none in
-        rw (taken-end (between file from at i q) file i h, skipped-end i h, none) (ended file short from at Word i i i 0 h k (way-starts Word file i))
-
-    one-left : (i : ℕ) → i < length file → (t : Bool) → at-break i ≡ t → Next (i + 1) → Next i
-    unfolding nextCommand
-    one-left i h true e rest q =
-        rw (taken-next (between file from at i q) file i h, skips file short from at i h q e, skipped-on i h e) (rest q)
-    one-left i h false e rest q =
-        rw (taken-next (between file from at i q) file i h, opens file short from at i h q e, skipped-here i h e) (opening-run file short from at i h)
-
-    -- from between commands on, the next one ends as `nextCommand` says
-    next-run : (n i : ℕ) → length file ≤ i + n → i ≤ length file → Next i
-    next-run zero i h k = none-left i (omega arith) k
-    next-run (suc n) i h k = go (ltb i (length file)) refl (next-run n (i + 1))
-      where
-        go : (t : Bool) → ltb i (length file) ≡ t → (length file ≤ i + 1 + n → i + 1 ≤ length file → Next (i + 1)) → Next i
-        go false e rest = none-left i (ltb-false _ _ e) k
-        go true e rest = let l : i < length file = ltb-true _ _ e in one-left i l (at-break i) refl (rest (omega arith) (omega arith))
-
     -- after M02
     module _ (place : ℕ) where
       abbrev kept : Answer
@@ -108,7 +82,7 @@ module _ (file : List ℕ) (short : length file < 2 ^ 64) where
       tail-bad i h e p = rw (skipped-here i h e, lt-leb _ _ h, p)
 
       over-one : (i : ℕ) → place ≤ i → i < length file → (t : Bool) → at-break i ≡ t → (u : Bool) → printable (getD file i 0) ≡ u → Ends (i + 1) → Ends i
-      unfolding begins wayAfter after settled
+      unfolding begins stageAfter over
       over-one i l h true e u p rest =
           rw (taken-next (along file Over from at place i) file i h, goes file short from at i h Over place l refl, e, tail-on i h e) rest
       over-one i l h false e true p rest =
@@ -116,7 +90,7 @@ module _ (file : List ℕ) (short : length file < 2 ^ 64) where
           (past-stays (drop (i + 1) file) (along file Past from at place (i + 1)) refl)
       over-one i l h false e false p rest =
           rw (taken-next (along file Over from at place i) file i h, goes file short from at i h Over place l refl, e, p, tail-bad i h e p)
-          (bad-stays (drop (i + 1) file) (along file (Bad i) from at place (i + 1)) refl)
+          (bad-stays (drop (i + 1) file) (along file (Cut (Bad i)) from at place (i + 1)) refl)
 
       over-end : (i : ℕ) → length file ≤ i → Ends i
       unfolding told
@@ -150,15 +124,15 @@ module _ (file : List ℕ) (short : length file < 2 ^ 64) where
 
   walks-on : (n : ℕ) → Walks n → Walks (suc n)
   unfolding walked settled
-  walks-on n rest from at q h k = next-run from at (length file) at (omega arith) h q ∙ go (nextCommand file at) refl
+  walks-on n rest from at q h k = next-run file short from at at h q ∙ go (nextCommand Old file at) refl
     where
-      go : (r : Scan) → nextCommand file at ≡ r → outcome file short from at (nextCommand file at) ≡ walked (suc n) file from at
+      go : (r : Scan) → nextCommand Old file at ≡ r → outcome file short from at (nextCommand Old file at) ≡ walked (suc n) file from at
       go (BadByte place) e = rw (walked, e)
       go (Ended place) e = rw (walked, e)
       go (Command kind place text end next) e = rw (walked, e) (by-end (isEnd (bare file place next)) refl)
         where
           w : Within (length file) at (Command kind place text end next)
-          w = rw e at (next-within file at h)
+          w = rw e at (next-within Old file at h)
 
           by-end : (t : Bool) → isEnd (bare file place next) ≡ t → outcome file short from at (Command kind place text end next)
               ≡ elim (isEnd (bare file place next)) [ true ↦ atEnd file from at place next | false ↦ walked n file place next ]

@@ -14,6 +14,9 @@ use Rattle.digest.specs.Text.{unbroken}
 use Rattle.digest.proofs.Runs.{fed-append}
 use Rattle.digest.proofs.Text.{unbroken-append}
 use Rattle.base.specs.Breaks.{isBreak}
+use Rattle.scan.specs.Ways.{step}
+use Rattle.scan.specs.declared.Letters.the-variants.{Old}
+use Rattle.scan.specs.declared.Way.the-variants.{Between}
 use Rattle.signature.specs.declared.Held.{Held}
 use Rattle.signature.specs.Held.{nothing, noted, notedAll}
 use Rattle.signature.specs.Form.{isEnd}
@@ -21,9 +24,9 @@ use Rattle.signature.specs.Signature.{bare}
 use Rattle.signature.proofs.Short.{end-held}
 use Rattle.intake.specs.declared.Intake.{Intake}
 use Rattle.intake.specs.declared.Piece.{Piece}
-use Rattle.intake.specs.declared.Way.{Way}
-use Rattle.intake.specs.declared.Way.the-variants.{Between}
-use Rattle.intake.specs.Ways.{wayAfter, begins, settled, opening}
+use Rattle.intake.specs.declared.Stage.{Stage}
+use Rattle.intake.specs.declared.Stage.the-variants.{Cut}
+use Rattle.intake.specs.Stages.{settled, stageAfter, opens, begins}
 use Rattle.intake.specs.Runs.{piece, intake, grown, pushed}
 
 noted-append : (h : Held) (a b : List ℕ) → notedAll h (a ++ b) ≡ notedAll (notedAll h a) b
@@ -49,12 +52,12 @@ abbrev pub part : List ℕ → ℕ → ℕ → Piece
 part file place to = piece place (fed started (bare file 0 place)) (notedAll nothing (bare file place to))
 
 -- in a command that begins at `place`, before the byte at i; the command before it stands from `from` up to `at`
-abbrev pub along : List ℕ → Way → ℕ → ℕ → ℕ → ℕ → Intake
-along file way from at place i = intake way i (fed started (bare file 0 i)) (part file place i) (part file from at)
+abbrev pub along : List ℕ → Stage → ℕ → ℕ → ℕ → ℕ → Intake
+along file stage from at place i = intake stage i (fed started (bare file 0 i)) (part file place i) (part file from at)
 
 -- between commands, before the byte at i; the last one stands from `from` up to `at`, and q is what is kept of the one before
 abbrev pub between : List ℕ → ℕ → ℕ → ℕ → Piece → Intake
-between file from at i q = intake Between i (fed started (bare file 0 i)) (part file from at) q
+between file from at i q = intake (Cut Between) i (fed started (bare file 0 i)) (part file from at) q
 
 module _ (file : List ℕ) (short : length file < 2 ^ 64) (from at i : ℕ) (inside : i < length file) where
   abbrev b : ℕ
@@ -72,23 +75,23 @@ module _ (file : List ℕ) (short : length file < 2 ^ 64) (from at i : ℕ) (ins
       ap (piece place (fed started (bare file 0 place)))
       (rw (bare-next file place i h inside) (sym (noted-append nothing (bare file place i) (unbroken (b ∷ [])))))
 
-  -- a byte of a command, in which none begins
-  pub goes : (way : Way) (place : ℕ) → place ≤ i → begins way b ≡ false →
-      pushed (along file way from at place i) b ≡ along file (settled (wayAfter way b i) (isEnd (bare file place (i + 1)))) from at place (i + 1)
+  -- a byte with which no command begins
+  pub goes : (stage : Stage) (place : ℕ) → place ≤ i → begins stage b ≡ false →
+      pushed (along file stage from at place i) b ≡ along file (stageAfter stage b i (isEnd (bare file place (i + 1)))) from at place (i + 1)
   unfolding pushed
-  goes way place h e = rw (e, grows place h, digested, counted, end-held (bare file place (i + 1)))
+  goes stage place h e = rw (e, grows place h, digested, counted, end-held (bare file place (i + 1)))
 
   -- the first byte of a command
-  pub opens : (q : Piece) → isBreak b ≡ false →
-      pushed (between file from at i q) b ≡ along file (settled (opening b i) (isEnd (bare file i (i + 1)))) from at i (i + 1)
-  unfolding pushed begins wayAfter notedAll
-  opens q e =
+  pub starts : (q : Piece) → isBreak b ≡ false →
+      pushed (between file from at i q) b ≡ along file (settled (step Old Between b i) (isEnd (bare file i (i + 1)))) from at i (i + 1)
+  unfolding pushed begins opens stageAfter notedAll
+  starts q e =
       let new : grown (piece i (fed started (bare file 0 i)) nothing) (b ∷ []) ≡ part file i (i + 1) = rw (bare-none file i) at (grows i (omega arith)) in
       rw (e, new, digested, counted, end-held (bare file i (i + 1)))
 
   -- CR or LF between commands
   pub skips : (q : Piece) → isBreak b ≡ true → pushed (between file from at i q) b ≡ between file from at (i + 1) q
-  unfolding pushed begins wayAfter settled grown unbroken notedAll
+  unfolding pushed begins opens stageAfter step settled grown unbroken notedAll
   skips q e =
       let none : unbroken (b ∷ []) ≡ [] = rw (unbroken, e) in
       rw (e, digested, counted, none)

@@ -1,2 +1,2 @@
-pub mod Ways
 pub mod Runs
+pub mod Stages

@@ -1,6 +1,8 @@
 // The signature of a file that comes in runs of any length, such as blocks of standard input: the file is not held.
 use digest::State;
-use scan::Kind;
+use scan::Letters;
+use scan::Scan;
+use scan::Way;
 use signature::Answer;
 use signature::Held;
 use std::num::wrapping_add_usize;
@@ -9,20 +11,15 @@ ghost use mathlib.Core.Bool.{cond};
 ghost use Rattle.digest.specs.Runs.{finished};
 ghost use Rattle.signature.specs.Held.{nothing, textOf};
 ghost use Rattle.signature.specs.Signature.{judged};
-ghost use Rattle.intake.specs.Ways.{within, opening, after, wayAfter, begins, settled};
+ghost use Rattle.intake.specs.Stages.{over, settled, stageAfter, opens, begins, stopped};
 ghost use Rattle.intake.specs.Runs.{piece, empty, grown, pushed, taken, told};
 
-// Between two bytes of the file: between commands; after `%` or `%A` that open one; inside one, with the last byte from 32 to 126; a
-// command is complete; after M02, with CR and LF only or with other bytes; after a byte that is not permitted.
-pub enum Way {
-    Between,
-    Opened,
-    OpenedA,
-    Inside { kind: Kind, last: u8 },
-    Complete,
+// Between two bytes of the file: on the way to M02, as the scanner cuts it; after M02, with CR and LF only or with other bytes. A byte
+// that is not permitted stops the way on either side of M02.
+pub enum Stage {
+    Cut(Way),
     Over,
     Past,
-    Bad { place: usize },
 }
 
 // A command: its place, the digest of what stands before it, and what is held of it.
@@ -32,122 +29,76 @@ pub struct Piece {
     text: Held,
 }
 
-// What is kept between two runs: the way, the length and the digest so far, the last command begun, and the one before it.
+// What is kept between two runs: the stage, the length and the digest so far, the last command begun, and the one before it.
 pub struct Intake {
-    way: Way,
+    stage: Stage,
     at: usize,
     digest: State,
     this: Piece,
     last: Piece,
 }
 
-// A byte of a command of this kind.
-fn way_within(kind: Kind, last: u8, b: u8, at: usize) -> Way
-    ensures { λ r. ⌜ r ≡ within kind last b at ⌝ }
-{
-    if b == scan::end_of(kind) {
-        return Way::Complete;
-    }
-    if scan::is_printable(b) {
-        return Way::Inside { kind, last: b };
-    }
-    if scan::may_break(kind, last, b) {
-        return Way::Inside { kind, last };
-    }
-    Way::Bad { place: at }
-}
-
-// The first byte of a command.
-fn way_opening(b: u8, at: usize) -> Way
-    ensures { λ r. ⌜ r ≡ opening b at ⌝ }
-{
-    if b == b'%' {
-        return Way::Opened;
-    }
-    way_within(Kind::Word, 0, b, at)
-}
-
 // A byte after M02.
-fn way_over(b: u8, at: usize) -> Way
-    ensures { λ r. ⌜ r ≡ after b at ⌝ }
+fn stage_over(b: u8, at: usize) -> Stage
+    ensures { λ r. ⌜ r ≡ over b at ⌝ }
 {
     if base::is_break(b) {
-        return Way::Over;
+        return Stage::Over;
     }
     if scan::is_printable(b) {
-        return Way::Past;
+        return Stage::Past;
     }
-    Way::Bad { place: at }
+    Stage::Cut(Way::Bad { place: at })
 }
 
-// A byte more.
-fn way_after(way: Way, b: u8, at: usize) -> Way
-    ensures { λ r. ⌜ r ≡ wayAfter way b at ⌝ }
+// A command that is complete was M02, or another may follow.
+fn settle(way: Way, end: bool) -> Stage
+    ensures { λ r. ⌜ r ≡ settled way end ⌝ }
 {
     match way {
-        Way::Between => {
-            if base::is_break(b) {
-                return Way::Between;
+        Way::Between => Stage::Cut(Way::Between),
+        Way::Inside(s) => Stage::Cut(Way::Inside(s)),
+        Way::Complete { kind } => {
+            if end {
+                return Stage::Over;
             }
-            way_opening(b, at)
+            Stage::Cut(Way::Between)
         }
-        Way::Opened => {
-            if b == b'A' {
-                return Way::OpenedA;
-            }
-            way_within(Kind::Extended, 0, b, at)
-        }
-        Way::OpenedA => {
-            if b == b'M' {
-                return Way::Inside {
-                    kind: Kind::Macro,
-                    last: b,
-                };
-            }
-            way_within(Kind::Extended, b'A', b, at)
-        }
-        Way::Inside { kind, last } => way_within(kind, last, b, at),
-        Way::Complete => Way::Complete,
-        Way::Over => way_over(b, at),
-        Way::Past => Way::Past,
-        Way::Bad { place } => Way::Bad { place },
+        Way::Bad { place } => Stage::Cut(Way::Bad { place }),
     }
 }
 
-// A command begins with this byte.
-fn does_begin(way: Way, b: u8) -> bool
-    ensures { λ r. ⌜ r ≡ begins way b ⌝ }
+// A byte more, with which the command at hand is M02 or not.
+fn stage_after(stage: Stage, b: u8, at: usize, end: bool) -> Stage
+    ensures { λ r. ⌜ r ≡ stageAfter stage b at end ⌝ }
+{
+    match stage {
+        Stage::Cut(way) => settle(scan::way_after(Letters::Old, way, b, at), end),
+        Stage::Over => stage_over(b, at),
+        Stage::Past => Stage::Past,
+    }
+}
+
+// A command begins with this byte, on this way.
+fn does_open(way: Way, b: u8) -> bool
+    ensures { λ r. ⌜ r ≡ opens way b ⌝ }
 {
     match way {
         Way::Between => !base::is_break(b),
-        Way::Opened => false,
-        Way::OpenedA => false,
-        Way::Inside { kind, last } => false,
-        Way::Complete => false,
-        Way::Over => false,
-        Way::Past => false,
+        Way::Inside(s) => false,
+        Way::Complete { kind } => false,
         Way::Bad { place } => false,
     }
 }
 
-// A command that is complete was M02, or another may follow.
-fn settle(way: Way, end: bool) -> Way
-    ensures { λ r. ⌜ r ≡ settled way end ⌝ }
+// A command begins with this byte.
+fn does_begin(stage: Stage, b: u8) -> bool
+    ensures { λ r. ⌜ r ≡ begins stage b ⌝ }
 {
-    match way {
-        Way::Between => Way::Between,
-        Way::Opened => Way::Opened,
-        Way::OpenedA => Way::OpenedA,
-        Way::Inside { kind, last } => Way::Inside { kind, last },
-        Way::Complete => {
-            if end {
-                return Way::Over;
-            }
-            Way::Between
-        }
-        Way::Over => Way::Over,
-        Way::Past => Way::Past,
-        Way::Bad { place } => Way::Bad { place },
+    match stage {
+        Stage::Cut(way) => does_open(way, b),
+        Stage::Over => false,
+        Stage::Past => false,
     }
 }
 
@@ -193,8 +144,9 @@ pub fn start() -> Intake
 {
     let digest = digest::start();
     let none = fresh(0, digest);
+    let stage = Stage::Cut(Way::Between);
     Intake {
-        way: Way::Between,
+        stage: stage,
         at: 0,
         digest: digest,
         this: none,
@@ -206,19 +158,19 @@ pub fn start() -> Intake
 fn push(s: Intake, b: u8) -> Intake
     ensures { λ r. ⌜ r ≡ pushed s b ⌝ }
 {
-    let way = s.way;
+    let stage = s.stage;
     let before = s.digest;
     let old = s.this;
     let older = s.last;
     let run = [b];
-    let new = does_begin(way, b);
+    let new = does_begin(stage, b);
     let this = grow(pick(new, fresh(s.at, before), old), &run);
     let text = this.text;
-    let next = settle(way_after(way, b, s.at), signature::holds_end(text));
+    let next = stage_after(stage, b, s.at, signature::holds_end(text));
     let digest = digest::feed_text(before, &run);
     let last = pick(new, old, older);
     Intake {
-        way: next,
+        stage: next,
         at: wrapping_add_usize(s.at, 1),
         digest: digest,
         this: this,
@@ -248,27 +200,39 @@ fn judge(this: Piece, last: Piece) -> Answer
     signature::judge(this.place, text, before)
 }
 
+// The file ends before M02: the number and the place of what the scanner answers.
+fn stop(r: Scan) -> Answer
+    ensures { λ a. ⌜ a ≡ stopped r ⌝ }
+{
+    match r {
+        Scan::Command {
+            kind,
+            place,
+            from,
+            end,
+            next,
+        } => signature::refuse(0, place),
+        Scan::BadByte { place } => signature::refuse(2, place),
+        Scan::Ended { place } => signature::refuse(3, place),
+    }
+}
+
 // The answer, once there are no more runs.
 pub fn tell(s: Intake) -> Answer
     ensures { λ r. ⌜ r ≡ told s ⌝ }
 {
-    let way = s.way;
-    match way {
-        Way::Between => signature::refuse(3, s.at),
-        Way::Opened => signature::refuse(3, s.at),
-        Way::OpenedA => signature::refuse(3, s.at),
-        Way::Inside { kind, last } => signature::refuse(3, s.at),
-        Way::Complete => signature::refuse(3, s.at),
-        Way::Over => {
+    let stage = s.stage;
+    match stage {
+        Stage::Cut(way) => stop(scan::way_ended(way, s.at)),
+        Stage::Over => {
             let this = s.this;
             let last = s.last;
             judge(this, last)
         }
-        Way::Past => {
+        Stage::Past => {
             let this = s.this;
             let last = s.last;
             judge(this, last)
         }
-        Way::Bad { place } => signature::refuse(2, place),
     }
 }

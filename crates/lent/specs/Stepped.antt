@@ -4,7 +4,7 @@ use mathlib.Core.Bool.{cond}
 use lib.Dec.{eqb}
 use Rattle.command.specs.declared.Command.{Command}
 use Rattle.graphics.specs.declared.Graphics.{Graphics}
-use Rattle.fits.specs.declared.Level.{Level}
+use Rattle.graphics.specs.declared.Level.{Level}
 use Rattle.changes.specs.After.{after}
 use Rattle.plain.specs.Plain.{faultOf}
 use Rattle.lent.specs.declared.Stepped.{Stepped}

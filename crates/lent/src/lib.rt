@@ -1,7 +1,7 @@
 // One command over one graphics state: by value, and over a state that the caller lends.
 use command::Command;
-use fits::Level;
 use graphics::Graphics;
+use graphics::Level;
 ghost use mathlib.Core.Path.{_≡_};
 ghost use Rattle.lent.specs.Stepped.{steppedOf};
 

@@ -71,7 +71,7 @@ fn add_field(out: &mut [u8], at: usize, i: usize, w: u64) -> usize
     add_signed(out, from, w)
 }
 
-// The line of item k, whose fifteen words these are: how many bytes it takes.
+// The line of item k, whose words these are: how many bytes it takes.
 pub fn item_line(out: &mut [u8], k: u64, words: &[u64]) -> usize
     requires { ⌜ 351 ≤ length (now out) ⌝ }
     ensures { λ r. ⌜ Counts r (now (out .exit)) ⌝ }
@@ -79,7 +79,7 @@ pub fn item_line(out: &mut [u8], k: u64, words: &[u64]) -> usize
 {
     let mut at = add_number(out, 0, k);
     let mut i: usize = 0;
-    while i < 15 {
+    while i < place::ITEM_WORDS {
         at = add_field(out, at, i, base::word_at(words, i));
         i += 1;
     }

@@ -32,8 +32,8 @@ fn print_run(k: u64, words: &[u64; 15360], count: u64)
     let all: &[u64] = words;
     let mut i: u64 = 0;
     while i < count {
-        let from = (i * 15) as usize;
-        print_item(k + i, &all[from..from + 15]);
+        let from = (i * place::ITEM_WORDS as u64) as usize;
+        print_item(k + i, &all[from..from + place::ITEM_WORDS]);
         i += 1;
     }
 }

@@ -7,7 +7,7 @@ use mathlib.Core.List.{List, [], _∷_, _++_, append-nil}
 use lib.ListN.{length, getD, replicate, List·getD-eq-default}
 use Rattle.base.specs.Run.{run}
 use Rattle.place.specs.declared.Item.{Item}
-use Rattle.place.specs.Item.{zeroItem}
+use Rattle.place.specs.Item.{itemWidth, zeroItem}
 use Rattle.descend.specs.Slots.{itemWords, slot, slots, fetched}
 use Rattle.descend.proofs.Slots.{run-join}
 use Rattle.lists.specs.Lists.{numberOf, held, slotOf, listed, filled, wordsOf}
@@ -33,14 +33,14 @@ unfolding wordsOf listed slotOf slot run
 words-run ts k zero = refl
 words-run ts k (suc n) = ap (λ l. itemWords (getD ts k zeroItem) ++ l) (words-run ts (suc k) n)
 
-words-slots : (ts : List Item) (k n : ℕ) → wordsOf (listed ts k n) ≡ slots ts k (n * 15)
+words-slots : (ts : List Item) (k n : ℕ) → wordsOf (listed ts k n) ≡ slots ts k (n * itemWidth)
 unfolding slots
 words-slots ts k n =
-    let q : n * 15 / 15 ≡ n = omega arith in
-    let r : n * 15 % 15 ≡ 0 = omega arith in
+    let q : n * itemWidth / itemWidth ≡ n = omega arith in
+    let r : n * itemWidth % itemWidth ≡ 0 = omega arith in
     rw (q, r) (words-run ts k n ∙ sym (append-nil (run (slot ts) k n)))
 
 -- a lent list of n items and n times fifteen lent words (`descend::sheet_run`) hold the same
-pub same-words : (head e a : List ℕ) (k n : ℕ) → wordsOf (filled head e a k n) ≡ fetched head e a k (n * 15)
+pub same-words : (head e a : List ℕ) (k n : ℕ) → wordsOf (filled head e a k n) ≡ fetched head e a k (n * itemWidth)
 unfolding filled held fetched
 same-words head e a k n = words-slots (held head e a) k n

@@ -16,8 +16,8 @@ use Rattle.tokens.specs.Tokens.{variableNumber}
 use Rattle.text.proofs.Pieces.{pieces-next, pieces-end}
 use Rattle.expression.specs.Reading.{Fits}
 use Rattle.ints.specs.Ints.{signed}
-use Rattle.command.specs.Choose.{pick}
-use Rattle.command.proofs.Choose.{row-holds, row-fails}
+use Rattle.base.specs.Choose.{pick}
+use Rattle.base.proofs.Choose.{row-holds, row-fails}
 use Rattle.tokens.specs.LineEnds.{withoutLeading}
 use Rattle.expression.specs.Value.{valueOf}
 use Rattle.primitives.specs.Rules.{codeOf, keeps}

@@ -8,7 +8,7 @@ use lib.IntN.{ℤ, pos}
 use lib.ListN.{take, drop, getD, set}
 use Rattle.text.specs.First.{place, before, after}
 use Rattle.text.specs.Text.{byte}
-use Rattle.command.specs.Choose.{choose}
+use Rattle.base.specs.Choose.{choose}
 use Rattle.reckon.specs.declared.Reckoned.{Reckoned}
 use Rattle.reckon.specs.declared.Reckoned.the-variants.{Refused, Value}
 use Rattle.tokens.specs.LineEnds.{withoutLeading}

@@ -9,8 +9,12 @@ use Rattle.place.specs.Mark.{Mark}
 use Rattle.place.specs.declared.Repeat.{Repeat}
 use Rattle.command.specs.declared.Axis.{Axis}
 use Rattle.command.specs.declared.Offset.{Offset}
+use Rattle.command.specs.declared.Operation.{Operation}
+use Rattle.command.specs.declared.Operation.the-variants as operation
+use Rattle.command.specs.declared.Bracket.{Bracket}
+use Rattle.command.specs.declared.Bracket.the-variants as bracket
 use Rattle.command.specs.declared.Command.{Command}
-use Rattle.command.specs.declared.Command.the-variants as command
+use Rattle.command.specs.declared.Command.the-variants.{Broken, Note, End, Set, Operate, Select, Define, Contain, Attribute}
 use Rattle.graphics.specs.declared.Graphics.{Graphics}
 use Rattle.changes.specs.After.{target, startsContour}
 use Rattle.marks.specs.Items.{drawn, edge, contour, flashed, pose}
@@ -34,38 +38,27 @@ flashMarks g x y place =
 unfoldable pub repeatOf : ℕ → ℕ → Amount → Amount → Repeat
 repeatOf nx ny dx dy = record { nx = nx; ny = ny; dx = natAbs (dx .millionths); dy = natAbs (dy .millionths) }
 
--- AB and SR begin and finish; every other command leaves nothing
+-- D02 leaves nothing
+unfoldable pub operationMarks : Operation → Graphics → ℕ → List Mark
+operationMarks (operation.Draw x y o) g place = drawMarks g x y o place
+operationMarks (operation.Move x y) g place = []
+operationMarks (operation.Flash x y) g place = flashMarks g x y place
+
+-- AB and SR begin and finish
+unfoldable pub bracketMarks : Bracket → List Mark
+bracketMarks (bracket.BlockStart n) = mark.begin (mark.block n) ∷ []
+bracketMarks bracket.BlockEnd = mark.finish ∷ []
+bracketMarks (bracket.RepeatStart nx ny dx dy rounded) = mark.begin (mark.repeat (repeatOf nx ny dx dy)) ∷ []
+bracketMarks bracket.RepeatEnd = mark.finish ∷ []
+
+-- every other command leaves nothing
 unfoldable pub marksOf : Command → Graphics → ℕ → List Mark
-marksOf (command.Draw x y o) g place = drawMarks g x y o place
-marksOf (command.Flash x y) g place = flashMarks g x y place
-marksOf (command.BlockStart n) g place = mark.begin (mark.block n) ∷ []
-marksOf command.BlockEnd g place = mark.finish ∷ []
-marksOf (command.RepeatStart nx ny dx dy) g place = mark.begin (mark.repeat (repeatOf nx ny dx dy)) ∷ []
-marksOf command.RepeatEnd g place = mark.finish ∷ []
-marksOf (command.Move x y) g place = []
-marksOf command.NotForm g place = []
-marksOf command.TooLong g place = []
-marksOf command.Comment g place = []
-marksOf command.Linear g place = []
-marksOf command.Clockwise g place = []
-marksOf command.Counterclockwise g place = []
-marksOf command.MultiQuadrant g place = []
-marksOf command.RegionStart g place = []
-marksOf command.RegionEnd g place = []
-marksOf command.End g place = []
-marksOf (command.Select n) g place = []
-marksOf (command.Format n) g place = []
-marksOf command.Millimetres g place = []
-marksOf command.Inches g place = []
-marksOf command.Dark g place = []
-marksOf command.Clear g place = []
-marksOf (command.Mirror x y) g place = []
-marksOf (command.Rotation a) g place = []
-marksOf (command.Scale a) g place = []
-marksOf (command.Aperture n name ps count) g place = []
-marksOf (command.Macro name blocks deep) g place = []
-marksOf (command.FileAttribute name value) g place = []
-marksOf (command.ApertureAttribute name value) g place = []
-marksOf (command.ObjectAttribute name value) g place = []
-marksOf (command.Delete name) g place = []
-marksOf command.DeleteAll g place = []
+marksOf (Operate o) g place = operationMarks o g place
+marksOf (Contain b) g place = bracketMarks b
+marksOf (Broken flaw) g place = []
+marksOf Note g place = []
+marksOf End g place = []
+marksOf (Set s) g place = []
+marksOf (Select n) g place = []
+marksOf (Define d) g place = []
+marksOf (Attribute d) g place = []

@@ -1,12 +1,12 @@
--- The look under way, over plain variables: at a place, with the names set before it, some of them in the table.
+-- The walk under way, over plain variables: at a place, with some of the names set before it in the table.
 -- Assumes nothing.
-use Prim.Native.Nat.{ℕ, suc, _/_, _≤_}
-use mathlib.Core.Path.{_≡_, refl, sym, _∙_, subst}
-use mathlib.Core.Bool.{Bool, true, false, cond}
+use Prim.Native.Nat.{ℕ, suc, _+_, _/_, _<_, _≤_, min}
+use mathlib.Core.Path.{_≡_, refl, sym, _∙_}
+use mathlib.Core.Bool.{Bool, true, false}
 use mathlib.Core.List.{List, [], _∷_}
 use native.Mathlib.Numerals.{add-one}
 use native.Mathlib.Omega.{arith}
-use lib.Dec.{eqb, ltb}
+use lib.Dec.{ltb}
 use lib.ListN.{length}
 use lib.Seq.{slice}
 use borrow.Author.Tests.{ltb-true, ltb-false}
@@ -17,25 +17,39 @@ use Rattle.tables.specs.Added.{hasRoom, added}
 use Rattle.tables.specs.Macros.{macroWords}
 use Rattle.tables.proofs.Adding.{added-long}
 use Rattle.reading.specs.Apertures.{isAmong}
-use Rattle.names.specs.Twice.{lookAt, twiceIn, twiceAt, firstAt}
-use Rattle.names.specs.Kept.{nameAt, noted, notedOf, keptAt, keptOf}
+use Rattle.names.specs.Twice.{lookAt, twiceIn, firstIn}
+use Rattle.names.specs.Kept.{nameAt, noted, notedOf, keptAt, keptOf, Passed}
 use Rattle.names.specs.declared.Look.the-variants.{End, Other, Naming}
 use Rattle.names.specs.declared.Noted.{Noted}
-use Rattle.names.specs.declared.Noted.the-variants.{Again, New}
-use Rattle.names.proofs.Walk.{other-onward, naming-onward, twice-end, twice-other, twice-again, twice-new}
-use Rattle.names.proofs.Known.{Known, known-start, known-other, known-naming, walk-new, walk-again}
-use Rattle.names.proofs.Held.{Held, held-start, held-again, held-new, held-full, held-more}
+use Rattle.names.specs.declared.Noted.the-variants.{Again, New, Full}
+use Rattle.names.proofs.Walk.{other-onward, naming-onward, twice-end, twice-other, twice-again, twice-new, first-end, first-other, first-here, first-on}
+use Rattle.names.proofs.Parted.{twice-from, in-parts}
+use Rattle.names.proofs.Held.{Held, held-start, held-again, held-new, held-more}
 
-pub record Going (file s : List ℕ) (used at : ℕ) : Type 0 where
+-- what is left to find: all names are kept so far; or there was no room for those from `rest` on
+pub data Left (file : List ℕ) (room used from at rest : ℕ) (names : List (List ℕ)) : Type 0 where
+  all : rest ≡ length file → twiceIn file at names ≡ twiceIn file from [] → Left file room used from at rest names
+  some : room ≤ used → from + used ≤ rest → rest ≤ at → min (firstIn file at names) (twiceIn file rest []) ≡ twiceIn file from [] → Left file room used from at rest names
+
+pub record Going (file s : List ℕ) (used from at rest : ℕ) : Type 0 where
   pub names : List (List ℕ)
+  pub starts : from < length file
+  pub room : 8 ≤ length s
+  pub onward : from + used ≤ at
   pub inside : at ≤ length file
-  pub left : twiceIn file at names ≡ twiceAt file
-  pub known : Known file at names
+  pub left : Left file (length s / 8) used from at rest names
   pub held : Held file s used names
 
-pub going-start : (file s : List ℕ) → Going file s 0 0
-unfolding twiceAt
-going-start file s = record { names = []; inside = omega arith; left = refl; known = known-start file; held = held-start file s }
+pub going-start : (file s : List ℕ) (from : ℕ) → from < length file → 8 ≤ length s → Going file s 0 from from (length file)
+going-start file s from h k = record {
+  names = [];
+  starts = h;
+  room = k;
+  onward = omega arith;
+  inside = omega arith;
+  left = all refl refl;
+  held = held-start file s;
+}
 
 -- the table is as long as it was
 eight : (from to : ℕ) → length (macroWords (nameAt from to)) ≡ 8
@@ -55,67 +69,108 @@ kept-long file s used from to = go (named file s used (slice from to file))
     go (At i) = refl
     go (Free link) = long s used link (macroWords (nameAt from to)) (eight from to) (ltb used (length s / 8)) refl
 
-module _ (file s : List ℕ) (used at : ℕ) (g : Going file s used at) where
-  pub going-end : lookAt file at ≡ End → length file ≡ twiceAt file
-  going-end e = sym (twice-end file at (g .names) e) ∙ g .left
+-- what follows from how the name of the TF at a place is noted, the next command standing from `next` on
+abbrev pub Follows : List ℕ → ℕ → ℕ → ℕ → ℕ → ℕ → ℕ → List ℕ → Noted → Type 0
+Follows file used from at rest place next s Again = Passed file from (record { found = place; rest = rest })
+Follows file used from at rest place next s (New more) = Going file s more from next rest
+Follows file used from at rest place next s Full = Going file s used from next (min rest at)
 
-  pub going-other : {next : ℕ} → lookAt file at ≡ Other next → Going file s used next
-  going-other e = record {
+module _ (file s : List ℕ) (used from at rest : ℕ) (g : Going file s used from at rest) where
+  -- a TF was found, or the end: the first of those kept
+  passed : (found : ℕ) → firstIn file at (g .names) ≡ found → (twiceIn file at (g .names) ≡ found) → found ≤ length file → Passed file from (record { found = found; rest = rest })
+  passed found f t h = go (g .left)
+    where
+      go : Left file (length s / 8) used from at rest (g .names) → Passed file from (record { found = found; rest = rest })
+      go (all r q) = record { onward = rw r (g .starts); inside = omega arith; least = let p = twice-from file rest [] (omega arith) in omega (arith, g .starts) }
+      go (some r o i q) = record { onward = omega (arith, g .room); inside = omega (arith, g .inside); least = rw f at q }
+
+  pub going-end : lookAt file at ≡ End → Passed file from (record { found = length file; rest = rest })
+  going-end e = passed (length file) (first-end file at (g .names) e) (twice-end file at (g .names) e) (omega arith)
+
+  pub going-other : {next : ℕ} → lookAt file at ≡ Other next → Going file s used from next rest
+  going-other {next} e = record {
     names = g .names;
+    starts = g .starts;
+    room = g .room;
+    onward = let o = other-onward file at (g .inside) e in omega (arith, o .0, g .onward);
     inside = other-onward file at (g .inside) e .1;
-    left = sym (twice-other file at (g .names) (g .inside) e) ∙ g .left;
-    known = known-other file at (g .names) (g .inside) (g .known) e;
+    left = go (g .left);
     held = g .held;
   }
+    where
+      go : Left file (length s / 8) used from at rest (g .names) → Left file (length s / 8) used from next rest (g .names)
+      go (all r q) = all r (sym (twice-other file at (g .names) (g .inside) e) ∙ q)
+      go (some r o i q) = some r o (let p = other-onward file at (g .inside) e in omega (arith, p .0)) (rw (first-other file at (g .names) (g .inside) e) at q)
 
-  module _ {place from to next : ℕ} (e : lookAt file at ≡ Naming place from to next) where
+  module _ {place begins to next : ℕ} (e : lookAt file at ≡ Naming place begins to next) where
     abbrev name : List ℕ
-    name = slice from to file
+    name = slice begins to file
 
-    -- set before
-    again : isAmong name (g .names) ≡ true → place ≡ twiceAt file
-    again a = sym (twice-again file at (g .names) (g .inside) e a) ∙ g .left
+    -- one of those kept
+    again : isAmong name (g .names) ≡ true → Passed file from (record { found = place; rest = rest })
+    again a =
+        let o = naming-onward file at (g .inside) e in
+        passed place (first-here file at (g .names) (g .inside) e a) (twice-again file at (g .names) (g .inside) e a) (omega (arith, o .1, o .2))
 
-    -- new
-    on : (s′ : List ℕ) (more : ℕ) → isAmong name (g .names) ≡ false → Held file s′ more (name ∷ g .names) → Going file s′ more next
-    on s′ more a held = record {
-      names = name ∷ g .names;
-      inside = naming-onward file at (g .inside) e .2;
-      left = sym (twice-new file at (g .names) (g .inside) e a) ∙ g .left;
-      known = known-naming file at (g .names) (g .inside) (g .known) e;
-      held = held;
-    }
+    -- new, and there is room
+    kept : (s′ : List ℕ) → length s′ ≡ length s → used < length s / 8 → isAmong name (g .names) ≡ false → Held file s′ (suc used) (name ∷ g .names) →
+        Going file s′ (suc used) from next rest
+    kept s′ l r a held =
+        let o = naming-onward file at (g .inside) e in
+        record {
+          names = name ∷ g .names;
+          starts = g .starts;
+          room = rw l (g .room);
+          onward = omega (arith, o .0, o .1, g .onward);
+          inside = o .2;
+          left = go (g .left);
+          held = held;
+        }
+      where
+        go : Left file (length s / 8) used from at rest (g .names) → Left file (length s′ / 8) (suc used) from next rest (name ∷ g .names)
+        go (all r q) = all r (sym (twice-new file at (g .names) (g .inside) e a) ∙ q)
+        go (some full o i q) = absurd (omega arith)
 
-    -- what follows from how it is noted
-    abbrev Follows : List ℕ → Noted → Type 0
-    Follows s′ Again = place ≡ twiceAt file
-    Follows s′ (New more) = Going file s′ more next
+    -- new, and there is none
+    without-room : length s / 8 ≤ used → isAmong name (g .names) ≡ false → Going file s used from next (min rest at)
+    without-room full a =
+        let o = naming-onward file at (g .inside) e in
+        record {
+          names = g .names;
+          starts = g .starts;
+          room = g .room;
+          onward = omega (arith, o .0, o .1, g .onward);
+          inside = o .2;
+          left = go (g .left);
+          held = g .held;
+        }
+      where
+        at-rest : (r : ℕ) → r ≡ min rest at → from + used ≤ r → r ≤ at → min (firstIn file at (g .names)) (twiceIn file r []) ≡ twiceIn file from [] →
+            Left file (length s / 8) used from next (min rest at) (g .names)
+        at-rest r k o i q =
+            let p = naming-onward file at (g .inside) e in
+            some full (omega arith) (omega (arith, p .0, p .1)) (rw (← k) (rw (first-on file at (g .names) (g .inside) e a) at q))
 
-    without-room : length s / 8 ≤ used → (t : Bool) → isAmong name (g .names) ≡ t → Follows s (cond (eqb (firstAt file name) place) (New used) Again)
-    without-room full true a = rw (walk-again file at (g .names) (g .inside) (g .known) e a) (again a)
-    without-room full false a =
-        rw (walk-new file at (g .names) (g .inside) (g .known) e a) (on s used a (held-full file s used (g .names) (g .held) name full))
+        go : Left file (length s / 8) used from at rest (g .names) → Left file (length s / 8) used from next (min rest at) (g .names)
+        go (all r q) = at-rest at (omega (arith, g .inside)) (g .onward) (omega arith) (sym (in-parts file at (g .names) (g .inside)) ∙ q)
+        go (some _ o i q) = at-rest rest (omega arith) o i q
 
     not-found : (link : ℕ) → named file s used name ≡ Free link → (t : Bool) → ltb used (length s / 8) ≡ t
-        → Follows (added s used link (macroWords (nameAt from to))) (noted file s used place name (Free link))
+        → Follows file used from at rest place next (added s used link (macroWords (nameAt begins to))) (noted s used (Free link))
     unfolding noted hasRoom added
     not-found link f true r =
         let room = ltb-true used (length s / 8) r in
-        rw (r, add-one) (on _ (suc used) (held-new file s used (g .names) (g .held) name link f room) (rw (r, added) at (held-more file s used (g .names) (g .held) from to link room f)))
-    not-found link f false r = rw r (without-room (ltb-false used (length s / 8) r) (isAmong name (g .names)) refl)
+        rw (r, add-one) (kept _ (rw (r, added) at (long s used link (macroWords (nameAt begins to)) (eight begins to) true r)) room (held-new file s used (g .names) (g .held) name link f) (rw (r, added) at (held-more file s used (g .names) (g .held) begins to link room f)))
+    not-found link f false r = rw r (without-room (ltb-false used (length s / 8) r) (held-new file s used (g .names) (g .held) name link f))
 
-    follows : (x : Search) → named file s used name ≡ x → Follows (keptAt s used from to x) (noted file s used place name x)
+    follows : (x : Search) → named file s used name ≡ x → Follows file used from at rest place next (keptAt s used begins to x) (noted s used x)
     unfolding keptAt noted
     follows (At i) f = again (held-again file s used (g .names) (g .held) name i f)
     follows (Free link) f = not-found link f (ltb used (length s / 8)) refl
 
-    pub going-naming : Follows (keptOf file s used from to) (notedOf file s used place from to)
+    going-kept : Follows file used from at rest place next (keptOf file s used begins to) (notedOf file s used begins to)
     unfolding keptOf notedOf
-    going-naming = follows (named file s used name) refl
+    going-kept = follows (named file s used name) refl
 
-    pub going-again : Again ≡ notedOf file s used place from to → place ≡ twiceAt file
-    going-again q = subst (Follows (keptOf file s used from to)) (sym q) going-naming
-
-    pub going-new : {s′ : List ℕ} {more : ℕ} → New more ≡ notedOf file s used place from to → s′ ≡ keptOf file s used from to → Going file s′ more next
-    going-new {s′ = s′} {more = more} q p =
-        subst (λ (t : List ℕ). Going file t more next) (sym p) (subst (Follows (keptOf file s used from to)) (sym q) going-naming)
+    pub going-naming : {s′ : List ℕ} {n : Noted} → n ≡ notedOf file s used begins to → s′ ≡ keptOf file s used begins to → Follows file used from at rest place next s′ n
+    going-naming q p = rw (q, p) going-kept

@@ -1,6 +1,6 @@
--- The table of names: what it holds was set, and while it has room it holds all that was set.
+-- The table of names: it holds those that were kept, and no others.
 -- Assumes nothing.
-use Prim.Native.Nat.{ℕ, zero, suc, _+_, _/_, _<_, _≤_}
+use Prim.Native.Nat.{ℕ, zero, suc, _+_, _/_, _<_}
 use mathlib.Core.Path.{_≡_, refl, sym, ap, _∙_}
 use mathlib.Core.Bool.{Bool, true, false}
 use mathlib.Core.List.{List, [], _∷_}
@@ -27,14 +27,14 @@ use Rattle.names.specs.Kept.{nameAt}
 pub record Held (file s : List ℕ) (used : ℕ) (names : List (List ℕ)) : Type 0 where
   pub table : Named file s used
   pub set : (i : ℕ) → i < used → isAmong (nameOf file s i) names ≡ true
-  pub all : used < length s / 8 → (name : List ℕ) → isAmong name names ≡ true → ((j : ℕ) → j < used → sameBytes (nameOf file s j) name ≡ true → ⊥) → ⊥
+  pub all : (name : List ℕ) → isAmong name names ≡ true → ((j : ℕ) → j < used → sameBytes (nameOf file s j) name ≡ true → ⊥) → ⊥
 
 pub held-start : (file s : List ℕ) → Held file s 0 []
 unfolding isAmong
 held-start file s = record {
   table = named-none file s;
   set = λ i l. absurd (omega arith);
-  all = λ l name e. let z : _≡_ {A = ℕ} 0 1 = cc in absurd (omega arith);
+  all = λ name e. let z : _≡_ {A = ℕ} 0 1 = cc in absurd (omega arith);
 }
 
 -- a search that found a record
@@ -65,28 +65,20 @@ unfolding isAmong _or_
 among-here n names = rw (same-refl n)
 
 module _ (file s : List ℕ) (used : ℕ) (names : List (List ℕ)) (h : Held file s used names) where
-  -- a name that is found was set
+  -- a name that is found was kept
   pub held-again : (name : List ℕ) (i : ℕ) → named file s used name ≡ At i → isAmong name names ≡ true
   unfolding named
   held-again name i e =
       let f = found-at (λ j. sameBytes (nameOf file s j) name) 0 used _ i e in
       ap (λ (n : List ℕ). isAmong n names) (sym (same-is _ _ (f .1))) ∙ h .set i (omega (arith, f .0))
 
-  -- one that is not was not, while there is room
-  pub held-new : (name : List ℕ) (link : ℕ) → named file s used name ≡ Free link → used < length s / 8 → isAmong name names ≡ false
-  held-new name link e room = go (isAmong name names) refl
+  -- one that is not was not
+  pub held-new : (name : List ℕ) (link : ℕ) → named file s used name ≡ Free link → isAmong name names ≡ false
+  held-new name link e = go (isAmong name names) refl
     where
       go : (t : Bool) → isAmong name names ≡ t → t ≡ false
-      go true a = absurd (h .all room name a (name-new file s used name link e))
+      go true a = absurd (h .all name a (name-new file s used name link e))
       go false a = refl
-
-  -- without room the table stays
-  pub held-full : (name : List ℕ) → length s / 8 ≤ used → Held file s used (name ∷ names)
-  held-full name full = record {
-    table = h .table;
-    set = λ i l. among-more (nameOf file s i) name names (h .set i l);
-    all = λ room. absurd (omega arith);
-  }
 
   -- with room it holds one more
   module _ (from to link : ℕ) (room : used < length s / 8) (free : named file s used (slice from to file) ≡ Free link) where
@@ -109,7 +101,7 @@ module _ (file s : List ℕ) (used : ℕ) (names : List (List ℕ)) (h : Held fi
       where
         go : (t : Bool) → sameBytes (slice from to file) name ≡ t → (t or isAmong name names) ≡ true → ⊥
         go true e a = none used (omega arith) (ap (λ (n : List ℕ). sameBytes n name) new ∙ e)
-        go false e a = h .all room name a (λ j l f. none j (omega arith) (ap (λ (n : List ℕ). sameBytes n name) (kept j l) ∙ f))
+        go false e a = h .all name a (λ j l f. none j (omega arith) (ap (λ (n : List ℕ). sameBytes n name) (kept j l) ∙ f))
 
     pub held-more : Held file s′ (suc used) (slice from to file ∷ names)
     held-more = record {
@@ -119,5 +111,5 @@ module _ (file s : List ℕ) (used : ℕ) (names : List (List ℕ)) (h : Held fi
           ∙ ap (λ (n : List ℕ). isAmong n (slice from to file ∷ names)) new ∙ among-here (slice from to file) names)
           (λ (b : i < used). ap (λ (n : List ℕ). isAmong n (slice from to file ∷ names)) (kept i b) ∙ among-more (nameOf file s i) (slice from to file) names (h .set i b))
           (eq-or-lt-of-le (le-of-suc-le-suc l));
-      all = λ r. among-all;
+      all = among-all;
     }

@@ -1,8 +1,9 @@
--- What a walk from the file's first byte tells of a name, once the look has come to a place: it was set before there, or is set from there on.
+-- What is known of the names once the look has come to a place: each was set before there, or is set from there on; and the first that is set
+-- twice is set so from there on.
 -- Assumes nothing.
 use Prim.Native.Nat.{ℕ, _<_, _≤_}
-use mathlib.Core.Path.{_≡_, refl, _∙_}
-use mathlib.Core.Bool.{Bool, true, false}
+use mathlib.Core.Path.{_≡_, refl, sym, ap, _∙_}
+use mathlib.Core.Bool.{Bool, true, false, not}
 use mathlib.Core.List.{List, [], _∷_}
 use native.Mathlib.Omega.{arith}
 use lib.Dec.{eqb}
@@ -11,57 +12,83 @@ use lib.Seq.{slice}
 use borrow.Author.Tests.{eq-eqb, ne-eqb}
 use Rattle.base.specs.Or.{_or_}
 use Rattle.base.specs.Bytes.{sameBytes}
-use Rattle.base.proofs.Lists.{same-refl}
+use Rattle.base.proofs.Lists.{same-is, same-refl}
 use Rattle.reading.specs.Apertures.{isAmong}
-use Rattle.names.specs.Twice.{lookAt, firstIn, firstAt}
+use Rattle.names.specs.Twice.{lookAt, twiceIn, twiceAt, firstIn, firstAt}
 use Rattle.names.specs.declared.Look.the-variants.{Other, Naming}
-use Rattle.names.proofs.Walk.{other-onward, naming-onward, first-other, first-here, first-on}
+use Rattle.names.proofs.Walk.{other-onward, naming-onward, first-other, first-here, first-on, twice-other, twice-again, twice-new}
+use Rattle.names.proofs.Parted.{twice-from}
+
+-- a name is among one where they are the same
+pub among-one : (a b : List ℕ) {t : Bool} → sameBytes a b ≡ t → isAmong a (b ∷ []) ≡ t
+unfolding isAmong _or_
+among-one a b {t} e = go t e (sameBytes b a) refl
+  where
+    go : (t : Bool) → sameBytes a b ≡ t → (u : Bool) → sameBytes b a ≡ u → (u or false) ≡ t
+    go true e true f = refl
+    go true e false f = sym f ∙ ap (λ (x : List ℕ). sameBytes x a) (sym (same-is a b e)) ∙ same-refl a
+    go false e true f = sym (same-refl a) ∙ ap (sameBytes a) (sym (same-is b a f)) ∙ e
+    go false e false f = refl
 
 pub record Known (file : List ℕ) (at : ℕ) (names : List (List ℕ)) : Type 0 where
   pub before : (name : List ℕ) → isAmong name names ≡ true → firstAt file name < at
-  pub later : (name : List ℕ) → isAmong name names ≡ false → firstAt file name ≡ firstIn file at name
+  pub later : (name : List ℕ) → isAmong name names ≡ false → firstAt file name ≡ firstIn file at (name ∷ [])
+  pub twice : twiceIn file at names ≡ twiceAt file
 
 pub known-start : (file : List ℕ) → Known file 0 []
-unfolding isAmong firstAt
+unfolding isAmong firstAt twiceAt
 known-start file = record {
   before = λ name e. let z : _≡_ {A = ℕ} 0 1 = cc in absurd (omega arith);
   later = λ name e. refl;
+  twice = refl;
 }
 
 module _ (file : List ℕ) (at : ℕ) (names : List (List ℕ)) (h : at ≤ length file) (k : Known file at names) where
   pub known-other : {next : ℕ} → lookAt file at ≡ Other next → Known file next names
   known-other e = record {
     before = λ name a. omega (arith, k .before name a, other-onward file at h e .0);
-    later = λ name a. k .later name a ∙ first-other file at name h e;
+    later = λ name a. k .later name a ∙ first-other file at (name ∷ []) h e;
+    twice = sym (twice-other file at names h e) ∙ k .twice;
   }
 
   module _ {place from to next : ℕ} (e : lookAt file at ≡ Naming place from to next) where
-    -- a name that is set here was set before or is set here first
-    set-here : (name : List ℕ) → sameBytes (slice from to file) name ≡ true → firstAt file name < next
-    set-here name s = go (isAmong name names) refl
-      where
-        go : (t : Bool) → isAmong name names ≡ t → firstAt file name < next
-        go true a = let o = naming-onward file at h e in omega (arith, k .before name a, o .0, o .1)
-        go false a = let o = naming-onward file at h e in let p = k .later name a ∙ first-here file at name h e s in omega (arith, p, o .1)
+    abbrev here : List ℕ
+    here = slice from to file
 
-    pub known-naming : Known file next (slice from to file ∷ names)
+    first-is : isAmong here names ≡ false → firstAt file here ≡ place
+    first-is a = k .later here a ∙ first-here file at (here ∷ []) h e (among-one here here (same-refl here))
+
+    pub known-naming : isAmong here names ≡ false → Known file next (here ∷ names)
     unfolding isAmong _or_
-    known-naming = record {
-      before = λ name a. past name (sameBytes (slice from to file) name) refl a;
-      later = λ name a. on name (sameBytes (slice from to file) name) refl a;
+    known-naming new = record {
+      before = λ name a. past name (sameBytes here name) refl a;
+      later = λ name a. on name (sameBytes here name) refl a;
+      twice = sym (twice-new file at names h e new) ∙ k .twice;
     }
       where
-        past : (name : List ℕ) (t : Bool) → sameBytes (slice from to file) name ≡ t → (t or isAmong name names) ≡ true → firstAt file name < next
-        past name true s a = set-here name s
+        past : (name : List ℕ) (t : Bool) → sameBytes here name ≡ t → (t or isAmong name names) ≡ true → firstAt file name < next
+        past name true s a = let p = ap (firstAt file) (sym (same-is here name s)) ∙ first-is new in omega (arith, p, naming-onward file at h e .1)
         past name false s a = let o = naming-onward file at h e in omega (arith, k .before name a, o .0, o .1)
 
-        on : (name : List ℕ) (t : Bool) → sameBytes (slice from to file) name ≡ t → (t or isAmong name names) ≡ false → firstAt file name ≡ firstIn file next name
+        on : (name : List ℕ) (t : Bool) → sameBytes here name ≡ t → (t or isAmong name names) ≡ false → firstAt file name ≡ firstIn file next (name ∷ [])
         on name true s a = let z : _≡_ {A = ℕ} 0 1 = cc in absurd (omega arith)
-        on name false s a = k .later name a ∙ first-on file at name h e s
+        on name false s a = k .later name a ∙ first-on file at (name ∷ []) h e (among-one here name s)
 
-    -- the walk tells which
-    pub walk-new : isAmong (slice from to file) names ≡ false → eqb (firstAt file (slice from to file)) place ≡ true
-    walk-new a = eq-eqb _ _ (k .later (slice from to file) a ∙ first-here file at (slice from to file) h e (same-refl (slice from to file)))
+    -- whether the name was set before is told by where it is set first, and by where one is set twice
+    pub by-walk : eqb (firstAt file here) place ≡ not (isAmong here names)
+    by-walk = go (isAmong here names) refl
+      where
+        go : (t : Bool) → isAmong here names ≡ t → eqb (firstAt file here) place ≡ not t
+        go true a = ne-eqb _ _ (λ (q : firstAt file here ≡ place). omega (arith, k .before here a, q, naming-onward file at h e .0))
+        go false a = eq-eqb _ _ (first-is a)
 
-    pub walk-again : isAmong (slice from to file) names ≡ true → eqb (firstAt file (slice from to file)) place ≡ false
-    walk-again a = ne-eqb _ _ (λ (q : firstAt file (slice from to file) ≡ place). omega (arith, k .before (slice from to file) a, q, naming-onward file at h e .0))
+    pub by-look : eqb place (twiceAt file) ≡ isAmong here names
+    by-look = ap (eqb place) (sym (k .twice)) ∙ go (isAmong here names) refl
+      where
+        go : (t : Bool) → isAmong here names ≡ t → eqb place (twiceIn file at names) ≡ t
+        go true a = eq-eqb _ _ (sym (twice-again file at names h e a))
+        go false a =
+            let o = naming-onward file at h e in
+            let p = twice-from file next (here ∷ names) (o .2) in
+            let w = twice-new file at names h e a in
+            ne-eqb place (twiceIn file at names) (λ (z : place ≡ twiceIn file at names). omega (arith, o .1, p, w, z))

@@ -1,6 +1,7 @@
-pub mod Settings
+pub mod Nameless
 pub mod Inside
 pub mod Walk
+pub mod Parted
 pub mod Known
 pub mod Held
 pub mod Going

@@ -7,22 +7,23 @@ use mathlib.Core.List.{List, [], _∷_}
 use native.Mathlib.Omega.{arith}
 use lib.ListN.{length}
 use lib.Seq.{slice, length-slice}
-use Rattle.base.specs.Bytes.{sameBytes}
 use Rattle.scan.specs.Scan.{nextCommand}
 use Rattle.scan.specs.declared.Kind.{Kind}
+use Rattle.scan.specs.declared.Letters.the-variants.{Old}
 use Rattle.scan.specs.declared.Scan.{Scan}
 use Rattle.scan.specs.declared.Scan.the-variants as scan
 use Rattle.scan.proofs.Within.{Within, next-within}
 use Rattle.command.specs.declared.Span.{Span}
 use Rattle.recognise.specs.Commands.{commandOf}
+use Rattle.bounds.proofs.Bounds.{bounded}
 use Rattle.reading.specs.Apertures.{isAmong}
-use Rattle.names.specs.Settings.{settingOf}
+use Rattle.names.specs.Sets.{setsOf}
 use Rattle.names.specs.Twice.{seen, looked, lookAt, Named, namedFrom, namedIn, twiceFrom, twiceIn, firstFrom, firstIn}
 use Rattle.names.specs.declared.Look.{Look}
 use Rattle.names.specs.declared.Look.the-variants.{End, Other, Naming}
-use Rattle.names.specs.declared.Setting.{Setting}
-use Rattle.names.specs.declared.Setting.the-variants.{Nothing, Name}
-use Rattle.names.proofs.Inside.{Inside, setting-inside}
+use Rattle.names.specs.declared.Sets.{Sets}
+use Rattle.names.specs.declared.Sets.the-variants.{Nothing, Name}
+use Rattle.names.proofs.Inside.{Inside, sets-inside}
 
 -- a turn from `at` on leads past it, in l bytes, and a name lies among them
 abbrev pub Onward : ℕ → ℕ → Look → Type 0
@@ -30,7 +31,7 @@ Onward l at End = Unit
 Onward l at (Other next) = (at < next) × (next ≤ l)
 Onward l at (Naming place from to next) = (at ≤ place) × (place < next) × (next ≤ l) × (from ≤ to) × (to ≤ l)
 
-seen-onward : (l at place from end next : ℕ) (x : Setting) → at ≤ place → place ≤ from → from ≤ end → next ≡ end + 1 → next ≤ l → Inside (end - from) x
+seen-onward : (l at place from end next : ℕ) (x : Sets) → at ≤ place → place ≤ from → from ≤ end → next ≡ end + 1 → next ≤ l → Inside (end - from) x
     → Onward l at (seen place from next x)
 unfolding seen
 seen-onward l at place from end next Nothing h i j e k w = (omega arith, k)
@@ -40,21 +41,21 @@ looked-onward : (file : List ℕ) (at : ℕ) (s : Scan) → Within (length file)
 unfolding looked
 looked-onward file at (scan.Command k place from end next) (h, i, j, e, m) =
     let p : length (slice from end file) ≡ end - from = length-slice from end file (omega arith) in
-    seen-onward (length file) at place from end next _ h i j e m (rw p at (setting-inside 0 k (slice from end file) .inside))
+    seen-onward (length file) at place from end next _ h i j e m (rw p at (sets-inside (slice from end file) (commandOf 0 k (slice from end file)) (bounded 0 k (slice from end file))))
 looked-onward file at (scan.BadByte place) w = tt
 looked-onward file at (scan.Ended place) w = tt
 
 pub look-onward : (file : List ℕ) (at : ℕ) → at ≤ length file → Onward (length file) at (lookAt file at)
 unfolding lookAt
-look-onward file at h = looked-onward file at (nextCommand file at) (next-within file at h)
+look-onward file at h = looked-onward file at (nextCommand Old file at) (next-within Old file at h)
 
 -- what the scanner found tells what is seen
-module _ (file : List ℕ) (at : ℕ) {k : Kind} {place from end next : ℕ} (e : nextCommand file at ≡ scan.Command k place from end next) where
-  pub look-other : settingOf (commandOf 0 k (slice from end file)) ≡ Nothing → Other next ≡ lookAt file at
+module _ (file : List ℕ) (at : ℕ) {k : Kind} {place from end next : ℕ} (e : nextCommand Old file at ≡ scan.Command k place from end next) where
+  pub look-other : setsOf (commandOf 0 k (slice from end file)) ≡ Nothing → Other next ≡ lookAt file at
   unfolding lookAt looked seen
   look-other q = sym (ap (looked file) e ∙ ap (seen place from next) q)
 
-  module _ {n : Span} (q : settingOf (commandOf 0 k (slice from end file)) ≡ Name n) where
+  module _ {n : Span} (q : setsOf (commandOf 0 k (slice from end file)) ≡ Name n) where
     pub look-naming : Naming place (from + n .from) (from + n .to) next ≡ lookAt file at
     unfolding lookAt looked seen
     look-naming = sym (ap (looked file) e ∙ ap (seen place from next) q)
@@ -123,21 +124,21 @@ module _ (file : List ℕ) (at : ℕ) (names : List (List ℕ)) where
       unfolding twiceFrom
       twice-new a = ap (λ (ns : List Named). twiceFrom (length file) ns names) (named-naming file at h e) ∙ rw (a, twiceFrom) refl
 
--- where a name is first set
-module _ (file : List ℕ) (at : ℕ) (name : List ℕ) where
-  pub first-end : lookAt file at ≡ End → firstIn file at name ≡ length file
+-- where one of these names is first set
+module _ (file : List ℕ) (at : ℕ) (names : List (List ℕ)) where
+  pub first-end : lookAt file at ≡ End → firstIn file at names ≡ length file
   unfolding firstFrom
-  first-end e = ap (λ (ns : List Named). firstFrom (length file) ns name) (named-end file at e)
+  first-end e = ap (λ (ns : List Named). firstFrom (length file) ns names) (named-end file at e)
 
   module _ (h : at ≤ length file) where
-    pub first-other : {next : ℕ} → lookAt file at ≡ Other next → firstIn file at name ≡ firstIn file next name
-    first-other e = ap (λ (ns : List Named). firstFrom (length file) ns name) (named-other file at h e)
+    pub first-other : {next : ℕ} → lookAt file at ≡ Other next → firstIn file at names ≡ firstIn file next names
+    first-other e = ap (λ (ns : List Named). firstFrom (length file) ns names) (named-other file at h e)
 
     module _ {place from to next : ℕ} (e : lookAt file at ≡ Naming place from to next) where
-      pub first-here : sameBytes (slice from to file) name ≡ true → firstIn file at name ≡ place
+      pub first-here : isAmong (slice from to file) names ≡ true → firstIn file at names ≡ place
       unfolding firstFrom
-      first-here a = ap (λ (ns : List Named). firstFrom (length file) ns name) (named-naming file at h e) ∙ rw (a, firstFrom) refl
+      first-here a = ap (λ (ns : List Named). firstFrom (length file) ns names) (named-naming file at h e) ∙ rw (a, firstFrom) refl
 
-      pub first-on : sameBytes (slice from to file) name ≡ false → firstIn file at name ≡ firstIn file next name
+      pub first-on : isAmong (slice from to file) names ≡ false → firstIn file at names ≡ firstIn file next names
       unfolding firstFrom
-      first-on a = ap (λ (ns : List Named). firstFrom (length file) ns name) (named-naming file at h e) ∙ rw (a, firstFrom) refl
+      first-on a = ap (λ (ns : List Named). firstFrom (length file) ns names) (named-naming file at h e) ∙ rw (a, firstFrom) refl

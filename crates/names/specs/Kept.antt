@@ -1,8 +1,9 @@
 -- The names kept in a table of records of eight words, which hold where each begins and ends in the file (docs/SHEET.md, decision 209).
-use Prim.Native.Nat.{ℕ, _+_}
+use Prim.Native.Nat.{ℕ, _+_, _<_, _≤_, min}
+use mathlib.Core.Path.{_≡_}
 use mathlib.Core.Bool.{cond}
-use mathlib.Core.List.{List}
-use lib.Dec.{eqb}
+use mathlib.Core.List.{List, []}
+use lib.ListN.{length}
 use lib.Seq.{slice}
 use Rattle.index.specs.Names.{named}
 use Rattle.index.specs.declared.Search.{Search}
@@ -10,22 +11,22 @@ use Rattle.index.specs.declared.Search.the-variants.{At, Free}
 use Rattle.tables.specs.Added.{hasRoom, added}
 use Rattle.tables.specs.Macros.{macroWords}
 use Rattle.tables.specs.declared.Macro.{Macro}
-use Rattle.names.specs.Twice.{firstAt}
+use Rattle.names.specs.Twice.{twiceIn}
 use Rattle.names.specs.declared.Noted.{Noted}
-use Rattle.names.specs.declared.Noted.the-variants.{Again, New}
+use Rattle.names.specs.declared.Pass.{Pass}
+use Rattle.names.specs.declared.Noted.the-variants.{Again, New, Full}
 
 -- a record that says only where a name lies
 abbrev pub nameAt : ℕ → ℕ → Macro
 nameAt from to = record { from = from; to = to; first = 0; end = 0 }
 
--- a name that is found was set before; one that is not is new, where no room is left only if no TF before this place sets it
-unfoldable pub noted : List ℕ → List ℕ → ℕ → ℕ → List ℕ → Search → Noted
-noted file s used place name (At i) = Again
-noted file s used place name (Free link) =
-    cond (hasRoom s used) (New (used + 1)) (cond (eqb (firstAt file name) place) (New used) Again)
+-- a name that is found was set before; one that is not is new and is kept, where there is room
+unfoldable pub noted : List ℕ → ℕ → Search → Noted
+noted s used (At i) = Again
+noted s used (Free link) = cond (hasRoom s used) (New (used + 1)) Full
 
-unfoldable pub notedOf : List ℕ → List ℕ → ℕ → ℕ → ℕ → ℕ → Noted
-notedOf file s used place from to = let name : List ℕ = slice from to file in noted file s used place name (named file s used name)
+unfoldable pub notedOf : List ℕ → List ℕ → ℕ → ℕ → ℕ → Noted
+notedOf file s used from to = noted s used (named file s used (slice from to file))
 
 -- the table behind it
 unfoldable pub keptAt : List ℕ → ℕ → ℕ → ℕ → Search → List ℕ
@@ -34,3 +35,10 @@ keptAt s used from to (Free link) = added s used link (macroWords (nameAt from t
 
 unfoldable pub keptOf : List ℕ → List ℕ → ℕ → ℕ → ℕ → List ℕ
 keptOf file s used from to = keptAt s used from to (named file s used (slice from to file))
+
+-- a walk from `from` on: the first repeat is either the TF that was found, which sets one of the names that were kept, or one from `rest`
+-- on, where the first name stands that there was no room for
+pub record Passed (file : List ℕ) (from : ℕ) (p : Pass) : Type 0 where
+  pub onward : from < p .rest
+  pub inside : p .rest ≤ length file
+  pub least : min (p .found) (twiceIn file (p .rest) []) ≡ twiceIn file from []

@@ -1,3 +1,3 @@
-pub mod Settings
+pub mod Sets
 pub mod Twice
 pub mod Kept

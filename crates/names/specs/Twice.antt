@@ -5,32 +5,32 @@ use mathlib.Core.Bool.{true, false}
 use mathlib.Core.List.{List, [], _∷_}
 use lib.ListN.{length}
 use lib.Seq.{slice}
-use Rattle.base.specs.Bytes.{sameBytes}
 use Rattle.scan.specs.Scan.{nextCommand}
+use Rattle.scan.specs.declared.Letters.the-variants.{Old}
 use Rattle.scan.specs.declared.Scan.{Scan}
 use Rattle.scan.specs.declared.Scan.the-variants as scan
 use Rattle.recognise.specs.Commands.{commandOf}
 use Rattle.reading.specs.Apertures.{isAmong}
-use Rattle.names.specs.Settings.{settingOf}
+use Rattle.names.specs.Sets.{setsOf}
 use Rattle.names.specs.declared.Look.{Look}
 use Rattle.names.specs.declared.Look.the-variants.{End, Other, Naming}
-use Rattle.names.specs.declared.Setting.{Setting}
-use Rattle.names.specs.declared.Setting.the-variants.{Nothing, Name}
+use Rattle.names.specs.declared.Sets.{Sets}
+use Rattle.names.specs.declared.Sets.the-variants.{Nothing, Name}
 
 -- the command at a place, its text from `from` on, that leads on to `next`: where in the file its name lies, if it sets one
-unfoldable pub seen : ℕ → ℕ → ℕ → Setting → Look
+unfoldable pub seen : ℕ → ℕ → ℕ → Sets → Look
 seen place from next Nothing = Other next
 seen place from next (Name n) = Naming place (from + n .from) (from + n .to) next
 
 -- no TF depends on the n of FS, so that it is 0 here (proofs/Settings)
 unfoldable pub looked : List ℕ → Scan → Look
-looked file (scan.Command kind place from end next) = seen place from next (settingOf (commandOf 0 kind (slice from end file)))
+looked file (scan.Command kind place from end next) = seen place from next (setsOf (commandOf 0 kind (slice from end file)))
 looked file (scan.BadByte place) = End
 looked file (scan.Ended place) = End
 
 -- what stands next from `at` on
 unfoldable pub lookAt : List ℕ → ℕ → Look
-lookAt file at = looked file (nextCommand file at)
+lookAt file at = looked file (nextCommand Old file at)
 
 -- a TF: its place, and the name that it sets
 pub record Named : Type 0 where
@@ -64,13 +64,14 @@ twiceIn file at names = twiceFrom (length file) (namedIn file at) names
 unfoldable pub twiceAt : List ℕ → ℕ
 twiceAt file = twiceIn file 0 []
 
--- the place of the first TF that sets a name
-unfoldable pub firstFrom : ℕ → List Named → List ℕ → ℕ
-firstFrom none [] name = none
-firstFrom none (n ∷ ns) name = elim (sameBytes (n .name) name) [ true ↦ n .place | false ↦ firstFrom none ns name ]
+-- the place of the first TF that sets one of these names
+unfoldable pub firstFrom : ℕ → List Named → List (List ℕ) → ℕ
+firstFrom none [] names = none
+firstFrom none (n ∷ ns) names = elim (isAmong (n .name) names) [ true ↦ n .place | false ↦ firstFrom none ns names ]
 
-abbrev pub firstIn : List ℕ → ℕ → List ℕ → ℕ
-firstIn file at name = firstFrom (length file) (namedIn file at) name
+abbrev pub firstIn : List ℕ → ℕ → List (List ℕ) → ℕ
+firstIn file at names = firstFrom (length file) (namedIn file at) names
 
+-- that sets this name
 unfoldable pub firstAt : List ℕ → List ℕ → ℕ
-firstAt file name = firstIn file 0 name
+firstAt file name = firstIn file 0 (name ∷ [])

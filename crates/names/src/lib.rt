@@ -1,22 +1,24 @@
-// Where a name of a file attribute is set twice, found in one look over a file's commands before the file is read.
+// Where a name of a file attribute is set twice, and where a name is first set, found by walks over a file's commands.
 ghost use mathlib.Core.Path.{_≡_};
-ghost use Prim.Native.Nat.{_≤_};
+ghost use Prim.Native.Nat.{_≤_, _<_, min};
 ghost use lib.ListN.{length, replicate};
 ghost use lib.Seq.{slice};
 ghost use Rattle.index.specs.Names.{Named};
 ghost use Rattle.recognise.specs.Commands.{commandOf};
-ghost use Rattle.names.specs.Settings.{settingOf};
+ghost use Rattle.names.specs.Sets.{setsBy, setsOf};
 ghost use Rattle.names.specs.Twice.{lookAt, firstAt, twiceAt};
-ghost use Rattle.names.specs.Kept.{notedOf, keptOf};
+ghost use Rattle.names.specs.Kept.{notedOf, keptOf, Passed};
 use command::Command;
+use command::Deed;
 use command::Span;
 use index::Search;
 use scan::Kind;
+use scan::Letters;
 use scan::Scan;
 use tables::Macro;
 
 // What a command sets of the file's attributes, with the place of the name in its text.
-pub enum Setting {
+pub enum Sets {
     Nothing,
     Name(Span),
 }
@@ -35,34 +37,62 @@ pub enum Look {
     },
 }
 
-// A name was set before, or is new; then as many names are kept as are told.
+// A name was set before; or is new and kept, which makes so many that are; or is new and finds no room.
 pub enum Noted {
     Again,
     New(usize),
+    Full,
+}
+
+// What a walk finds: the place of the first TF that sets a name which the walk has kept, the length of the file where none does; and from
+// where on the names were not kept, the length of the file where all were.
+pub struct Pass {
+    pub found: usize,
+    pub rest: usize,
+}
+
+// What is set of the file's attributes by what is done to one.
+fn sets_by(deed: Deed) -> Sets
+    ensures { λ r. ⌜ r ≡ setsBy deed ⌝ }
+{
+    match deed {
+        Deed::SetFile { name, .. } => Sets::Name(name),
+        Deed::SetAperture { .. } => Sets::Nothing,
+        Deed::SetObject { .. } => Sets::Nothing,
+        Deed::Delete { .. } => Sets::Nothing,
+        Deed::DeleteAll => Sets::Nothing,
+    }
 }
 
 // What a command sets of the file's attributes.
-fn setting_of(c: Command) -> Setting
-    ensures { λ r. ⌜ r ≡ settingOf c ⌝ }
+pub fn sets_of(c: Command) -> Sets
+    ensures { λ r. ⌜ r ≡ setsOf c ⌝ }
 {
     match c {
-        Command::FileAttribute { name, .. } => Setting::Name(name),
-        _ => Setting::Nothing,
+        Command::Broken(_) => Sets::Nothing,
+        Command::Note => Sets::Nothing,
+        Command::End => Sets::Nothing,
+        Command::Set(_) => Sets::Nothing,
+        Command::Operate(_) => Sets::Nothing,
+        Command::Select(_) => Sets::Nothing,
+        Command::Define(_) => Sets::Nothing,
+        Command::Contain(_) => Sets::Nothing,
+        Command::Attribute(deed) => sets_by(deed),
     }
 }
 
 // The same of a command's kind and text. Only one that begins with `TF` is recognised: that costs more than to cut it out.
-fn setting_in(kind: Kind, s: &[u8]) -> Setting
-    ensures { λ r. ⌜ r ≡ settingOf (commandOf 0 kind (now (s .entry))) ⌝ }
+fn sets_in(kind: Kind, s: &[u8]) -> Sets
+    ensures { λ r. ⌜ r ≡ setsOf (commandOf 0 kind (now (s .entry))) ⌝ }
 {
     match kind {
-        Kind::Word => Setting::Nothing,
-        Kind::Macro => Setting::Nothing,
+        Kind::Word => Sets::Nothing,
+        Kind::Macro => Sets::Nothing,
         Kind::Extended => {
             if text::begins(s, b"TF") {
-                return setting_of(recognise::command_of(0, Kind::Extended, s));
+                return sets_of(recognise::command_of(0, Kind::Extended, s));
             }
-            Setting::Nothing
+            Sets::Nothing
         }
     }
 }
@@ -72,7 +102,7 @@ fn look_at(file: &[u8], at: usize) -> Look
     requires { ⌜ at ≤ length (now file) ⌝ }
     ensures { λ r. ⌜ r ≡ lookAt (now (file .entry)) at ⌝ }
 {
-    let s = scan::next_command(file, at);
+    let s = scan::next_command(Letters::Old, file, at);
     match s {
         Scan::Command {
             kind,
@@ -81,10 +111,10 @@ fn look_at(file: &[u8], at: usize) -> Look
             end,
             next,
         } => {
-            let setting = setting_in(kind, base::part(file, from, end));
-            match setting {
-                Setting::Nothing => Look::Other { next },
-                Setting::Name(n) => Look::Naming {
+            let sets = sets_in(kind, base::part(file, from, end));
+            match sets {
+                Sets::Nothing => Look::Other { next },
+                Sets::Name(n) => Look::Naming {
                     place,
                     from: from + n.from,
                     to: from + n.to,
@@ -97,65 +127,10 @@ fn look_at(file: &[u8], at: usize) -> Look
     }
 }
 
-// The place of the first TF that sets the name file[from..to], found by a walk from the file's first byte on.
-fn first_at(file: &[u8], from: usize, to: usize) -> usize
-    ensures { λ r. ⌜ r ≡ firstAt (now (file .entry)) (slice from to (now (file .entry))) ⌝ }
+// The place of the first TF that sets a name, found by a walk from the file's first byte on; the length of the file where none does.
+pub fn first_at(file: &[u8], name: &[u8]) -> usize
+    ensures { λ r. ⌜ r ≡ firstAt (now (file .entry)) (now (name .entry)) ⌝ }
 {
-    let mut at: usize = 0;
-    loop {
-        let l = look_at(file, at);
-        match l {
-            Look::End => {
-                return file.len();
-            }
-            Look::Other { next } => {
-                at = next;
-            }
-            Look::Naming {
-                place,
-                from: begins,
-                to: ends,
-                next,
-            } => {
-                if text::is(base::part(file, begins, ends), base::part(file, from, to)) {
-                    return place;
-                }
-                at = next;
-            }
-        }
-    }
-}
-
-// Looks for the name file[from..to] of the TF at a place among the `used` names that are kept, and keeps it where it is new and there
-// is room. Without room the names before it are looked at one by one.
-fn note(file: &[u8], s: &mut [u64], used: usize, place: usize, from: usize, to: usize) -> Noted
-    requires { ⌜ Named (now file) (now s) used × (from ≤ to) × (to ≤ length (now file)) ⌝ }
-    ensures { λ r. ⌜ (r ≡ notedOf (now (file .entry)) (now (s .entry)) used place from to) × (now (s .exit) ≡ keptOf (now (file .entry)) (now (s .entry)) used from to) ⌝ }
-{
-    let found = index::search_name(file, s, used, from, to);
-    let Search::Free(link) = found else {
-        return Noted::Again;
-    };
-    let name = Macro {
-        from,
-        to,
-        first: 0,
-        end: 0,
-    };
-    if tables::put_macro(s, used, link, name) {
-        return Noted::New(used + 1);
-    }
-    if first_at(file, from, to) == place {
-        return Noted::New(used);
-    }
-    Noted::Again
-}
-
-// The place of the first TF whose name was set before, the length of the file where there is none.
-fn pass(file: &[u8], s: &mut [u64]) -> usize
-    ensures { λ r. ⌜ (r ≡ twiceAt (now (file .entry))) × (length (now (s .exit)) ≡ length (now (s .entry))) ⌝ }
-{
-    let mut used: usize = 0;
     let mut at: usize = 0;
     loop {
         let l = look_at(file, at);
@@ -172,22 +147,121 @@ fn pass(file: &[u8], s: &mut [u64]) -> usize
                 to,
                 next,
             } => {
-                let n = note(file, s, used, place, from, to);
-                let Noted::New(more) = n else {
+                if text::is(base::part(file, from, to), name) {
                     return place;
-                };
-                used = more;
+                }
                 at = next;
             }
         }
     }
 }
 
-// The same for those who lend room for the names, which holds zeros afterwards.
+// Looks for the name file[from..to] among the `used` names that are kept, and keeps it where it is new and there is room.
+fn note(file: &[u8], s: &mut [u64], used: usize, from: usize, to: usize) -> Noted
+    requires { ⌜ Named (now file) (now s) used × (from ≤ to) × (to ≤ length (now file)) ⌝ }
+    ensures { λ r. ⌜ (r ≡ notedOf (now (file .entry)) (now (s .entry)) used from to) × (now (s .exit) ≡ keptOf (now (file .entry)) (now (s .entry)) used from to) ⌝ }
+{
+    let found = index::search_name(file, s, used, from, to);
+    let Search::Free(link) = found else {
+        return Noted::Again;
+    };
+    let name = Macro {
+        from,
+        to,
+        first: 0,
+        end: 0,
+    };
+    if tables::put_macro(s, used, link, name) {
+        return Noted::New(used + 1);
+    }
+    Noted::Full
+}
+
+// The place nearer to the file's start.
+fn nearer(a: usize, b: usize) -> usize
+    ensures { λ r. ⌜ r ≡ min a b ⌝ }
+{
+    if a < b { a } else { b }
+}
+
+// A walk from a place on: keeps the names while there is room, and finds the first TF that sets one of those kept.
+fn walk_from(file: &[u8], s: &mut [u64], from: usize) -> Pass
+    requires { ⌜ (from < length (now file)) × (8 ≤ length (now s)) ⌝ }
+    ensures { λ r. ⌜ Passed (now (file .entry)) from r × (length (now (s .exit)) ≡ length (now (s .entry))) ⌝ }
+{
+    let mut used: usize = 0;
+    let mut at: usize = from;
+    let mut rest: usize = file.len();
+    loop {
+        let l = look_at(file, at);
+        match l {
+            Look::End => {
+                return Pass {
+                    found: file.len(),
+                    rest,
+                };
+            }
+            Look::Other { next } => {
+                at = next;
+            }
+            Look::Naming {
+                place,
+                from: begins,
+                to,
+                next,
+            } => {
+                let n = note(file, s, used, begins, to);
+                match n {
+                    Noted::Again => {
+                        return Pass { found: place, rest };
+                    }
+                    Noted::New(more) => {
+                        used = more;
+                        at = next;
+                    }
+                    Noted::Full => {
+                        rest = nearer(rest, at);
+                        at = next;
+                    }
+                }
+            }
+        }
+    }
+}
+
+// The place of the first TF whose name was set before, the length of the file where there is none: a walk for as many names as there is
+// room for.
+fn repeat_in(file: &[u8], s: &mut [u64]) -> usize
+    requires { ⌜ 8 ≤ length (now s) ⌝ }
+    ensures { λ r. ⌜ (r ≡ twiceAt (now (file .entry))) × (length (now (s .exit)) ≡ length (now (s .entry))) ⌝ }
+{
+    let mut at: usize = 0;
+    let mut found: usize = file.len();
+    while at < found {
+        let p = walk_from(file, s, at);
+        found = nearer(found, p.found);
+        at = p.rest;
+    }
+    found
+}
+
+// The same over room of its own, for 4,096 names.
+fn own_repeat_in(file: &[u8]) -> usize
+    ensures { λ r. ⌜ r ≡ twiceAt (now (file .entry)) ⌝ }
+{
+    let mut own = [0u64; 32768];
+    repeat_in(file, &mut own)
+}
+
+// The same for those who lend room for the names, which holds zeros afterwards; where it is small, it is not used for the names.
 pub fn first_repeat(file: &[u8], scratch: &mut [u64]) -> usize
     ensures { λ r. ⌜ (r ≡ twiceAt (now (file .entry))) × (now (scratch .exit) ≡ replicate (length (now (scratch .entry))) 0) ⌝ }
 {
-    let place = pass(file, scratch);
+    if scratch.len() < 32768 {
+        base::clear(scratch);
+        return own_repeat_in(file);
+    }
+    let place = repeat_in(file, scratch);
     base::clear(scratch);
     place
 }

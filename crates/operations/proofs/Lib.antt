@@ -1,1 +1,3 @@
+pub mod Codes
+pub mod Ends
 pub mod Limit

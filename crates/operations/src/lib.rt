@@ -1,13 +1,14 @@
 // Operations: D01, D02 and D03 with their coordinates.
 ghost use mathlib.Core.Path.{_≡_};
-ghost use mathlib.Core.Bool.{not};
 ghost use Prim.Native.Nat.{_≤_};
-ghost use Rattle.text.specs.First.{first};
-ghost use Rattle.operations.specs.Coordinates.{digitLimit, inCoordinate, fieldEnd, given, fieldOf, past, fieldsIn, fieldsOf};
-ghost use Rattle.operations.specs.Operations.{alone, broken, tooLong, axisOf, offsetOf, draw, plain, drawOf, moveOf, flashOf};
+ghost use Rattle.operations.specs.Coordinates.{digitLimit, given, fieldAt, fieldsIn, fieldsOf};
+ghost use Rattle.operations.specs.Operations.{alone, broken, tooLong, axisOf, offsetOf, draw, plain, operationCode, operationOf};
+ghost use Rattle.command.specs.declared.Command.the-variants.{Operate};
+ghost use Rattle.command.specs.declared.Operation.the-variants.{Move, Flash};
 use command::Axis;
 use command::Command;
 use command::Offset;
+use command::Operation;
 use digits::Coordinate;
 use points::Point;
 
@@ -20,13 +21,19 @@ pub struct Field {
     pub value: i64,
 }
 
-// The coordinates of an operation, and how many bytes are left after them.
+// A field, and the place behind it.
+pub struct TakenField {
+    pub field: Field,
+    pub next: usize,
+}
+
+// The coordinates of an operation, and whether bytes are left after them.
 pub struct Fields {
     pub x: Field,
     pub y: Field,
     pub i: Field,
     pub j: Field,
-    pub left: usize,
+    pub left: bool,
 }
 
 // How many digits a coordinate may have where FS has this n, 0 before FS.
@@ -40,45 +47,6 @@ fn digit_limit(n: usize) -> usize
         return n + 6;
     }
     12
-}
-
-// A digit or a sign.
-fn in_coordinate(b: u8) -> bool
-    ensures { λ r. ⌜ r ≡ inCoordinate b ⌝ }
-{
-    base::either(base::both(b'0' <= b, b <= b'9'), text::one_of(b"+-", b))
-}
-
-// The first place from `from` on that holds no digit and no sign.
-fn coordinate_end(s: &[u8], from: usize) -> usize
-    ensures { λ r. ⌜ r ≡ first (λ b. not (inCoordinate b)) (now (s .entry)) from ⌝ }
-{
-    let mut at = from;
-    while at < s.len() {
-        if in_coordinate(s[at]) {
-            at += 1;
-        } else {
-            return at;
-        }
-    }
-    at
-}
-
-// Where the field of a letter ends, 0 where s does not begin with it.
-fn field_end(letter: u8, s: &[u8]) -> usize
-    ensures { λ r. ⌜ r ≡ fieldEnd letter (now (s .entry)) ⌝ }
-{
-    if base::byte_at(s, 0) == letter {
-        return coordinate_end(s, 1);
-    }
-    0
-}
-
-// What follows the field of a letter.
-fn past_field(letter: u8, s: &[u8]) -> &[u8]
-    ensures { λ r. ⌜ now r ≡ past letter (now (s .entry)) ⌝ }
-{
-    base::from_on(s, field_end(letter, s))
 }
 
 // A coordinate that is there.
@@ -107,19 +75,27 @@ fn as_given(c: Coordinate) -> Field
     }
 }
 
-// The field of a letter, if s begins with it.
-fn field_of(limit: usize, letter: u8, s: &[u8]) -> Field
-    requires { ⌜ limit ≤ 12 ⌝ }
-    ensures { λ r. ⌜ r ≡ fieldOf limit letter (now (s .entry)) ⌝ }
+// The field of a letter at a place, if the letter stands there.
+fn field_at(limit: usize, letter: u8, s: &[u8], at: usize) -> TakenField
+    requires { ⌜ (limit ≤ 12) × (1 ≤ letter) ⌝ }
+    ensures { λ r. ⌜ r ≡ fieldAt limit letter (now (s .entry)) at ⌝ }
 {
-    if base::byte_at(s, 0) == letter {
-        return as_given(digits::coordinate(s, 1, field_end(letter, s), limit));
+    if base::byte_at(s, at) == letter {
+        let taken = digits::coordinate_at(s, at + 1, limit);
+        let coordinate = taken.coordinate;
+        return TakenField {
+            field: as_given(coordinate),
+            next: taken.next,
+        };
     }
-    Field {
-        given: false,
-        formless: false,
-        long: false,
-        value: 0,
+    TakenField {
+        field: Field {
+            given: false,
+            formless: false,
+            long: false,
+            value: 0,
+        },
+        next: at,
     }
 }
 
@@ -128,17 +104,16 @@ fn fields_in(limit: usize, s: &[u8]) -> Fields
     requires { ⌜ limit ≤ 12 ⌝ }
     ensures { λ r. ⌜ r ≡ fieldsIn limit (now (s .entry)) ⌝ }
 {
-    let ys = past_field(b'X', s);
-    let is = past_field(b'Y', ys);
-    let js = past_field(b'I', is);
-    let left = past_field(b'J', js);
-    Fields {
-        x: field_of(limit, b'X', s),
-        y: field_of(limit, b'Y', ys),
-        i: field_of(limit, b'I', is),
-        j: field_of(limit, b'J', js),
-        left: left.len(),
-    }
+    let x = field_at(limit, b'X', s, 0);
+    let y = field_at(limit, b'Y', s, x.next);
+    let i = field_at(limit, b'I', s, y.next);
+    let j = field_at(limit, b'J', s, i.next);
+    let left = j.next < s.len();
+    let x = x.field;
+    let y = y.field;
+    let i = i.field;
+    let j = j.field;
+    Fields { x, y, i, j, left }
 }
 
 // The coordinates of an operation; n is that of FS, 0 before it.
@@ -152,7 +127,7 @@ fn fields_of(n: usize, s: &[u8]) -> Fields
 fn is_broken(f: Fields) -> bool
     ensures { λ r. ⌜ r ≡ broken f ⌝ }
 {
-    let xy = base::either(base::either(1 <= f.left, f.x.formless), f.y.formless);
+    let xy = base::either(base::either(f.left, f.x.formless), f.y.formless);
     base::either(base::either(xy, f.i.formless), f.j.formless)
 }
 
@@ -207,7 +182,11 @@ fn drawn(f: Fields) -> Command
     let y = axis_of(f.y);
     let centre = offset_of(f);
     let formless = base::either(is_broken(f), is_alone(f));
-    command::judged(formless, is_too_long(f), Command::Draw { x, y, centre })
+    command::judged(
+        formless,
+        is_too_long(f),
+        Command::Operate(Operation::Draw { x, y, centre }),
+    )
 }
 
 // An operation that has no I and J.
@@ -218,29 +197,56 @@ fn without_offset(f: Fields, c: Command) -> Command
     command::judged(formless, is_too_long(f), c)
 }
 
-// A text that ends in D01; n is that of FS, 0 before it.
-pub fn draw_of(n: usize, s: &[u8]) -> Command
-    ensures { λ r. ⌜ r ≡ drawOf n (now (s .entry)) ⌝ }
+// D02 with these coordinates.
+fn moved(f: Fields) -> Command
+    ensures { λ r. ⌜ r ≡ plain f (Operate (Move (axisOf (f .x)) (axisOf (f .y)))) ⌝ }
 {
-    drawn(fields_of(n, s))
-}
-
-// A text that ends in D02.
-pub fn move_of(n: usize, s: &[u8]) -> Command
-    ensures { λ r. ⌜ r ≡ moveOf n (now (s .entry)) ⌝ }
-{
-    let f = fields_of(n, s);
     let x = axis_of(f.x);
     let y = axis_of(f.y);
-    without_offset(f, Command::Move { x, y })
+    without_offset(f, Command::Operate(Operation::Move { x, y }))
 }
 
-// A text that ends in D03.
-pub fn flash_of(n: usize, s: &[u8]) -> Command
-    ensures { λ r. ⌜ r ≡ flashOf n (now (s .entry)) ⌝ }
+// D03 with these coordinates.
+fn flashed(f: Fields) -> Command
+    ensures { λ r. ⌜ r ≡ plain f (Operate (Flash (axisOf (f .x)) (axisOf (f .y)))) ⌝ }
 {
-    let f = fields_of(n, s);
     let x = axis_of(f.x);
     let y = axis_of(f.y);
-    without_offset(f, Command::Flash { x, y })
+    without_offset(f, Command::Operate(Operation::Flash { x, y }))
+}
+
+// The number of the operation that a text ends in: 1 for D01, 2 for D02, 3 for D03, and 0 where it ends in none.
+pub fn operation_code(s: &[u8]) -> u8
+    ensures { λ r. ⌜ r ≡ operationCode (now (s .entry)) ⌝ }
+{
+    if s.len() < 3 {
+        return 0;
+    }
+    let at = s.len() - 3;
+    let coded = base::both(s[at] == b'D', s[at + 1] == b'0');
+    let b = s[at + 2];
+    if base::both(coded, b == b'1') {
+        return 1;
+    }
+    if base::both(coded, b == b'2') {
+        return 2;
+    }
+    if base::both(coded, b == b'3') {
+        return 3;
+    }
+    0
+}
+
+// The operation of a number, of a text that ends in it; n is that of FS, 0 before it. Any number but 1 and 2 is 3.
+pub fn operation_of(code: u8, n: usize, s: &[u8]) -> Command
+    ensures { λ r. ⌜ r ≡ operationOf code n (now (s .entry)) ⌝ }
+{
+    let f = fields_of(n, s);
+    if code == 1 {
+        return drawn(f);
+    }
+    if code == 2 {
+        return moved(f);
+    }
+    flashed(f)
 }

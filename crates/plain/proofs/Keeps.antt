@@ -7,23 +7,28 @@ use mathlib.Core.List.{List}
 use native.Mathlib.Omega.{arith}
 use Rattle.points.specs.Points.{Within}
 use Rattle.command.specs.declared.Axis.{Axis}
+use Rattle.command.specs.declared.Setting.{Setting}
+use Rattle.command.specs.declared.Setting.the-variants as setting
+use Rattle.command.specs.declared.Operation.{Operation}
+use Rattle.command.specs.declared.Operation.the-variants as operation
 use Rattle.command.specs.declared.Command.{Command}
-use Rattle.command.specs.declared.Command.the-variants as command
+use Rattle.command.specs.declared.Command.the-variants.{Broken, Note, End, Set, Operate, Select, Define, Contain, Attribute}
 use Rattle.graphics.specs.Graphics.{noRegion, withFormat, withPoint, withMode, withQuadrants, withTransform, withRegion}
 use Rattle.graphics.specs.declared.Graphics.{Graphics}
 use Rattle.graphics.specs.declared.Format.{Format}
 use Rattle.graphics.specs.declared.Transform.{Transform}
 use Rattle.graphics.specs.declared.Region.{Region}
-use Rattle.changes.specs.After.{target, goingTo, emptyRegion, ended, after}
-use Rattle.bounds.specs.Bounded.{Goes, Bounded}
+use Rattle.changes.specs.After.{target, goingTo, emptyRegion, ended, afterSetting, afterOperation, after}
+use Rattle.bounds.specs.Bounded.{Goes, OperationBounded, Bounded}
 use Rattle.bounds.proofs.Target.{target-within}
 use Rattle.reading.specs.State.{State}
 use Rattle.reading.specs.Steps as state
+use Rattle.progress.specs.Parts.{withGraphics}
 use Rattle.progress.specs.Lent.{Lent}
 use Rattle.progress.specs.Levels.{levelOf}
 use Rattle.progress.specs.Knows.{Knows}
 use Rattle.progress.specs.declared.Progress.{Progress}
-use Rattle.plain.specs.Plain.{isPlain, withGraphics}
+use Rattle.plain.specs.Plain.{isPlainOperation, isPlain}
 
 -- h in the place of g: the same aperture, and no contour that was not open in g
 pub record Keeps (g h : Graphics) : Type 0 where
@@ -38,7 +43,7 @@ module _ (w : Lent) (p : Progress) (s : State) (k : Knows w p s) where
   keeps-itself = record { point = k .point; mode = k .mode; inside = k .inside; aperture = refl; contour = λ e. e }
 
   pub still-known : (h : Graphics) → Keeps (s .graphics) h → Knows w (withGraphics h p) (state.withGraphics h s)
-  unfolding withGraphics state.withGraphics levelOf
+  unfolding state.withGraphics levelOf
   still-known h c = record {
     graphics = refl;
     point = c .point;
@@ -94,38 +99,37 @@ module _ (g : Graphics) (k : Keeps g g) where
     contour = λ e. absurd (false≢true e);
   }
 
+  setting-keeps : (s : Setting) → Keeps g (afterSetting s g)
+  unfolding afterSetting emptyRegion noRegion
+  setting-keeps setting.Linear = mode-keeps 1 (omega arith)
+  setting-keeps setting.Clockwise = mode-keeps 2 (omega arith)
+  setting-keeps setting.Counterclockwise = mode-keeps 3 (omega arith)
+  setting-keeps setting.MultiQuadrant = quadrants-keep true
+  setting-keeps setting.RegionStart = region-keeps _ refl
+  setting-keeps setting.RegionEnd = region-keeps _ refl
+  setting-keeps (setting.Format n) = format-keeps _
+  setting-keeps setting.Millimetres = format-keeps _
+  setting-keeps setting.Inches = format-keeps _
+  setting-keeps setting.Dark = transform-keeps _
+  setting-keeps setting.Clear = transform-keeps _
+  setting-keeps (setting.Mirror x y) = transform-keeps _
+  setting-keeps (setting.Rotation a rounded) = transform-keeps _
+  setting-keeps (setting.Scale a rounded) = transform-keeps _
+
+  operation-keeps : (o : Operation) → isPlainOperation o ≡ true → OperationBounded o → Keeps g (afterOperation o g)
+  unfolding isPlainOperation OperationBounded afterOperation
+  operation-keeps (operation.Move x y) q b = move-keeps x y b
+  operation-keeps (operation.Draw x y o) q b = absurd (false≢true q)
+  operation-keeps (operation.Flash x y) q b = absurd (false≢true q)
+
   pub after-keeps : (text : List ℕ) (c : Command) → isPlain c ≡ true → Bounded text c → Keeps g (after c g)
-  unfolding isPlain Bounded after emptyRegion noRegion
-  after-keeps text command.NotForm q b = k
-  after-keeps text command.TooLong q b = k
-  after-keeps text command.Comment q b = k
-  after-keeps text command.Linear q b = mode-keeps 1 (omega arith)
-  after-keeps text command.Clockwise q b = mode-keeps 2 (omega arith)
-  after-keeps text command.Counterclockwise q b = mode-keeps 3 (omega arith)
-  after-keeps text command.MultiQuadrant q b = quadrants-keep true
-  after-keeps text command.RegionStart q b = region-keeps _ refl
-  after-keeps text command.RegionEnd q b = region-keeps _ refl
-  after-keeps text command.End q b = k
-  after-keeps text (command.Move x y) q b = move-keeps x y b
-  after-keeps text (command.Format n) q b = format-keeps _
-  after-keeps text command.Millimetres q b = format-keeps _
-  after-keeps text command.Inches q b = format-keeps _
-  after-keeps text command.Dark q b = transform-keeps _
-  after-keeps text command.Clear q b = transform-keeps _
-  after-keeps text (command.Mirror x y) q b = transform-keeps _
-  after-keeps text (command.Rotation a) q b = transform-keeps _
-  after-keeps text (command.Scale a) q b = transform-keeps _
-  after-keeps text (command.ApertureAttribute name value) q b = k
-  after-keeps text (command.ObjectAttribute name value) q b = k
-  after-keeps text (command.Delete name) q b = k
-  after-keeps text command.DeleteAll q b = k
-  after-keeps text (command.Select n) q b = absurd (false≢true q)
-  after-keeps text (command.Draw x y o) q b = absurd (false≢true q)
-  after-keeps text (command.Flash x y) q b = absurd (false≢true q)
-  after-keeps text (command.Aperture n name ps count) q b = absurd (false≢true q)
-  after-keeps text (command.Macro name blocks deep) q b = absurd (false≢true q)
-  after-keeps text (command.BlockStart n) q b = absurd (false≢true q)
-  after-keeps text command.BlockEnd q b = absurd (false≢true q)
-  after-keeps text (command.RepeatStart nx ny dx dy) q b = absurd (false≢true q)
-  after-keeps text command.RepeatEnd q b = absurd (false≢true q)
-  after-keeps text (command.FileAttribute name value) q b = absurd (false≢true q)
+  unfolding isPlain Bounded after
+  after-keeps text (Broken flaw) q b = k
+  after-keeps text Note q b = k
+  after-keeps text End q b = k
+  after-keeps text (Set s) q b = setting-keeps s
+  after-keeps text (Operate o) q b = operation-keeps o q b
+  after-keeps text (Attribute d) q b = k
+  after-keeps text (Select n) q b = absurd (false≢true q)
+  after-keeps text (Define d) q b = absurd (false≢true q)
+  after-keeps text (Contain b′) q b = absurd (false≢true q)

@@ -7,7 +7,7 @@ use mathlib.Core.List.{List}
 use native.Mathlib.Omega.{arith}
 use Rattle.command.specs.declared.Command.{Command}
 use Rattle.graphics.specs.declared.Graphics.{Graphics}
-use Rattle.fits.specs.declared.Level.{Level}
+use Rattle.graphics.specs.declared.Level.{Level}
 use Rattle.changes.specs.After.{after}
 use Rattle.rules.specs.Rules.{fileAttributeFault}
 use Rattle.bounds.specs.Bounded.{Bounded}
@@ -15,12 +15,13 @@ use Rattle.reading.specs.State.{State}
 use Rattle.reading.specs.Steps as state
 use Rattle.reading.specs.Apertures.{isAmong}
 use Rattle.reading.specs.Steps.{fileAttributeStep, stepOf}
+use Rattle.progress.specs.Parts.{withGraphics}
 use Rattle.progress.specs.Lent.{Lent, roomOf}
 use Rattle.progress.specs.Levels.{levelOf}
 use Rattle.progress.specs.Knows.{Knows, Follows, StepsTo}
 use Rattle.progress.specs.declared.Progress.{Progress}
 use Rattle.progress.specs.declared.Stepped.the-variants.{Next, Fault}
-use Rattle.plain.specs.Plain.{isPlain, faultOf, withGraphics}
+use Rattle.plain.specs.Plain.{isPlain, faultOf}
 use Rattle.plain.proofs.Keeps.{Keeps, keeps-itself, still-known, after-keeps}
 use Rattle.plain.proofs.Steps.{plain-step}
 
@@ -41,15 +42,17 @@ module _ (p : Progress) (c : Command) (text : List ℕ) (place : ℕ) (q : isPla
       (g : Graphics)
       → g ≡ after c (p .graphics)
       → faultOf (p .graphics) l c ≡ 0
-      → StepsTo (λ room s. stepOf room text place c s) (λ w. Unit) (λ w. w) p (Next (withGraphics g p))
+      → (r : Progress)
+      → r ≡ withGraphics g p
+      → StepsTo (λ room s. stepOf room text place c s) (λ w. Unit) (λ w. w) p (Next r)
   unfolding Follows
-  set-goes-on g a e w s u k =
+  set-goes-on g a e r r-is w s u k =
       let now : Keeps (s .graphics) (after c (s .graphics)) = after-keeps (s .graphics) (keeps-itself w p s k) text c q b in
       let known : Knows w (withGraphics (after c (s .graphics)) p) (state.withGraphics (after c (s .graphics)) s) = still-known w p s k _ now in
       let same : after c (s .graphics) ≡ g = sym (a ∙ ap (after c) (k .graphics)) in (
         fault-is w s k ∙ e,
-        subst (λ t. Knows w (withGraphics g p) (t .next)) (sym (plain-step (roomOf w) text place s c q))
-            (subst (λ h. Knows w (withGraphics h p) (state.withGraphics (after c (s .graphics)) s)) same known),
+        subst (λ t. Knows w r (t .next)) (sym (plain-step (roomOf w) text place s c q))
+            (rw r-is (subst (λ h. Knows w (withGraphics h p) (state.withGraphics (after c (s .graphics)) s)) same known)),
       )
 
 -- TF: nothing of its name is kept but that it is set

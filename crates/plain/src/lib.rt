@@ -9,57 +9,53 @@ ghost use Rattle.reading.specs.Steps.{fileAttributeStep, stepOf};
 ghost use Rattle.bounds.specs.Bounded.{Bounded};
 ghost use Rattle.progress.specs.Lent.{Lent};
 ghost use Rattle.progress.specs.Knows.{Knows, Follows, StepsTo};
-ghost use Rattle.plain.specs.Plain.{isPlain, faultOf};
+ghost use Rattle.plain.specs.Plain.{isPlain, operationFault, deedFault, faultOf};
 use command::Command;
-use fits::Level;
+use command::Deed;
+use command::Operation;
 use graphics::Graphics;
+use graphics::Level;
 use progress::Progress;
 use progress::Stepped;
+
+// The number of the first rule that a D02 breaks, 0 where it keeps all.
+fn operation_fault(g: Graphics, o: Operation) -> u64
+    ensures { λ r. ⌜ r ≡ operationFault g o ⌝ }
+{
+    match o {
+        Operation::Move { x, y } => drawing::move_fault(g, x, y),
+        Operation::Draw { .. } => 0,
+        Operation::Flash { .. } => 0,
+    }
+}
+
+// TA, TO and TD, likewise.
+fn deed_fault(g: Graphics, d: Deed) -> u64
+    ensures { λ r. ⌜ r ≡ deedFault g d ⌝ }
+{
+    match d {
+        Deed::SetFile { .. } => 0,
+        Deed::SetAperture { .. } => rules::region_fault(g),
+        Deed::SetObject { .. } => rules::region_fault(g),
+        Deed::Delete { .. } => rules::region_fault(g),
+        Deed::DeleteAll => rules::region_fault(g),
+    }
+}
 
 // The number of the first rule that a plain command breaks, 0 where it keeps all.
 pub fn fault_of(g: Graphics, l: Level, c: Command) -> u64
     ensures { λ r. ⌜ r ≡ faultOf g l c ⌝ }
 {
-    let region = rules::region_fault(g);
     match c {
-        Command::NotForm => 4,
-        Command::TooLong => 5,
-        Command::Comment => 0,
-        Command::Linear => 0,
-        Command::Clockwise => 0,
-        Command::Counterclockwise => 0,
-        Command::MultiQuadrant => 0,
-        Command::RegionStart => region,
-        Command::RegionEnd => drawing::region_end_fault(g),
+        Command::Broken(f) => command::flaw_number(f),
+        Command::Note => 0,
         Command::End => rules::end_fault(g, l),
-        Command::Move { x, y } => drawing::move_fault(g, x, y),
-        Command::Format(n) => rules::format_fault(g),
-        Command::Millimetres => rules::unit_fault(g),
-        Command::Inches => rules::unit_fault(g),
-        Command::Dark => region,
-        Command::Clear => region,
-        Command::Mirror { x, y } => region,
-        Command::Rotation(a) => region,
-        Command::Scale(a) => rules::scale_fault(g, a),
-        Command::ApertureAttribute { name, value } => region,
-        Command::ObjectAttribute { name, value } => region,
-        Command::Delete { name } => region,
-        Command::DeleteAll => region,
-        Command::Select(n) => 0,
-        Command::Draw { x, y, centre } => 0,
-        Command::Flash { x, y } => 0,
-        Command::Aperture {
-            number,
-            name,
-            parameters,
-            count,
-        } => 0,
-        Command::Macro { name, blocks, deep } => 0,
-        Command::BlockStart(n) => 0,
-        Command::BlockEnd => 0,
-        Command::RepeatStart { nx, ny, dx, dy } => 0,
-        Command::RepeatEnd => 0,
-        Command::FileAttribute { name, value } => 0,
+        Command::Set(s) => rules::setting_fault(g, s),
+        Command::Operate(o) => operation_fault(g, o),
+        Command::Attribute(d) => deed_fault(g, d),
+        Command::Select(_) => 0,
+        Command::Define(_) => 0,
+        Command::Contain(_) => 0,
     }
 }
 
@@ -72,18 +68,7 @@ pub fn set(p: Progress, c: Command) -> Stepped
     if fault != 0 {
         return Stepped::Fault(fault);
     }
-    let builder = p.builder;
-    Stepped::Next(Progress {
-        graphics: changes::after(c, g),
-        builder,
-        contour: p.contour,
-        depth: p.depth,
-        copies: p.copies,
-        sheet: p.sheet,
-        apertures: p.apertures,
-        macros: p.macros,
-        numbers: p.numbers,
-    })
+    Stepped::Next(progress::with_graphics(changes::after(c, g), p))
 }
 
 // TF, whose name is set already or not.

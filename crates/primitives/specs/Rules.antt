@@ -10,7 +10,7 @@ use Rattle.base.specs.And.{_and_}
 use Rattle.base.specs.Or.{_or_}
 use Rattle.ints.specs.Ints.{eqZ}
 use Rattle.text.specs.Text.{_is_}
-use Rattle.command.specs.Choose.{choose}
+use Rattle.base.specs.Choose.{choose}
 use Rattle.decimal.specs.Amounts.{atLeastZero}
 use Rattle.decimal.specs.declared.answers.Amount.{Amount}
 use Rattle.reckon.specs.Thermal.{thermalFits}

@@ -21,7 +21,8 @@ use Rattle.base.proofs.Run.{below-snoc}
 use Rattle.place.specs.Mark.{Mark}
 use Rattle.sheet.specs.Records.{apertureOf, apertureRoom, entryRoom}
 use Rattle.sheet.specs.Valid.{isBlock}
-use Rattle.sheet.specs.declared.Aperture.{Aperture}
+use Rattle.sheet.specs.declared.Aperture as store
+use Rattle.reading.specs.State.{Aperture}
 use Rattle.sheet.proofs.Apertures.{aperture-number}
 use Rattle.tables.specs.Added.{added}
 use Rattle.tables.specs.Apertures.{apertureWords}
@@ -112,7 +113,7 @@ known-long a used known t = ap length (sym (t .records)) ∙ records-long (λ i.
 
 -- ---- a record more
 
-module _ (a : List ℕ) (used : ℕ) (known : List Aperture) (t : ApertureTable a used known) (link : ℕ) (r : Aperture) (room : used < apertureRoom a)
+module _ (a : List ℕ) (used : ℕ) (known : List Aperture) (t : ApertureTable a used known) (link : ℕ) (r : store.Aperture) (room : used < apertureRoom a)
     (free : numbered a used (r .number) ≡ Free link) where
   abbrev a′ : List ℕ
   a′ = added a used link (apertureWords r)

@@ -8,44 +8,44 @@ use borrow.Author.Tests.{eqb-true}
 use Rattle.base.specs.And.{_and_}
 use Rattle.sheet.specs.declared.Aperture.{Aperture}
 use Rattle.reading.specs.Apertures.{block, blockOf, selected}
-use Rattle.progress.specs.Tables.{asRead}
+use Rattle.progress.specs.Tables.{asStored, asRead}
 
 pub block-as-read : (r : Aperture) → eqb (r .kind) block ≡ true → asRead r ≡ blockOf (r .number) (r .items) (r .height)
 unfolding asRead
 block-as-read r q = rw q
 
-pub other-as-read : (r : Aperture) → eqb (r .kind) block ≡ false → asRead r ≡ r
+pub other-as-read : (r : Aperture) → eqb (r .kind) block ≡ false → asRead r ≡ asStored r
 unfolding asRead
 other-as-read r q = rw q
 
 pub number-as-read : (r : Aperture) → asRead r .number ≡ r .number
-unfolding asRead blockOf
+unfolding asRead asStored blockOf
 number-as-read r = go (eqb (r .kind) block)
   where
-    go : (b : Bool) → cond b (blockOf (r .number) (r .items) (r .height)) r .number ≡ r .number
+    go : (b : Bool) → cond b (blockOf (r .number) (r .items) (r .height)) (asStored r) .number ≡ r .number
     go true = refl
     go false = refl
 
 pub items-as-read : (r : Aperture) → asRead r .items ≡ r .items
-unfolding asRead blockOf
+unfolding asRead asStored blockOf
 items-as-read r = go (eqb (r .kind) block)
   where
-    go : (b : Bool) → cond b (blockOf (r .number) (r .items) (r .height)) r .items ≡ r .items
+    go : (b : Bool) → cond b (blockOf (r .number) (r .items) (r .height)) (asStored r) .items ≡ r .items
     go true = refl
     go false = refl
 
 pub kind-as-read : (r : Aperture) → eqb (asRead r .kind) block ≡ eqb (r .kind) block
-unfolding asRead blockOf
+unfolding asRead asStored blockOf
 kind-as-read r = go (eqb (r .kind) block) refl
   where
-    go : (b : Bool) → eqb (r .kind) block ≡ b → eqb (cond b (blockOf (r .number) (r .items) (r .height)) r .kind) block ≡ b
+    go : (b : Bool) → eqb (r .kind) block ≡ b → eqb (cond b (blockOf (r .number) (r .items) (r .height)) (asStored r) .kind) block ≡ b
     go true q = refl
     go false q = q
 
-pub selected-as-read : (i : ℕ) (r : Aperture) → selected i (asRead r) ≡ selected i r
-unfolding asRead blockOf selected _and_
+pub selected-as-read : (i : ℕ) (r : Aperture) → selected i (asRead r) ≡ selected i (asStored r)
+unfolding asRead asStored blockOf selected _and_
 selected-as-read i r = go (eqb (r .kind) block) refl
   where
-    go : (b : Bool) → eqb (r .kind) block ≡ b → selected i (cond b (blockOf (r .number) (r .items) (r .height)) r) ≡ selected i r
+    go : (b : Bool) → eqb (r .kind) block ≡ b → selected i (cond b (blockOf (r .number) (r .items) (r .height)) (asStored r)) ≡ selected i (asStored r)
     go true e = let k : r .kind ≡ 6 = eqb-true (r .kind) 6 e in rw k
     go false e = refl

@@ -7,8 +7,8 @@ use native.Mathlib.Nat.{mul-le-mul-right}
 use native.Mathlib.Omega.{arith}
 use lib.Dec.{eqb}
 use borrow.Author.Tests.{le-leb, lt-leb, ne-eqb}
-use Rattle.fits.specs.Level.{repeat}
-use Rattle.fits.specs.declared.Level.{Level}
+use Rattle.graphics.specs.Level.{repeat}
+use Rattle.graphics.specs.declared.Level.{Level}
 use Rattle.drawing.specs.Counts.{most, counted, Kept}
 use Rattle.reading.specs.State.{State}
 use Rattle.progress.specs.Lent.{Lent}

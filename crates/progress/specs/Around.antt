@@ -5,7 +5,7 @@ use mathlib.Core.Path.{_≡_}
 use mathlib.Core.List.{List, [], _∷_}
 use Rattle.sheet.specs.Records.{apertureOf}
 use Rattle.sheet.specs.declared.Entry.{Entry}
-use Rattle.fits.specs.declared.Level.{Level}
+use Rattle.graphics.specs.declared.Level.{Level}
 use Rattle.building.specs.Open.{opener}
 use Rattle.reading.specs.State.{Opened, block, repeat}
 use Rattle.reading.specs.Apertures.{openBlock}

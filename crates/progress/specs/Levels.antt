@@ -3,8 +3,8 @@
 use Prim.Native.Nat.{ℕ, _≤_}
 use mathlib.Core.Bool.{cond}
 use lib.Dec.{eqb, leb}
-use Rattle.fits.specs.Level.{topLevel, block, repeat}
-use Rattle.fits.specs.declared.Level.{Level}
+use Rattle.graphics.specs.Level.{topLevel, block, repeat}
+use Rattle.graphics.specs.declared.Level.{Level}
 use Rattle.drawing.specs.Counts.{most, counted}
 use Rattle.progress.specs.declared.Progress.{Progress}
 

@@ -1,3 +1,4 @@
+pub mod Parts
 pub mod Lent
 pub mod Levels
 pub mod Tables

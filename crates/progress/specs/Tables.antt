@@ -9,28 +9,32 @@ use lib.IntN.{ℤ, pos}
 use lib.ListN.{length, getD, replicate}
 use lib.Seq.{slice}
 use Rattle.base.specs.Run.{run}
-use Rattle.sheet.specs.Records.{apertureOf}
-use Rattle.sheet.specs.declared.Aperture.{Aperture}
+use Rattle.sheet.specs.Records.{apertureWidth, apertureOf}
+use Rattle.sheet.specs.declared.Aperture as store
 use Rattle.index.specs.Numbers.{Numbered}
 use Rattle.index.specs.Names.{Named}
-use Rattle.tables.specs.Macros.{macroOf}
+use Rattle.tables.specs.Macros.{macroWidth, macroOf}
 use Rattle.tables.specs.declared.Macro.{Macro}
 use Rattle.graphics.specs.Graphics.{noAperture}
 use Rattle.graphics.specs.declared.Selected.{Selected}
 use Rattle.drawing.specs.Counts.{most}
-use Rattle.reading.specs.State.{Template}
+use Rattle.reading.specs.State.{Aperture, Template}
 use Rattle.reading.specs.Apertures.{block, blockOf, selected}
 
+-- a record as its words have it
+unfoldable pub asStored : store.Aperture → Aperture
+asStored r = record { number = r .number; kind = r .kind; first = r .first; len = r .len; items = r .items; height = r .height }
+
 -- a record as reading knows it: where a block's entries lie is the store's matter
-unfoldable pub asRead : Aperture → Aperture
-asRead r = cond (eqb (r .kind) block) (blockOf (r .number) (r .items) (r .height)) r
+unfoldable pub asRead : store.Aperture → Aperture
+asRead r = cond (eqb (r .kind) block) (blockOf (r .number) (r .items) (r .height)) (asStored r)
 
 pub record ApertureTable (a : List ℕ) (used : ℕ) (known : List Aperture) : Type 0 where
   pub indexed : Numbered a used
   pub records : run (λ i. asRead (apertureOf a i) ∷ []) 0 used ≡ known
   pub few : (i : ℕ) → i < used → apertureOf a i .items ≤ most
   pub low : (i : ℕ) → i < used → apertureOf a i .height ≤ 8
-  pub unused : (k : ℕ) → used * 8 ≤ k → getD a k 0 ≡ 0
+  pub unused : (k : ℕ) → used * apertureWidth ≤ k → getD a k 0 ≡ 0
 
 unfoldable pub templateOf : List ℕ → Macro → Template
 templateOf file r = record { name = slice (r .from) (r .to) file; blocks = slice (r .first) (r .end) file }
@@ -40,7 +44,7 @@ pub record MacroTable (file m : List ℕ) (used : ℕ) (known : List Template) :
   pub records : run (λ i. templateOf file (macroOf m i) ∷ []) 0 used ≡ known
   pub ordered : (i : ℕ) → i < used → macroOf m i .first ≤ macroOf m i .end
   pub inside : (i : ℕ) → i < used → macroOf m i .end ≤ length file
-  pub unused : (k : ℕ) → used * 8 ≤ k → getD m k 0 ≡ 0
+  pub unused : (k : ℕ) → used * macroWidth ≤ k → getD m k 0 ≡ 0
 
 pub record NumberTable (n : List ℤ) (used : ℕ) (known : List ℤ) : Type 0 where
   pub long : length known ≡ used

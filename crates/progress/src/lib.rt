@@ -1,9 +1,10 @@
 // How far reading has come, beside the words of the lent rooms. No reference stands in it, and it goes by value from step to step.
 ghost use mathlib.Core.Path.{_≡_};
 ghost use Rattle.progress.specs.Levels.{levelOf};
+ghost use Rattle.progress.specs.Parts.{withGraphics, withBuilder, withContour, withDepth, withRepeat, withApertures, withMacros, withNumbers};
 use build::Builder;
-use fits::Level;
 use graphics::Graphics;
+use graphics::Level;
 
 // How far the entries are built, and where on their stack the open contour stands; how many blocks are open; of the open repeat its
 // copies and the sheet's items before it; how many apertures, macros and numbers are used.
@@ -57,5 +58,155 @@ pub fn level_of(p: Progress) -> Level
         depth: p.depth,
         copies: 1,
         sheet: 0,
+    }
+}
+
+// With the graphics state set anew.
+pub fn with_graphics(g: Graphics, p: Progress) -> Progress
+    ensures { λ r. ⌜ r ≡ withGraphics g p ⌝ }
+{
+    let builder = p.builder;
+    Progress {
+        graphics: g,
+        builder,
+        contour: p.contour,
+        depth: p.depth,
+        copies: p.copies,
+        sheet: p.sheet,
+        apertures: p.apertures,
+        macros: p.macros,
+        numbers: p.numbers,
+    }
+}
+
+// With the entries built further.
+pub fn with_builder(b: Builder, p: Progress) -> Progress
+    ensures { λ r. ⌜ r ≡ withBuilder b p ⌝ }
+{
+    let graphics = p.graphics;
+    Progress {
+        graphics,
+        builder: b,
+        contour: p.contour,
+        depth: p.depth,
+        copies: p.copies,
+        sheet: p.sheet,
+        apertures: p.apertures,
+        macros: p.macros,
+        numbers: p.numbers,
+    }
+}
+
+// With a contour that stands there on the stack.
+pub fn with_contour(contour: usize, p: Progress) -> Progress
+    ensures { λ r. ⌜ r ≡ withContour contour p ⌝ }
+{
+    let graphics = p.graphics;
+    let builder = p.builder;
+    Progress {
+        graphics,
+        builder,
+        contour,
+        depth: p.depth,
+        copies: p.copies,
+        sheet: p.sheet,
+        apertures: p.apertures,
+        macros: p.macros,
+        numbers: p.numbers,
+    }
+}
+
+// With so many blocks open.
+pub fn with_depth(depth: u64, p: Progress) -> Progress
+    ensures { λ r. ⌜ r ≡ withDepth depth p ⌝ }
+{
+    let graphics = p.graphics;
+    let builder = p.builder;
+    Progress {
+        graphics,
+        builder,
+        contour: p.contour,
+        depth,
+        copies: p.copies,
+        sheet: p.sheet,
+        apertures: p.apertures,
+        macros: p.macros,
+        numbers: p.numbers,
+    }
+}
+
+// With the copies of an open repeat, and the sheet's items before it.
+pub fn with_repeat(copies: u64, sheet: u64, p: Progress) -> Progress
+    ensures { λ r. ⌜ r ≡ withRepeat copies sheet p ⌝ }
+{
+    let graphics = p.graphics;
+    let builder = p.builder;
+    Progress {
+        graphics,
+        builder,
+        contour: p.contour,
+        depth: p.depth,
+        copies,
+        sheet,
+        apertures: p.apertures,
+        macros: p.macros,
+        numbers: p.numbers,
+    }
+}
+
+// With so many apertures used.
+pub fn with_apertures(apertures: usize, p: Progress) -> Progress
+    ensures { λ r. ⌜ r ≡ withApertures apertures p ⌝ }
+{
+    let graphics = p.graphics;
+    let builder = p.builder;
+    Progress {
+        graphics,
+        builder,
+        contour: p.contour,
+        depth: p.depth,
+        copies: p.copies,
+        sheet: p.sheet,
+        apertures,
+        macros: p.macros,
+        numbers: p.numbers,
+    }
+}
+
+// With so many macros used.
+pub fn with_macros(macros: usize, p: Progress) -> Progress
+    ensures { λ r. ⌜ r ≡ withMacros macros p ⌝ }
+{
+    let graphics = p.graphics;
+    let builder = p.builder;
+    Progress {
+        graphics,
+        builder,
+        contour: p.contour,
+        depth: p.depth,
+        copies: p.copies,
+        sheet: p.sheet,
+        apertures: p.apertures,
+        macros,
+        numbers: p.numbers,
+    }
+}
+
+// With so many numbers used.
+pub fn with_numbers(numbers: usize, p: Progress) -> Progress
+    ensures { λ r. ⌜ r ≡ withNumbers numbers p ⌝ }
+{
+    let graphics = p.graphics;
+    let builder = p.builder;
+    Progress {
+        graphics,
+        builder,
+        contour: p.contour,
+        depth: p.depth,
+        copies: p.copies,
+        sheet: p.sheet,
+        apertures: p.apertures,
+        macros: p.macros,
+        numbers,
     }
 }

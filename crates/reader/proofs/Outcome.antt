@@ -8,23 +8,31 @@ use lib.IntN.{pos}
 use lib.ListN.{length, replicate, length-replicate}
 use Rattle.scan.specs.Permitted.{fits}
 use Rattle.commands.specs.Commands.{commandsOf}
+use Rattle.commands.specs.Rounded.{roundedAmong, roundedIn}
 use Rattle.commands.specs.declared.Refusal.{Refusal}
 use Rattle.sheet.specs.Records.{entryRoom}
 use Rattle.close.specs.Closed.{headOf, Ended}
 use Rattle.reading.specs.State.{begun}
-use Rattle.rounding.specs.Files.{roundedIn}
 use Rattle.reading.specs.Reading.{Answer, refused, readOn, reading}
 use Rattle.progress.specs.Lent.{Lent, roomOf, withEntries}
 use Rattle.progress.specs.declared.Progress.{Progress}
-use Rattle.reader.specs.declared.Answer as code
 use Rattle.reader.specs.declared.Answer.the-variants as answer
-use Rattle.reader.specs.declared.End.{End}
-use Rattle.reader.specs.declared.End.the-variants.{Sheet, Fault}
+use Rattle.running.specs.declared.End.{End}
+use Rattle.running.specs.declared.End.the-variants.{Sheet, Fault}
+use Rattle.running.specs.declared.Outcome.{Outcome}
+use Rattle.running.specs.declared.Outcome.the-variants as outcome
+use Rattle.running.specs.declared.Repeat.{Repeat}
+use Rattle.running.specs.declared.Repeat.the-variants as repeat
+use Rattle.running.specs.Ends.{Empty, walked, AsLong, answerOf, Sheeted, Ends, Comes}
+use Rattle.running.proofs.Runs.{same-room}
 use Rattle.reader.specs.Leaves.{Leaves}
-use Rattle.reader.specs.Reads.{Zeroed, AsLong, Reads}
-use Rattle.reader.specs.Ends.{Empty, walked, Sheeted, Ends}
-use Rattle.reader.proofs.Runs.{answerOf, longs, same-room}
+use Rattle.reader.specs.Reads.{Zeroed, Reads}
 use Rattle.reader.proofs.Sheeting.{leaves}
+
+-- how often a run may ask yet
+abbrev pub looksLeft : Repeat → ℕ
+looksLeft repeat.Unknown = 1
+looksLeft (repeat.At place) = 0
 
 -- filled with zeros to the length of another
 pub zeros-long : {A : Type 0} (z : A) (l l₀ : List A) → l ≡ replicate (length l₀) z → length l ≡ length l₀
@@ -51,67 +59,79 @@ module _ (w₀ w : Lent) (file-is : w .file ≡ w₀ .file) (e : w .entries ≡ 
     numbers-long = zeros-long (pos 0) (w .numbers) (w₀ .numbers) n;
   }
 
-same-answer : (file : List ℕ) (w₀ w : Lent) → AsLong w₀ w → answerOf file w ≡ answerOf file w₀
-same-answer file w₀ w l = ap (λ room. readOn room file (walked file .commands) (walked file .fault) begun) (same-room w₀ w l)
+-- the rooms matter by their lengths alone
+pub same-answer : (w₀ w : Lent) → w .file ≡ w₀ .file → AsLong w₀ w → answerOf w ≡ answerOf w₀
+unfolding answerOf
+same-answer w₀ w f l = λ i. readOn (same-room w₀ w l i) (f i) (walked (f i) .commands) (walked (f i) .fault) begun
 
--- a refusal, and every room cleared behind it
-pub reads-refused : (file : List ℕ) (w₀ w w₁ w₂ : Lent) (head : List ℕ) (r : End) {f : Refusal} → AsLong w₀ w → AsLong w w₁ → Ends (answerOf file w) w₁ r → r ≡ Fault f →
-    head ≡ replicate 8 0 → Zeroed w₁ w₂ head → Reads (answerOf file w₀) w₀ w₂ head (answer.Refused (f .number) (f .place))
-unfolding Ends Reads
-reads-refused file w₀ w w₁ w₂ head r {f} l k ends q h z =
-    let is : answerOf file w ≡ refused (f .number) (f .place) = subst (Ends (answerOf file w) w₁) q ends in
-    let long = longs w₀ w w₁ l k in
-    subst (λ (x : Answer). Reads x w₀ w₂ head (answer.Refused (f .number) (f .place))) (sym (sym (same-answer file w₀ w l) ∙ is)) (
-      refl,
-      record {
-        head-is = h;
-        entries-are = z .entries-are ∙ ap (λ n. replicate n 0) (long .entries-long);
-        apertures-are = z .apertures-are ∙ ap (λ n. replicate n 0) (long .apertures-long);
-        macros-are = z .macros-are ∙ ap (λ n. replicate n 0) (long .macros-long);
-        numbers-are = z .numbers-are ∙ ap (λ n. replicate n (pos 0)) (long .numbers-long);
-      },
-    )
+-- a run that ends, and one that asks
+pub came : (w₀ w₁ w₂ : Lent) (look : Repeat) (o : Outcome) {x : End} → w₁ .file ≡ w₀ .file → AsLong w₀ w₁ → Comes (answerOf w₁) w₂ look o → o ≡ outcome.Ends x →
+    Ends (answerOf w₀) w₂ x
+unfolding Comes
+came w₀ w₁ w₂ look o {x} f l k q = subst (λ (a : Answer). Ends a w₂ x) (same-answer w₀ w₁ f l) (subst (Comes (answerOf w₁) w₂ look) q k)
 
--- a sheet
-module _ (file : List ℕ) (w₀ w w₁ : Lent) (r : End) {p : Progress} (file-is : w₁ .file ≡ w₀ .file) (l : AsLong w₀ w) (k : AsLong w w₁) (ends : Ends (answerOf file w) w₁ r) (q : r ≡ Sheet p) where
-  sheeted : Sheeted (answerOf file w) w₁ p
-  unfolding Ends
-  sheeted = subst (Ends (answerOf file w) w₁) q ends
-
-  pub sheet-fits : p .builder .closed + p .builder .high ≤ entryRoom (w₁ .entries)
-  sheet-fits = sheeted .knows .shows .fits
-
-  pub reads-accepted : (e₂ : List ℕ) → Ended (w₁ .entries) e₂ (p .builder) → (n : ℕ) → n ≡ roundedIn (w₀ .file) →
-      Reads (answerOf file w₀) w₀ (withEntries e₂ w₁) (headOf (p .graphics .format .unit) (p .builder) (p .apertures) (p .macros) (p .numbers)) (answer.Accepted (p .graphics .format .unit) n)
-  unfolding Reads withEntries
-  reads-accepted e₂ ended n counted =
-      let long = longs w₀ w w₁ l k in
-      let s = sheeted in
-      subst (λ (x : Answer). Reads x w₀ (withEntries e₂ w₁) (headOf (p .graphics .format .unit) (p .builder) (p .apertures) (p .macros) (p .numbers)) (answer.Accepted (p .graphics .format .unit) n))
-      (sym (sym (same-answer file w₀ w l) ∙ s .is)) (
-        (λ i. answer.Accepted (s .knows .graphics i .format .unit) (counted i)),
-        record {
-          entries-long = ended .as-long ∙ long .entries-long;
-          apertures-long = long .apertures-long;
-          macros-long = long .macros-long;
-          numbers-long = long .numbers-long;
-        },
-        subst (λ (f : List ℕ). Leaves f (headOf (p .graphics .format .unit) (p .builder) (p .apertures) (p .macros) (p .numbers)) e₂ (w₁ .apertures) (w₁ .macros) (w₁ .numbers) (s .state)) file-is (leaves w₁ p (s .state) (s .knows) (s .kept) (s .unit) e₂ ended),
-      )
+pub asks-first : (answer : Answer) (w : Lent) (look : Repeat) (o : Outcome) → Comes answer w look o → o ≡ outcome.Asks → look ≡ repeat.Unknown
+unfolding Comes
+asks-first answer w look o k q = subst (Comes answer w look) q k
 
 -- a file that is not too long, and one that is
-pub reading-fits : (w : Lent) → fits (w .file) ≡ true → answerOf (w .file) w ≡ reading (roomOf w) (w .file)
-unfolding reading commandsOf
+reading-fits : (w : Lent) → fits (w .file) ≡ true → answerOf w ≡ reading (roomOf w) (w .file)
+unfolding answerOf reading commandsOf
 reading-fits w q = rw (q, reading, commandsOf)
 
-pub reading-long : (w : Lent) → fits (w .file) ≡ false → reading (roomOf w) (w .file) ≡ refused 1 0
+rounded-fits : (file : List ℕ) → fits file ≡ true → roundedAmong (walked file .commands) ≡ roundedIn file
+unfolding roundedIn commandsOf
+rounded-fits file q = rw (q, commandsOf)
+
+reading-long : (w : Lent) → fits (w .file) ≡ false → reading (roomOf w) (w .file) ≡ refused 1 0
 unfolding reading commandsOf readOn
 reading-long w q = rw (q, commandsOf)
 
-module _ (w w′ : Lent) (head : List ℕ) where
-  pub reads-fitting : (r : code.Answer) → fits (w .file) ≡ true → Reads (answerOf (w .file) w) w w′ head r → Reads (reading (roomOf w) (w .file)) w w′ head r
-  reads-fitting r q k = subst (λ (x : Answer). Reads x w w′ head r) (reading-fits w q) k
+pub reads-long : (w w′ : Lent) (head : List ℕ) → fits (w .file) ≡ false → Zeroed w w′ head → Reads (reading (roomOf w) (w .file)) w w′ head (answer.Refused 1 0)
+unfolding Reads
+reads-long w w′ head q z = subst (λ (x : Answer). Reads x w w′ head (answer.Refused 1 0)) (sym (reading-long w q)) (refl, z)
 
-  pub reads-long : fits (w .file) ≡ false → Zeroed w w′ head → Reads (reading (roomOf w) (w .file)) w w′ head (answer.Refused 1 0)
-  unfolding Reads
-  reads-long q z = subst (λ (x : Answer). Reads x w w′ head (answer.Refused 1 0)) (sym (reading-long w q)) (refl, z)
+module _ (w₀ w : Lent) (head : List ℕ) (r : End) (short : fits (w₀ .file) ≡ true) (long : AsLong w₀ w) (ends : Ends (answerOf w₀) w r) where
+  -- a refusal, and every room cleared behind it
+  pub reads-refused : {f : Refusal} (w′ : Lent) → r ≡ Fault f → Zeroed w w′ head → Reads (reading (roomOf w₀) (w₀ .file)) w₀ w′ head (answer.Refused (f .number) (f .place))
+  unfolding Ends Reads
+  reads-refused {f} w′ q z =
+      let is : answerOf w₀ ≡ refused (f .number) (f .place) = subst (Ends (answerOf w₀) w) q ends in
+      subst (λ (x : Answer). Reads x w₀ w′ head (answer.Refused (f .number) (f .place))) (sym is ∙ reading-fits w₀ short) (
+        refl,
+        record {
+          head-is = z .head-is;
+          entries-are = z .entries-are ∙ ap (λ n. replicate n 0) (long .entries-long);
+          apertures-are = z .apertures-are ∙ ap (λ n. replicate n 0) (long .apertures-long);
+          macros-are = z .macros-are ∙ ap (λ n. replicate n 0) (long .macros-long);
+          numbers-are = z .numbers-are ∙ ap (λ n. replicate n (pos 0)) (long .numbers-long);
+        },
+      )
+
+  -- a sheet
+  module _ {p : Progress} {rounded : ℕ} (q : r ≡ Sheet p rounded) where
+    sheeted : Sheeted (answerOf w₀) w p rounded
+    unfolding Ends
+    sheeted = subst (Ends (answerOf w₀) w) q ends
+
+    pub sheet-fits : p .builder .closed + p .builder .high ≤ entryRoom (w .entries)
+    sheet-fits = sheeted .knows .shows .fits
+
+    pub reads-accepted : (e′ : List ℕ) → w .file ≡ w₀ .file → head ≡ headOf (p .graphics .format .unit) (p .builder) (p .apertures) (p .macros) (p .numbers) →
+        Ended (w .entries) e′ (p .builder) → Reads (reading (roomOf w₀) (w₀ .file)) w₀ (withEntries e′ w) head (answer.Accepted (p .graphics .format .unit) rounded)
+    unfolding Reads withEntries
+    reads-accepted e′ file-is h ended =
+        let s = sheeted in
+        let all : rounded ≡ roundedIn (w₀ .file) = s .counted ∙ ap (λ (f : List ℕ). roundedAmong (walked f .commands)) file-is ∙ rounded-fits (w₀ .file) short in
+        subst (λ (x : Answer). Reads x w₀ (withEntries e′ w) head (answer.Accepted (p .graphics .format .unit) rounded)) (sym (s .is) ∙ reading-fits w₀ short) (
+          (λ i. answer.Accepted (s .knows .graphics i .format .unit) (all i)),
+          record {
+            entries-long = ended .as-long ∙ long .entries-long;
+            apertures-long = long .apertures-long;
+            macros-long = long .macros-long;
+            numbers-long = long .numbers-long;
+          },
+          subst (λ (h : List ℕ). Leaves (w₀ .file) h e′ (w .apertures) (w .macros) (w .numbers) (s .state)) (sym h)
+              (subst (λ (f : List ℕ). Leaves f (headOf (p .graphics .format .unit) (p .builder) (p .apertures) (p .macros) (p .numbers)) e′ (w .apertures) (w .macros) (w .numbers) (s .state)) file-is
+              (leaves w p (s .state) (s .knows) (s .kept) (s .unit) e′ ended)),
+        )

@@ -11,14 +11,13 @@ use Rattle.base.specs.Or.{_or_}
 use Rattle.sheet.specs.Records.{apertureRoom}
 use Rattle.graphics.specs.declared.Graphics.{Graphics}
 use Rattle.fits.specs.Fits.{unready}
-use Rattle.fits.specs.declared.Level.{Level}
+use Rattle.graphics.specs.declared.Level.{Level}
 use Rattle.bounds.proofs.Tables.{neither}
-use Rattle.drawing.proofs.Faults.{unbroken}
+use Rattle.base.proofs.Faults.{unbroken}
 use Rattle.rules.specs.Rules.{endFault}
 use Rattle.drawing.specs.Counts.{most}
 use Rattle.close.specs.Closed.{headOf, Ended}
 use Rattle.shown.proofs.Ends.{is-sheet, is-plain}
-use Rattle.reading.specs.State as opened
 use Rattle.reading.specs.State.{State}
 use Rattle.progress.specs.Lent.{Lent}
 use Rattle.progress.specs.Levels.{levelOf}

@@ -8,11 +8,11 @@ use lib.IntN.{ℤ, pos}
 use lib.ListN.{length, getD, replicate}
 use Rattle.base.specs.Run.{run}
 use Rattle.place.specs.Mark.{plain}
-use Rattle.sheet.specs.Records.{apertureOf}
+use Rattle.sheet.specs.Records.{entryWidth, apertureWidth, apertureOf}
 use Rattle.sheet.specs.Containers.{unitOf, entriesUsed, aperturesUsed}
 use Rattle.sheet.specs.Meaning.{sheetItems}
 use Rattle.sheet.specs.Valid.{valid}
-use Rattle.tables.specs.Macros.{macroOf}
+use Rattle.tables.specs.Macros.{macroWidth, macroOf}
 use Rattle.reading.specs.State.{State}
 use Rattle.progress.specs.Tables.{asRead, templateOf}
 
@@ -33,6 +33,6 @@ pub record Leaves (file head e a m : List ℕ) (n : List ℤ) (s : State) : Type
   pub apertures : run (λ i. asRead (apertureOf a i) ∷ []) 0 (length (s .apertures)) ≡ s .apertures
   pub macros : run (λ i. templateOf file (macroOf m i) ∷ []) 0 (length (s .macros)) ≡ s .macros
   pub numbers : n ≡ s .numbers ++ replicate (length n - length (s .numbers)) (pos 0)
-  pub entries-behind : (k : ℕ) → s .entries * 15 ≤ k → getD e k 0 ≡ 0
-  pub apertures-behind : (k : ℕ) → length (s .apertures) * 8 ≤ k → getD a k 0 ≡ 0
-  pub macros-behind : (k : ℕ) → length (s .macros) * 8 ≤ k → getD m k 0 ≡ 0
+  pub entries-behind : (k : ℕ) → s .entries * entryWidth ≤ k → getD e k 0 ≡ 0
+  pub apertures-behind : (k : ℕ) → length (s .apertures) * apertureWidth ≤ k → getD a k 0 ≡ 0
+  pub macros-behind : (k : ℕ) → length (s .macros) * macroWidth ≤ k → getD m k 0 ≡ 0

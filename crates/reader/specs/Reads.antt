@@ -5,8 +5,9 @@ use mathlib.Core.List.{List}
 use lib.IntN.{pos}
 use lib.ListN.{length, replicate}
 use Rattle.reading.specs.Reading.{Answer, accepted, refused}
-use Rattle.rounding.specs.Files.{roundedIn}
+use Rattle.commands.specs.Rounded.{roundedIn}
 use Rattle.progress.specs.Lent.{Lent}
+pub use Rattle.running.specs.Ends.{AsLong}
 use Rattle.reader.specs.Leaves.{Leaves}
 use Rattle.reader.specs.declared.Answer as code
 use Rattle.reader.specs.declared.Answer.the-variants as answer
@@ -23,13 +24,6 @@ pub record Zeroed (w w′ : Lent) (head : List ℕ) : Type 0 where
   pub apertures-are : w′ .apertures ≡ replicate (length (w .apertures)) 0
   pub macros-are : w′ .macros ≡ replicate (length (w .macros)) 0
   pub numbers-are : w′ .numbers ≡ replicate (length (w .numbers)) (pos 0)
-
--- the rooms are as long as before
-pub record AsLong (w w′ : Lent) : Type 0 where
-  pub entries-long : length (w′ .entries) ≡ length (w .entries)
-  pub apertures-long : length (w′ .apertures) ≡ length (w .apertures)
-  pub macros-long : length (w′ .macros) ≡ length (w .macros)
-  pub numbers-long : length (w′ .numbers) ≡ length (w .numbers)
 
 -- "An accepted reading also gives the unit, mm or inch", 1 or 2, and "reports how many decimals were rounded" (02, [1])
 unfoldable pub Reads : Answer → Lent → Lent → List ℕ → code.Answer → Type 0

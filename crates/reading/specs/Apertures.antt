@@ -15,10 +15,9 @@ use Rattle.primitives.specs.Asked.{none, asked}
 use Rattle.macros.specs.Given.{variablesOf}
 use Rattle.macros.specs.Work.{Effect, blocksIn, workedOut}
 use Rattle.templates.specs.Templates.{kindOf, keeps}
-use Rattle.sheet.specs.declared.Aperture.{Aperture}
 use Rattle.graphics.specs.Graphics.{noAperture}
 use Rattle.graphics.specs.declared.Selected.{Selected}
-use Rattle.reading.specs.State.{Template}
+use Rattle.reading.specs.State.{Aperture, Template}
 
 -- the kinds of the records (docs/SHEET.md) that are no template's
 abbrev pub openBlock : ℕ

@@ -2,8 +2,8 @@
 use Prim.Native.Nat.{ℕ, _+_, _*_}
 use mathlib.Core.Bool.{cond}
 use lib.Dec.{eqb, ltb}
-use Rattle.fits.specs.Level.{block, repeat}
-use Rattle.fits.specs.declared.Level.{Level}
+use Rattle.graphics.specs.Level.{block, repeat}
+use Rattle.graphics.specs.declared.Level.{Level}
 
 -- the higher of two; what is open but no block has no height
 unfoldable pub higher : ℕ → ℕ → ℕ

@@ -4,10 +4,9 @@ use mathlib.Core.List.{List, []}
 use lib.IntN.{ℤ}
 use Rattle.place.specs.Mark.{Mark}
 use Rattle.graphics.specs.Graphics.{start}
+use Rattle.graphics.specs.Level.{topLevel}
 use Rattle.graphics.specs.declared.Graphics.{Graphics}
-use Rattle.sheet.specs.declared.Aperture.{Aperture}
-use Rattle.fits.specs.Level.{topLevel}
-use Rattle.fits.specs.declared.Level.{Level}
+use Rattle.graphics.specs.declared.Level.{Level}
 
 -- records, and numbers
 pub record Room : Type 0 where
@@ -15,6 +14,16 @@ pub record Room : Type 0 where
   pub apertures : ℕ
   pub macros : ℕ
   pub numbers : ℕ
+
+-- an aperture: its number and kind; where the numbers that it keeps begin among all that are kept, and how many they are; a block's
+-- items and height
+pub record Aperture : Type 0 where
+  pub number : ℕ
+  pub kind : ℕ
+  pub first : ℕ
+  pub len : ℕ
+  pub items : ℕ
+  pub height : ℕ
 
 -- a macro: its name, and the text of its blocks from the `*` before the first of them on
 pub record Template : Type 0 where
@@ -26,7 +35,7 @@ pub data Opened : Type 0 where
   block : ℕ → Level → Opened
   repeat : Level → Opened
 
--- the records of the apertures; the names that TF has set; the entries used, and the marks left
+-- the apertures, in the order of their commands; the names that TF has set; the entries used, and the marks left
 pub record State : Type 0 where
   pub graphics : Graphics
   pub level : Level

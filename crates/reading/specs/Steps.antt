@@ -11,23 +11,30 @@ use Rattle.decimal.specs.declared.answers.Amount.{Amount}
 use Rattle.command.specs.declared.Span.{Span}
 use Rattle.command.specs.declared.Axis.{Axis}
 use Rattle.command.specs.declared.Offset.{Offset}
+use Rattle.command.specs.Flaws.{flawNumber}
+use Rattle.command.specs.declared.Setting.{Setting}
+use Rattle.command.specs.declared.Operation.{Operation}
+use Rattle.command.specs.declared.Operation.the-variants as operation
+use Rattle.command.specs.declared.Definition.{Definition}
+use Rattle.command.specs.declared.Definition.the-variants as definition
+use Rattle.command.specs.declared.Bracket.{Bracket}
+use Rattle.command.specs.declared.Bracket.the-variants as bracket
+use Rattle.command.specs.declared.Deed.{Deed}
+use Rattle.command.specs.declared.Deed.the-variants as deed
 use Rattle.command.specs.declared.Command.{Command}
-use Rattle.command.specs.declared.Command.the-variants as command
+use Rattle.command.specs.declared.Command.the-variants.{Broken, Note, End, Set, Operate, Select, Define, Contain, Attribute}
 use Rattle.place.specs.Mark.{Mark}
 use Rattle.graphics.specs.Graphics.{withAperture}
+use Rattle.graphics.specs.Level.{block, repeat}
 use Rattle.graphics.specs.declared.Graphics.{Graphics}
 use Rattle.graphics.specs.declared.Selected.{Selected}
-use Rattle.sheet.specs.declared.Aperture.{Aperture}
-use Rattle.changes.specs.After.{after}
-use Rattle.fits.specs.Level.{block, repeat}
-use Rattle.fits.specs.declared.Level.{Level}
-use Rattle.drawing.specs.Faults.{drawItems, drawFault, moveFault, flashItems, flashFault, regionEndFault}
+use Rattle.graphics.specs.declared.Level.{Level}
+use Rattle.changes.specs.After.{afterSetting, afterOperation, after}
+use Rattle.drawing.specs.Faults.{drawItems, drawFault, moveFault, flashItems, flashFault}
 use Rattle.rules.specs.Bounds.{isRepeat}
+use Rattle.rules.specs.Settings.{settingFault}
 use Rattle.rules.specs.Rules.{
   regionFault,
-  formatFault,
-  unitFault,
-  scaleFault,
   selectFault,
   apertureFault,
   macroFault,
@@ -39,7 +46,7 @@ use Rattle.rules.specs.Rules.{
 }
 use Rattle.marks.specs.Marks.{marksOf}
 use Rattle.reading.specs.State as opened
-use Rattle.reading.specs.State.{Room, Template, Opened, State}
+use Rattle.reading.specs.State.{Room, Aperture, Template, Opened, State}
 use Rattle.reading.specs.Apertures.{
   isTaken,
   apertureWith,
@@ -94,9 +101,9 @@ withNames v s = state (s .graphics) (s .level) (s .opened) (s .apertures) (s .ma
 unfoldable pub withNumbers : List ℤ → State → State
 withNumbers v s = state (s .graphics) (s .level) (s .opened) (s .apertures) (s .macros) (s .names) v (s .entries) (s .marks)
 
--- a command that uses no entry
-abbrev pub sets : Command → ℕ → ℕ → State → Step
-sets c place fault s = does fault (passed c place 0 s)
+-- a setting changes the graphics state alone
+unfoldable pub settingStep : Setting → State → Step
+settingStep x s = does (settingFault (s .graphics) x) (withGraphics (afterSetting x (s .graphics)) s)
 
 -- so many entries are left
 abbrev pub left : Room → State → ℕ
@@ -105,7 +112,7 @@ left room s = room .entries - s .entries
 unfoldable pub drawStep : Room → ℕ → Axis → Axis → Offset → State → Step
 drawStep room place x y o s =
     does (drawFault (s .graphics) (s .level) (left room s) x y o)
-    (withLevel (withItems (drawItems (s .graphics)) 0 (s .level)) (passed (command.Draw x y o) place (drawItems (s .graphics)) s))
+    (withLevel (withItems (drawItems (s .graphics)) 0 (s .level)) (passed (Operate (operation.Draw x y o)) place (drawItems (s .graphics)) s))
 
 -- the flash of a block makes its container one higher than the block
 unfoldable pub flashHeight : Selected → ℕ
@@ -114,7 +121,11 @@ flashHeight a = cond (a .block) (a .height + 1) 0
 unfoldable pub flashStep : Room → ℕ → Axis → Axis → State → Step
 flashStep room place x y s =
     does (flashFault (s .graphics) (s .level) (left room s) x y)
-    (withLevel (withItems (flashItems (s .graphics)) (flashHeight (s .graphics .aperture)) (s .level)) (passed (command.Flash x y) place 1 s))
+    (withLevel (withItems (flashItems (s .graphics)) (flashHeight (s .graphics .aperture)) (s .level)) (passed (Operate (operation.Flash x y)) place 1 s))
+
+-- D02 draws nothing: it too changes the graphics state alone
+unfoldable pub moveStep : Axis → Axis → State → Step
+moveStep x y s = does (moveFault (s .graphics) x y) (withGraphics (afterOperation (operation.Move x y) (s .graphics)) s)
 
 -- Dn
 unfoldable pub selectStep : ℕ → State → Step
@@ -144,14 +155,14 @@ blockStartStep room place n s =
     does (blockStartFault (s .graphics) (s .level) (isTaken n (s .apertures)) full)
     (withLevel (inBlock (s .level))
     (withOpened (opened.block n (s .level) ∷ s .opened)
-    (withApertures (s .apertures ++ (opening n ∷ [])) (passed (command.BlockStart n) place 1 s))))
+    (withApertures (s .apertures ++ (opening n ∷ [])) (passed (Contain (bracket.BlockStart n)) place 1 s))))
 
--- SR, opening
+-- SR, opening; how many of its decimals were rounded changes nothing
 unfoldable pub repeatStartStep : Room → ℕ → ℕ → ℕ → Amount → Amount → State → Step
 repeatStartStep room place nx ny dx dy s =
     does (repeatStartFault (s .graphics) (s .level) (isRepeat nx ny dx dy) (eqb (left room s) 0))
     (withLevel (inRepeat nx ny (s .level))
-    (withOpened (opened.repeat (s .level) ∷ s .opened) (passed (command.RepeatStart nx ny dx dy) place 1 s)))
+    (withOpened (opened.repeat (s .level) ∷ s .opened) (passed (Contain (bracket.RepeatStart nx ny dx dy 0)) place 1 s)))
 
 -- a block that closes is an aperture of so many items; the level around it has no more than before
 unfoldable pub blockEnds : List Opened → State → State
@@ -167,10 +178,10 @@ repeatEnds (opened.block n around ∷ os) s = s
 repeatEnds (opened.repeat around ∷ os) s = withLevel (withItems (s .level .copies * s .level .items) 0 around) (withOpened os s)
 
 unfoldable pub blockEndStep : ℕ → State → Step
-blockEndStep place s = does (closingFault (s .graphics) (s .level) block) (blockEnds (s .opened) (passed command.BlockEnd place 0 s))
+blockEndStep place s = does (closingFault (s .graphics) (s .level) block) (blockEnds (s .opened) (passed (Contain bracket.BlockEnd) place 0 s))
 
 unfoldable pub repeatEndStep : ℕ → State → Step
-repeatEndStep place s = does (closingFault (s .graphics) (s .level) repeat) (repeatEnds (s .opened) (passed command.RepeatEnd place 0 s))
+repeatEndStep place s = does (closingFault (s .graphics) (s .level) repeat) (repeatEnds (s .opened) (passed (Contain bracket.RepeatEnd) place 0 s))
 
 -- TF
 unfoldable pub fileAttributeStep : List ℕ → State → Step
@@ -180,38 +191,40 @@ fileAttributeStep name s = does (fileAttributeFault (s .graphics) (isAmong name 
 abbrev pub part : List ℕ → Span → List ℕ
 part text p = slice (p .from) (p .to) text
 
+-- an operation at a place
+unfoldable pub operationStep : Room → ℕ → Operation → State → Step
+operationStep room p (operation.Draw x y o) s = drawStep room p x y o s
+operationStep room p (operation.Move x y) s = moveStep x y s
+operationStep room p (operation.Flash x y) s = flashStep room p x y s
+
+-- AD and AM, with the command's text
+unfoldable pub definitionStep : Room → List ℕ → Definition → State → Step
+definitionStep room t (definition.Aperture n name ps rounded) s = apertureStep room n (part t name) (part t ps) s
+definitionStep room t (definition.Macro name blocks deep rounded) s = macroStep room (part t name) (slice (name .to) (blocks .to) t) deep s
+
+-- AB and SR, at a place
+unfoldable pub bracketStep : Room → ℕ → Bracket → State → Step
+bracketStep room p (bracket.BlockStart n) s = blockStartStep room p n s
+bracketStep room p bracket.BlockEnd s = blockEndStep p s
+bracketStep room p (bracket.RepeatStart nx ny dx dy rounded) s = repeatStartStep room p nx ny dx dy s
+bracketStep room p bracket.RepeatEnd s = repeatEndStep p s
+
+-- TA, TO and TD leave nothing on the sheet
+unfoldable pub deedStep : List ℕ → Deed → State → Step
+deedStep t (deed.SetFile name value) s = fileAttributeStep (part t name) s
+deedStep t (deed.SetAperture name value) s = does (regionFault (s .graphics)) s
+deedStep t (deed.SetObject name value) s = does (regionFault (s .graphics)) s
+deedStep t (deed.Delete name) s = does (regionFault (s .graphics)) s
+deedStep t deed.DeleteAll s = does (regionFault (s .graphics)) s
+
 -- the command at a place, with its text
 unfoldable pub stepOf : Room → List ℕ → ℕ → Command → State → Step
-stepOf room t p command.NotForm s = does 4 s
-stepOf room t p command.TooLong s = does 5 s
-stepOf room t p command.Comment s = does 0 s
-stepOf room t p command.Linear s = sets command.Linear p 0 s
-stepOf room t p command.Clockwise s = sets command.Clockwise p 0 s
-stepOf room t p command.Counterclockwise s = sets command.Counterclockwise p 0 s
-stepOf room t p command.MultiQuadrant s = sets command.MultiQuadrant p 0 s
-stepOf room t p command.RegionStart s = sets command.RegionStart p (regionFault (s .graphics)) s
-stepOf room t p command.RegionEnd s = sets command.RegionEnd p (regionEndFault (s .graphics)) s
-stepOf room t p command.End s = does (endFault (s .graphics) (s .level)) s
-stepOf room t p (command.Select n) s = selectStep n s
-stepOf room t p (command.Draw x y o) s = drawStep room p x y o s
-stepOf room t p (command.Move x y) s = sets (command.Move x y) p (moveFault (s .graphics) x y) s
-stepOf room t p (command.Flash x y) s = flashStep room p x y s
-stepOf room t p (command.Format n) s = sets (command.Format n) p (formatFault (s .graphics)) s
-stepOf room t p command.Millimetres s = sets command.Millimetres p (unitFault (s .graphics)) s
-stepOf room t p command.Inches s = sets command.Inches p (unitFault (s .graphics)) s
-stepOf room t p command.Dark s = sets command.Dark p (regionFault (s .graphics)) s
-stepOf room t p command.Clear s = sets command.Clear p (regionFault (s .graphics)) s
-stepOf room t p (command.Mirror x y) s = sets (command.Mirror x y) p (regionFault (s .graphics)) s
-stepOf room t p (command.Rotation a) s = sets (command.Rotation a) p (regionFault (s .graphics)) s
-stepOf room t p (command.Scale a) s = sets (command.Scale a) p (scaleFault (s .graphics) a) s
-stepOf room t p (command.Aperture n name ps count) s = apertureStep room n (part t name) (part t ps) s
-stepOf room t p (command.Macro name blocks deep) s = macroStep room (part t name) (slice (name .to) (blocks .to) t) deep s
-stepOf room t p (command.BlockStart n) s = blockStartStep room p n s
-stepOf room t p command.BlockEnd s = blockEndStep p s
-stepOf room t p (command.RepeatStart nx ny dx dy) s = repeatStartStep room p nx ny dx dy s
-stepOf room t p command.RepeatEnd s = repeatEndStep p s
-stepOf room t p (command.FileAttribute name value) s = fileAttributeStep (part t name) s
-stepOf room t p (command.ApertureAttribute name value) s = does (regionFault (s .graphics)) s
-stepOf room t p (command.ObjectAttribute name value) s = does (regionFault (s .graphics)) s
-stepOf room t p (command.Delete name) s = does (regionFault (s .graphics)) s
-stepOf room t p command.DeleteAll s = does (regionFault (s .graphics)) s
+stepOf room t p (Broken flaw) s = does (flawNumber flaw) s
+stepOf room t p Note s = does 0 s
+stepOf room t p End s = does (endFault (s .graphics) (s .level)) s
+stepOf room t p (Set x) s = settingStep x s
+stepOf room t p (Operate o) s = operationStep room p o s
+stepOf room t p (Select n) s = selectStep n s
+stepOf room t p (Define d) s = definitionStep room t d s
+stepOf room t p (Contain b) s = bracketStep room p b s
+stepOf room t p (Attribute d) s = deedStep t d s

@@ -9,10 +9,10 @@ use Rattle.base.specs.Or.{_or_}
 use Rattle.base.specs.Bytes.{sameBytes}
 use Rattle.ints.specs.Ints.{signed}
 use Rattle.points.specs.Points.{pt}
-use Rattle.digits.specs.Coordinate.{wholeOf, coordinateOf}
+use Rattle.digits.specs.Coordinate.{wholeOf, coordinateOf, coordinateEnd, coordinateAt}
 use Rattle.digits.specs.Digits.{isDigit, allDigits, isNumber, valueOf as digitsValue}
 use Rattle.digits.specs.Natural.{naturalOf}
-use Rattle.digits.specs.Sign.{hasMinus, afterSign}
+use Rattle.digits.specs.Sign.{hasMinus, afterSign, pastSign}
 use Rattle.base.specs.Trimmed.{dropLeading, keptBefore, dropTrailing}
 use Rattle.decimal.specs.Decimal.{isDecimal, nearest, inMillionths, isRounded, amountOf, numeralOf, decimalOf}
 use Rattle.decimal.specs.Point.{beforePoint, afterPoint}
@@ -21,18 +21,25 @@ use Rattle.text.specs.Name.{letter, nameStart, nameByte, nameBytes, isName}
 use Rattle.text.specs.Text.{text, among}
 use Rattle.scan.specs.declared.Kind.{Kind}
 use Rattle.scan.specs.declared.Kind.the-variants.{Word, Extended}
-use Rattle.command.specs.Choose.{pick}
+use Rattle.base.specs.Choose.{pick}
 use Rattle.command.specs.Numbers.{judged, inRange, sizedAs}
 use Rattle.command.specs.Span.{span}
 use Rattle.command.specs.declared.Axis.the-variants as axis
 use Rattle.command.specs.declared.Offset.the-variants as offset
 use Rattle.command.specs.declared.Command.{Command}
-use Rattle.command.specs.declared.Command.the-variants.{NotForm, TooLong, Comment, Select, Draw, Format, Scale, Aperture, BlockEnd, ObjectAttribute, DeleteAll}
-use Rattle.operations.specs.Coordinates.{digitLimit, inCoordinate, fieldEnd, given, missing, fieldOf, past, fieldsIn, fieldsOf}
+use Rattle.command.specs.declared.Command.the-variants.{Note, Set, Operate, Select, Define, Contain, Attribute}
+use Rattle.command.specs.declared.Setting.the-variants.{Format, Rotation, Scale}
+use Rattle.command.specs.declared.Operation.the-variants.{Draw}
+use Rattle.command.specs.declared.Definition.the-variants.{Aperture}
+use Rattle.command.specs.declared.Bracket.the-variants.{BlockEnd}
+use Rattle.command.specs.declared.Deed.the-variants.{SetObject, DeleteAll}
+use Rattle.command.specs.Flaws as flaws
+use Rattle.command.specs.Rounded.{counted}
+use Rattle.operations.specs.Coordinates.{digitLimit, given, missing, fieldAt, fieldsIn, fieldsOf}
 use Rattle.operations.specs.Operations.{broken, tooLong, alone, axisOf, offsetOf, draw, drawOf}
 use Rattle.words.specs.Words.{commentOf, selectOf, codeOf, wordOf}
 use Rattle.settings.specs.Header.{formatOf}
-use Rattle.settings.specs.Transformations.{scaleOf, transformationOf}
+use Rattle.settings.specs.Transformations.{rotationOf, scaleOf, transformationOf}
 use Rattle.apertures.specs.Definitions.{definition, apertureOf}
 use Rattle.apertures.specs.Blocks.{blockOf}
 use Rattle.apertures.specs.Parameters.{more, gathered, parametersOf}
@@ -55,26 +62,28 @@ unknown =
     ∷ (Extended, "MOMM*G01*")
     ∷ []
 
-unknown-refused : map (λ row. commandOf 3 (row .0) (text (row .1))) unknown ≡ map (λ row. NotForm) unknown
-unfolding commandOf wordOf extendedOf dataOf oneBlock transformationOf codeOf selectOf drawOf draw broken alone tooLong axisOf offsetOf fieldsOf fieldsIn fieldOf fieldEnd past given missing inCoordinate digitLimit wholeOf coordinateOf isDigit allDigits isNumber digitsValue hasMinus afterSign signed naturalOf inRange judged pick firstIn among sameBytes _and_ _or_
+unknown-refused : map (λ row. commandOf 3 (row .0) (text (row .1))) unknown ≡ map (λ row. flaws.notForm) unknown
+unfolding commandOf wordOf extendedOf dataOf oneBlock transformationOf codeOf selectOf drawOf draw broken alone tooLong axisOf offsetOf fieldsOf fieldsIn fieldAt given missing digitLimit coordinateAt coordinateEnd wholeOf coordinateOf isDigit allDigits isNumber digitsValue hasMinus afterSign pastSign signed naturalOf inRange judged pick firstIn among sameBytes _and_ _or_
 unknown-refused = refl
 
--- commands of their form (decisions 19, 22, 24, 25 and 41)
+-- commands of their form (decisions 19, 22, 24, 25 and 41; 02, [1])
 abbrev known : List (Kind × String × Command)
 known =
-    (Word, "G04any, thing", Comment)
+    (Word, "G04any, thing", Note)
     ∷ (Word, "D010", Select 10)
-    ∷ (Word, "D01", Draw axis.Missing axis.Missing offset.Missing)
-    ∷ (Word, "X1Y-2I3J4D01", Draw (axis.At (pos 1)) (axis.At (negsuc 1)) (offset.By (pt (pos 3) (pos 4))))
-    ∷ (Word, "X0000000001D01", TooLong)
-    ∷ (Extended, "FSLAX36Y36*", Format 3)
-    ∷ (Extended, "LS.5*\r\n", Scale (record { millionths = pos 500000 }))
-    ∷ (Extended, "ADD10R,1X.5*", Aperture 10 (span 5 6) (span 6 11) 2)
-    ∷ (Extended, "AB*", BlockEnd)
-    ∷ (Extended, "TO.N,a,*", ObjectAttribute (span 2 4) (span 5 7))
-    ∷ (Extended, "TD*", DeleteAll)
+    ∷ (Word, "D01", Operate (Draw axis.Missing axis.Missing offset.Missing))
+    ∷ (Word, "X1Y-2I3J4D01", Operate (Draw (axis.At (pos 1)) (axis.At (negsuc 1)) (offset.By (pt (pos 3) (pos 4)))))
+    ∷ (Word, "X0000000001D01", flaws.tooLong)
+    ∷ (Extended, "FSLAX36Y36*", Set (Format 3))
+    ∷ (Extended, "LS.5*\r\n", Set (Scale (record { millionths = pos 500000 }) 0))
+    ∷ (Extended, "LR-.0000005*", Set (Rotation (record { millionths = negsuc 0 }) 1))
+    ∷ (Extended, "ADD10R,1X.5*", Define (Aperture 10 (span 5 6) (span 6 11) 0))
+    ∷ (Extended, "ADD10R,1.00000010X.5000000*", Define (Aperture 10 (span 5 6) (span 6 26) 1))
+    ∷ (Extended, "AB*", Contain BlockEnd)
+    ∷ (Extended, "TO.N,a,*", Attribute (SetObject (span 2 4) (span 5 7)))
+    ∷ (Extended, "TD*", Attribute DeleteAll)
     ∷ []
 
 known-recognised : map (λ row. commandOf 3 (row .0) (text (row .1))) known ≡ map (λ row. row .2) known
-unfolding commandOf wordOf commentOf selectOf drawOf draw broken alone tooLong axisOf offsetOf fieldsOf fieldsIn fieldOf fieldEnd past given missing inCoordinate digitLimit wholeOf coordinateOf isDigit allDigits isNumber digitsValue hasMinus afterSign signed naturalOf inRange judged extendedOf dataOf oneBlock formatOf transformationOf scaleOf sizedAs decimalOf numeralOf amountOf isRounded inMillionths nearest isDecimal dropLeading keptBefore dropTrailing beforePoint afterPoint apertureOf definition parametersOf gathered more pieces parted onto isName nameStart nameByte nameBytes letter blockOf attributeOf valueOf deletionOf pick firstIn among sameBytes _and_ _or_
+unfolding commandOf wordOf commentOf selectOf drawOf draw broken alone tooLong axisOf offsetOf fieldsOf fieldsIn fieldAt given missing digitLimit coordinateAt coordinateEnd wholeOf coordinateOf isDigit allDigits isNumber digitsValue hasMinus afterSign pastSign signed naturalOf inRange judged extendedOf dataOf oneBlock formatOf transformationOf rotationOf scaleOf sizedAs counted decimalOf numeralOf amountOf isRounded inMillionths nearest isDecimal dropLeading keptBefore dropTrailing beforePoint afterPoint apertureOf definition parametersOf gathered more pieces parted onto isName nameStart nameByte nameBytes letter blockOf attributeOf valueOf deletionOf pick firstIn among sameBytes _and_ _or_
 known-recognised = refl

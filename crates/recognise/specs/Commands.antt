@@ -11,9 +11,9 @@ use Rattle.text.specs.Text.{_begins_}
 use Rattle.scan.specs.Scan.{skipped}
 use Rattle.scan.specs.declared.Kind.{Kind}
 use Rattle.scan.specs.declared.Kind.the-variants.{Word, Extended, Macro}
-use Rattle.command.specs.Choose.{pick, choose}
+use Rattle.base.specs.Choose.{pick, choose}
 use Rattle.command.specs.declared.Command.{Command}
-use Rattle.command.specs.declared.Command.the-variants.{NotForm}
+use Rattle.command.specs.Flaws.{notForm}
 use Rattle.words.specs.Words.{wordOf}
 use Rattle.settings.specs.Header.{formatOf, unitOf}
 use Rattle.settings.specs.Repeats.{repeatOf}
@@ -43,7 +43,7 @@ dataOf s =
 
 -- an extended command but AM is one data block
 unfoldable pub extendedOf : List ℕ → Command
-extendedOf s = let star : ℕ = place (code "*") s 0 in pick (oneBlock s star) (dataOf (take star s)) NotForm
+extendedOf s = let star : ℕ = place (code "*") s 0 in pick (oneBlock s star) (dataOf (take star s)) notForm
 
 -- the command of this kind with this text; n is that of FS, 0 before it
 unfoldable pub commandOf : ℕ → Kind → List ℕ → Command

@@ -2,6 +2,7 @@
 ghost use mathlib.Core.Path.{_≡_};
 ghost use Rattle.recognise.specs.Commands.{oneBlock, dataOf, extendedOf, commandOf};
 use command::Command;
+use command::Flaw;
 use scan::Kind;
 
 // The text up to its first `*` is its only data block.
@@ -50,7 +51,7 @@ fn extended_of(s: &[u8]) -> Command
     if is_one_block(s, star) {
         return data_of(base::up_to(s, star));
     }
-    Command::NotForm
+    Command::Broken(Flaw::NotForm)
 }
 
 // The command of this kind with this text, as scan gives them; n is that of FS, 0 before it.

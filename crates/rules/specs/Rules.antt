@@ -5,80 +5,112 @@ use mathlib.Core.Bool.{Bool, not}
 use mathlib.Core.List.{[], _∷_}
 use lib.Dec.{eqb, leb}
 use Rattle.base.specs.Or.{_or_}
+use Rattle.base.specs.Faults.{Table, firstFault}
 use Rattle.decimal.specs.Amounts.{aboveZero}
 use Rattle.decimal.specs.declared.answers.Amount.{Amount}
+use Rattle.graphics.specs.Level.{topLevel}
 use Rattle.graphics.specs.declared.Graphics.{Graphics}
+use Rattle.graphics.specs.declared.Level.{Level}
 use Rattle.fits.specs.Fits.{unready}
-use Rattle.fits.specs.Level.{topLevel}
-use Rattle.fits.specs.declared.Level.{Level}
-use Rattle.drawing.specs.Faults.{firstFault}
 
 -- "In a region only G01, G02, G03, G75, G04, D01, D02, G37": G36, LP, LM, LR, TA, TO and TD have this rule alone
+abbrev pub regionRules : Graphics → Table
+regionRules g = (g .region .on, 7) ∷ []
+
 unfoldable pub regionFault : Graphics → ℕ
-regionFault g = firstFault ((g .region .on, 7) ∷ [])
+regionFault g = firstFault (regionRules g)
 
 -- FS and MO (decision 49)
+abbrev pub formatRules : Graphics → Table
+formatRules g = (not (eqb (g .format .digits) 0), 6) ∷ (g .region .on, 7) ∷ []
+
 unfoldable pub formatFault : Graphics → ℕ
-formatFault g = firstFault ((not (eqb (g .format .digits) 0), 6) ∷ (g .region .on, 7) ∷ [])
+formatFault g = firstFault (formatRules g)
+
+abbrev pub unitRules : Graphics → Table
+unitRules g = (not (eqb (g .format .unit) 0), 6) ∷ (g .region .on, 7) ∷ []
 
 unfoldable pub unitFault : Graphics → ℕ
-unitFault g = firstFault ((not (eqb (g .format .unit) 0), 6) ∷ (g .region .on, 7) ∷ [])
+unitFault g = firstFault (unitRules g)
 
 -- LS
+abbrev pub scaleRules : Graphics → Amount → Table
+scaleRules g a = (g .region .on, 7) ∷ (not (aboveZero a), 10) ∷ []
+
 unfoldable pub scaleFault : Graphics → Amount → ℕ
-scaleFault g a = firstFault ((g .region .on, 7) ∷ (not (aboveZero a), 10) ∷ [])
+scaleFault g a = firstFault (scaleRules g a)
 
 -- Dn: the number of a closed block or another aperture (decision 79)
+abbrev pub selectRules : Graphics → Bool → Table
+selectRules g known = (g .region .on, 7) ∷ (not known, 8) ∷ []
+
 unfoldable pub selectFault : Graphics → Bool → ℕ
-selectFault g known = firstFault ((g .region .on, 7) ∷ (not known, 8) ∷ [])
+selectFault g known = firstFault (selectRules g known)
 
 -- AD: 8 where its number is taken or its macro unknown; then what the template or the macro came to, 9 or 10; then room
-unfoldable pub apertureFault : Graphics → Bool → ℕ → Bool → ℕ
-apertureFault g taken worked full =
-    firstFault
-    ((g .region .on, 7)
+abbrev pub apertureRules : Graphics → Bool → ℕ → Bool → Table
+apertureRules g taken worked full =
+    (g .region .on, 7)
     ∷ (taken, 8)
     ∷ (not (eqb worked 0), worked)
     ∷ (full, 17)
-    ∷ [])
+    ∷ []
+
+unfoldable pub apertureFault : Graphics → Bool → ℕ → Bool → ℕ
+apertureFault g taken worked full = firstFault (apertureRules g taken worked full)
 
 -- AM
-unfoldable pub macroFault : Graphics → Bool → Bool → Bool → ℕ
-macroFault g taken deep full =
-    firstFault
-    ((g .region .on, 7)
+abbrev pub macroRules : Graphics → Bool → Bool → Bool → Table
+macroRules g taken deep full =
+    (g .region .on, 7)
     ∷ (taken, 8)
     ∷ (deep, 15)
     ∷ (full, 17)
-    ∷ [])
+    ∷ []
+
+unfoldable pub macroFault : Graphics → Bool → Bool → Bool → ℕ
+macroFault g taken deep full = firstFault (macroRules g taken deep full)
 
 -- AB: "a ninth open AB, is 15"
-unfoldable pub blockStartFault : Graphics → Level → Bool → Bool → ℕ
-blockStartFault g l taken full =
-    firstFault
-    ((g .region .on, 7)
+abbrev pub blockStartRules : Graphics → Level → Bool → Bool → Table
+blockStartRules g l taken full =
+    (g .region .on, 7)
     ∷ (taken, 8)
     ∷ (leb 8 (l .depth), 15)
     ∷ (full, 17)
-    ∷ [])
+    ∷ []
+
+unfoldable pub blockStartFault : Graphics → Level → Bool → Bool → ℕ
+blockStartFault g l taken full = firstFault (blockStartRules g l taken full)
 
 -- "closings match the innermost"
+abbrev pub closingRules : Graphics → Level → ℕ → Table
+closingRules g l opened = (g .region .on or not (eqb (l .inside) opened), 7) ∷ []
+
 unfoldable pub closingFault : Graphics → Level → ℕ → ℕ
-closingFault g l opened = firstFault ((g .region .on or not (eqb (l .inside) opened), 7) ∷ [])
+closingFault g l opened = firstFault (closingRules g l opened)
 
 -- "SR only at top level" (decision 57)
-unfoldable pub repeatStartFault : Graphics → Level → Bool → Bool → ℕ
-repeatStartFault g l inBounds full =
-    firstFault
-    ((g .region .on or not (eqb (l .inside) topLevel), 7)
+abbrev pub repeatStartRules : Graphics → Level → Bool → Bool → Table
+repeatStartRules g l inBounds full =
+    (g .region .on or not (eqb (l .inside) topLevel), 7)
     ∷ (not inBounds, 10)
     ∷ (full, 17)
-    ∷ [])
+    ∷ []
+
+unfoldable pub repeatStartFault : Graphics → Level → Bool → Bool → ℕ
+repeatStartFault g l inBounds full = firstFault (repeatStartRules g l inBounds full)
 
 -- TF
+abbrev pub fileAttributeRules : Graphics → Bool → Table
+fileAttributeRules g twice = (g .region .on, 7) ∷ (twice, 19) ∷ []
+
 unfoldable pub fileAttributeFault : Graphics → Bool → ℕ
-fileAttributeFault g twice = firstFault ((g .region .on, 7) ∷ (twice, 19) ∷ [])
+fileAttributeFault g twice = firstFault (fileAttributeRules g twice)
 
 -- M02 (decision 55)
+abbrev pub endRules : Graphics → Level → Table
+endRules g l = (unready g, 6) ∷ (g .region .on or not (eqb (l .inside) topLevel), 7) ∷ []
+
 unfoldable pub endFault : Graphics → Level → ℕ
-endFault g l = firstFault ((unready g, 6) ∷ (g .region .on or not (eqb (l .inside) topLevel), 7) ∷ [])
+endFault g l = firstFault (endRules g l)

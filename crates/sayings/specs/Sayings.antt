@@ -8,15 +8,16 @@ use lib.ListN.{take}
 use lib.Seq.{slice}
 use Rattle.base.specs.And.{_and_}
 use Rattle.base.specs.Bytes.{sameBytes}
+use Rattle.base.specs.Choose.{pick}
 use Rattle.base.specs.Or.{_or_}
 use Rattle.text.specs.First.{place}
 use Rattle.text.specs.Text.{_begins_}
-use Rattle.command.specs.Choose.{pick}
 use Rattle.command.specs.declared.Span.{Span}
+use Rattle.command.specs.declared.Deed.{Deed}
+use Rattle.command.specs.declared.Deed.the-variants as deed
+use Rattle.command.specs.declared.Command.{Command}
+use Rattle.command.specs.declared.Command.the-variants.{Broken, Note, End, Set, Operate, Select, Define, Contain, Attribute}
 use Rattle.commands.specs.declared.Placed.{Placed}
-use Rattle.sayings.specs.Deeds.{deedOf}
-use Rattle.sayings.specs.declared.Deed.{Deed}
-use Rattle.sayings.specs.declared.Deed.the-variants as deed
 use Rattle.sayings.specs.declared.Kind.{Kind}
 use Rattle.sayings.specs.declared.Kind.the-variants.{Aperture, Object}
 use Rattle.sayings.specs.declared.Saying.{Saying}
@@ -42,17 +43,29 @@ unfoldable pub asksTA : Kind → Bool
 asksTA Aperture = true
 asksTA Object = false
 
--- the two kinds are held apart, and TD speaks of both
+-- the two kinds are held apart, and TD speaks of both; TF, of neither
 unfoldable pub saying : Kind → List ℕ → List ℕ → Saying → Deed → Saying
-saying kind name text value deed.Nothing = Silent
-saying kind name text value (deed.Aperture n) = pick (asksTA kind and named text n name) value Silent
-saying kind name text value (deed.Object n) = pick (not (asksTA kind) and named text n name) value Silent
+saying kind name text value (deed.SetFile n v) = Silent
+saying kind name text value (deed.SetAperture n v) = pick (asksTA kind and named text n name) value Silent
+saying kind name text value (deed.SetObject n v) = pick (not (asksTA kind) and named text n name) value Silent
 saying kind name text value (deed.Delete n) = pick (named text n name) Deletes Silent
 saying kind name text value deed.DeleteAll = Deletes
 
+-- every other command is silent
+unfoldable pub spoken : Kind → List ℕ → List ℕ → Saying → Command → Saying
+spoken kind name text value (Attribute d) = saying kind name text value d
+spoken kind name text value (Broken flaw) = Silent
+spoken kind name text value Note = Silent
+spoken kind name text value End = Silent
+spoken kind name text value (Set s) = Silent
+spoken kind name text value (Operate o) = Silent
+spoken kind name text value (Select n) = Silent
+spoken kind name text value (Define d) = Silent
+spoken kind name text value (Contain b) = Silent
+
 -- what a command says of the name
 unfoldable pub sayingOf : List ℕ → Kind → List ℕ → Placed → Saying
-sayingOf file kind name c = saying kind name (textOf file c) (valueIn (take (c .end) file) (c .from)) (deedOf (c .command))
+sayingOf file kind name c = spoken kind name (textOf file c) (valueIn (take (c .end) file) (c .from)) (c .command)
 
 -- TO is taken at any command, TA at AD and at an AB opening, whatever their numbers are (decisions 109, 111 and 211)
 unfoldable pub takenAt : Kind → List ℕ → Bool

@@ -1,10 +1,12 @@
 // What a command says of an attribute that is asked, and where the attribute is taken.
 ghost use mathlib.Core.Path.{_≡_};
-ghost use Rattle.command.specs.Choose.{pick};
-ghost use Rattle.sayings.specs.Deeds.{deedOf};
+ghost use lib.ListN.{take};
+ghost use lib.Seq.{slice};
+ghost use Rattle.base.specs.Choose.{pick};
 ghost use Rattle.sayings.specs.Regions.{isDraw, isMove, regionAfter, beginsContour};
-ghost use Rattle.sayings.specs.Sayings.{valueIn, named, asksTA, sayingOf, takenAt};
+ghost use Rattle.sayings.specs.Sayings.{valueIn, named, asksTA, saying, sayingOf, takenAt};
 use command::Command;
+use command::Deed;
 use command::Span;
 use commands::Placed;
 
@@ -12,15 +14,6 @@ use commands::Placed;
 pub enum Kind {
     Aperture,
     Object,
-}
-
-// What a command does to the attributes that are held, with the place of the name in its text.
-pub enum Deed {
-    Nothing,
-    Aperture(Span),
-    Object(Span),
-    Delete(Span),
-    DeleteAll,
 }
 
 // What a command says of the name that is asked.
@@ -34,19 +27,6 @@ pub enum Saying {
 pub struct Region {
     pub inside: bool,
     pub drawn: bool,
-}
-
-// What a command does to the attributes that are held.
-fn deed_of(c: Command) -> Deed
-    ensures { λ r. ⌜ r ≡ deedOf c ⌝ }
-{
-    match c {
-        Command::ApertureAttribute { name, .. } => Deed::Aperture(name),
-        Command::ObjectAttribute { name, .. } => Deed::Object(name),
-        Command::Delete { name } => Deed::Delete(name),
-        Command::DeleteAll => Deed::DeleteAll,
-        _ => Deed::Nothing,
-    }
 }
 
 // The first where the test holds, else the second.
@@ -91,28 +71,44 @@ fn asks_ta(kind: Kind) -> bool
     }
 }
 
+// What a deed says of the attribute, its command being from `from` up to `end`.
+fn deed_says(file: &[u8], kind: Kind, name: &[u8], from: usize, end: usize, d: Deed) -> Saying
+    ensures { λ r. ⌜ r ≡ saying kind (now (name .entry)) (slice from end (now (file .entry))) (valueIn (take end (now (file .entry))) from) d ⌝ }
+{
+    let t = base::part(file, from, end);
+    let ta = asks_ta(kind);
+    match d {
+        Deed::SetFile { .. } => Saying::Silent,
+        Deed::SetAperture { name: n, .. } => {
+            let value = value_in(base::up_to(file, end), from);
+            pick(base::both(ta, is_named(t, n, name)), value, Saying::Silent)
+        }
+        Deed::SetObject { name: n, .. } => {
+            let value = value_in(base::up_to(file, end), from);
+            pick(base::both(!ta, is_named(t, n, name)), value, Saying::Silent)
+        }
+        Deed::Delete { name: n } => pick(is_named(t, n, name), Saying::Deletes, Saying::Silent),
+        Deed::DeleteAll => Saying::Deletes,
+    }
+}
+
 // What a command says of the attribute.
 pub fn saying_of(file: &[u8], kind: Kind, name: &[u8], c: Placed) -> Saying
     ensures { λ r. ⌜ r ≡ sayingOf (now (file .entry)) kind (now (name .entry)) c ⌝ }
 {
     let from = c.from;
     let end = c.end;
-    let t = base::part(file, from, end);
-    let ta = asks_ta(kind);
     let command = c.command;
-    let deed = deed_of(command);
-    match deed {
-        Deed::Nothing => Saying::Silent,
-        Deed::Aperture(n) => {
-            let value = value_in(base::up_to(file, end), from);
-            pick(base::both(ta, is_named(t, n, name)), value, Saying::Silent)
-        }
-        Deed::Object(n) => {
-            let value = value_in(base::up_to(file, end), from);
-            pick(base::both(!ta, is_named(t, n, name)), value, Saying::Silent)
-        }
-        Deed::Delete(n) => pick(is_named(t, n, name), Saying::Deletes, Saying::Silent),
-        Deed::DeleteAll => Saying::Deletes,
+    match command {
+        Command::Attribute(d) => deed_says(file, kind, name, from, end, d),
+        Command::Broken(_) => Saying::Silent,
+        Command::Note => Saying::Silent,
+        Command::End => Saying::Silent,
+        Command::Set(_) => Saying::Silent,
+        Command::Operate(_) => Saying::Silent,
+        Command::Select(_) => Saying::Silent,
+        Command::Define(_) => Saying::Silent,
+        Command::Contain(_) => Saying::Silent,
     }
 }
 

@@ -3,8 +3,11 @@ ghost use mathlib.Core.Path.{_≡_};
 ghost use Rattle.settings.specs.Header.{formatOf, unitOf};
 ghost use Rattle.settings.specs.Transformations.{rotationOf, scaleOf, mirrorOf, transformationOf};
 ghost use Rattle.settings.specs.Repeats.{repeats, repeatStart, repeatOf};
+use command::Bracket;
 use command::Command;
+use command::Flaw;
 use command::Number;
+use command::Setting;
 use command::Size;
 
 // FS.
@@ -13,16 +16,17 @@ pub fn format_of(s: &[u8]) -> Command
 {
     let n = base::byte_at(s, 5);
     if n < b'1' {
-        return Command::NotForm;
+        return Command::Broken(Flaw::NotForm);
     }
     if n > b'6' {
-        return Command::NotForm;
+        return Command::Broken(Flaw::NotForm);
     }
     let form = [b'F', b'S', b'L', b'A', b'X', n, b'6', b'Y', n, b'6'];
+    let digits = (n - b'0') as usize;
     command::pick(
         text::is(s, &form),
-        Command::Format((n - b'0') as usize),
-        Command::NotForm,
+        Command::Set(Setting::Format(digits)),
+        Command::Broken(Flaw::NotForm),
     )
 }
 
@@ -30,8 +34,13 @@ pub fn format_of(s: &[u8]) -> Command
 pub fn unit_of(s: &[u8]) -> Command
     ensures { λ r. ⌜ r ≡ unitOf (now (s .entry)) ⌝ }
 {
-    let inches = command::row(s, b"MOIN", Command::Inches, Command::NotForm);
-    command::row(s, b"MOMM", Command::Millimetres, inches)
+    let inches = command::row(
+        s,
+        b"MOIN",
+        Command::Set(Setting::Inches),
+        Command::Broken(Flaw::NotForm),
+    );
+    command::row(s, b"MOMM", Command::Set(Setting::Millimetres), inches)
 }
 
 // LR.
@@ -40,7 +49,12 @@ fn rotation_of(s: &[u8]) -> Command
 {
     let d = command::size_of(base::from_on(s, 2));
     let angle = d.value;
-    command::judged(d.formless, d.long, Command::Rotation(angle))
+    let rounded = command::counted(d.rounded);
+    command::judged(
+        d.formless,
+        d.long,
+        Command::Set(Setting::Rotation { angle, rounded }),
+    )
 }
 
 // LS.
@@ -48,8 +62,13 @@ fn scale_of(s: &[u8]) -> Command
     ensures { λ r. ⌜ r ≡ scaleOf (now (s .entry)) ⌝ }
 {
     let d = command::size_of(base::from_on(s, 2));
-    let scale = d.value;
-    command::judged(d.formless, d.long, Command::Scale(scale))
+    let factor = d.value;
+    let rounded = command::counted(d.rounded);
+    command::judged(
+        d.formless,
+        d.long,
+        Command::Set(Setting::Scale { factor, rounded }),
+    )
 }
 
 // LM.
@@ -59,12 +78,27 @@ fn mirror_of(s: &[u8]) -> Command
     let xy = command::row(
         s,
         b"LMXY",
-        Command::Mirror { x: true, y: true },
-        Command::NotForm,
+        Command::Set(Setting::Mirror { x: true, y: true }),
+        Command::Broken(Flaw::NotForm),
     );
-    let y = command::row(s, b"LMY", Command::Mirror { x: false, y: true }, xy);
-    let x = command::row(s, b"LMX", Command::Mirror { x: true, y: false }, y);
-    command::row(s, b"LMN", Command::Mirror { x: false, y: false }, x)
+    let y = command::row(
+        s,
+        b"LMY",
+        Command::Set(Setting::Mirror { x: false, y: true }),
+        xy,
+    );
+    let x = command::row(
+        s,
+        b"LMX",
+        Command::Set(Setting::Mirror { x: true, y: false }),
+        y,
+    );
+    command::row(
+        s,
+        b"LMN",
+        Command::Set(Setting::Mirror { x: false, y: false }),
+        x,
+    )
 }
 
 // LP, LM, LR and LS.
@@ -72,10 +106,10 @@ pub fn transformation_of(s: &[u8]) -> Command
     ensures { λ r. ⌜ r ≡ transformationOf (now (s .entry)) ⌝ }
 {
     if text::is(s, b"LPD") {
-        return Command::Dark;
+        return Command::Set(Setting::Dark);
     }
     if text::is(s, b"LPC") {
-        return Command::Clear;
+        return Command::Set(Setting::Clear);
     }
     if text::begins(s, b"LM") {
         return mirror_of(s);
@@ -86,7 +120,7 @@ pub fn transformation_of(s: &[u8]) -> Command
     if text::begins(s, b"LS") {
         return scale_of(s);
     }
-    Command::NotForm
+    Command::Broken(Flaw::NotForm)
 }
 
 // A repeat of these numbers.
@@ -99,15 +133,17 @@ fn repeated(nx: Number, ny: Number, dx: Size, dy: Size) -> Command
     );
     let x = dx.value;
     let y = dy.value;
+    let rounded = command::counted(dx.rounded) + command::counted(dy.rounded);
     command::judged(
         formless,
         base::either(dx.long, dy.long),
-        Command::RepeatStart {
+        Command::Contain(Bracket::RepeatStart {
             nx: nx.value,
             ny: ny.value,
             dx: x,
             dy: y,
-        },
+            rounded,
+        }),
     )
 }
 
@@ -130,10 +166,10 @@ pub fn repeat_of(s: &[u8]) -> Command
     ensures { λ r. ⌜ r ≡ repeatOf (now (s .entry)) ⌝ }
 {
     if text::is(s, b"SR") {
-        return Command::RepeatEnd;
+        return Command::Contain(Bracket::RepeatEnd);
     }
     if text::begins(s, b"SRX") {
         return repeat_start(base::from_on(s, 3));
     }
-    Command::NotForm
+    Command::Broken(Flaw::NotForm)
 }

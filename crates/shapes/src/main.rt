@@ -1,6 +1,7 @@
 // Macros of document 002, KiCad's rounded rectangle and document 01's roundings, each with the numbers that were worked out by hand.
 // The blocks stand behind the `*` of the macro's name, the parameters behind the comma of the AD.
 use command::Command;
+use command::Definition;
 use libc::STDOUT_FILENO;
 
 // A name, and whether what was found is what was worked out by hand.
@@ -43,15 +44,19 @@ fn fault(name: &[u8], blocks: &[u8], number: u64) {
     says(name, o.number == number);
 }
 
+// Whether a definition is an AM that is too deep, or is not, as expected.
+fn is_as_deep(d: Definition, expected: bool) -> bool {
+    if let Definition::Macro { deep, .. } = d {
+        return deep == expected;
+    }
+    false
+}
+
 // Whether an AM is recognised, and as too deep or not.
 fn depth(name: &[u8], text: &[u8], expected: bool) {
     let c = form::macro_of(text);
-    if let Command::Macro {
-        name: n,
-        blocks: b,
-        deep: d,
-    } = c {
-        says(name, d == expected);
+    if let Command::Define(d) = c {
+        says(name, is_as_deep(d, expected));
     } else {
         says(name, false);
     }

@@ -1,7 +1,7 @@
 -- An edge that is counted and put is drawn behind the others, and its contour has one edge more.
 -- Assumes nothing.
 use Prim.Native.Nat.{ℕ, suc, _+_, _-_, _/_, _≤_, _<_}
-use mathlib.Core.Path.{_≡_, sym, ap, _∙_}
+use mathlib.Core.Path.{_≡_, refl, sym, ap, _∙_}
 use mathlib.Core.Bool.{true}
 use mathlib.Core.List.{List, [], _∷_, _++_, map}
 use native.Mathlib.Numerals.{add-one}
@@ -13,14 +13,13 @@ use Rattle.place.specs.declared.Item.{Item}
 use Rattle.place.specs.Mark.{Mark, contour, edge, Sheet, withCount, written}
 use Rattle.place.proofs.Marks.{written-contour}
 use Rattle.place.specs.Placing.{ItemWithin}
-use Rattle.sheet.specs.Records.{entryOf, roleOf, entryRoom}
+use Rattle.sheet.specs.Records.{entryWidth, entryOf, roleOf, entryRoom}
 use Rattle.sheet.specs.Meaning.{drawn}
 use Rattle.sheet.specs.Valid.{far, okPoints, okWords, okRole, okEntry}
 use Rattle.sheet.specs.declared.Entry.{Entry}
 use Rattle.sheet.specs.declared.Role.the-variants.{Draws}
 use Rattle.sheet.proofs.Stored.{entry-stored, entry-kept}
-use Rattle.stack.specs.Stack.{hasRoom, pushed}
-use Rattle.stack.proofs.Turning.{room-left}
+use Rattle.stack.specs.Stack.{pushed}
 use Rattle.building.specs.Open.{Built}
 use Rattle.building.specs.Drawing.{Draw, DrawAll, Drawing}
 use Rattle.building.proofs.Push.{Pushed}
@@ -57,33 +56,26 @@ item-draws a n h t y w low high own = record {
 module _ (s : Sheet) (c y : Item) (es : List Item) (e a : List ℕ) (n high start h t : ℕ) (b : Builder)
     (drawing : Drawing s c es e a (entryRoom e) n (b .closed) high start h t)
     (ends : b .high ≡ high + suc (length es)) (items-are : b .items ≡ t + suc (length es))
-    (left : hasRoom e (b .closed) (b .high) ≡ true) (w : ItemWithin far y) (low : 1 ≤ y .kind) (up : y .kind ≤ 8)
+    (left : b .closed + b .high < entryRoom e) (w : ItemWithin far y) (low : 1 ≤ y .kind) (up : y .kind ≤ 8)
     (own : y .place ≡ y .outer) where
-  fits : b .closed + b .high < entryRoom e
-  fits = room-left e (b .closed) (b .high) left
-
   i : ℕ
   i = entryRoom e - suc high
 
   inside : i < entryRoom e
   unfolding i
-  inside = let f = fits in omega arith
+  inside = omega arith
 
   long : length (countedAt e high) ≡ length e
-  long = let f = fits in counted-long e high (omega arith)
+  long = counted-long e high (omega arith)
 
-  left-still : hasRoom (countedAt e high) (b .closed) (b .high) ≡ true
-  unfolding hasRoom
-  left-still = rw long left
-
-  put-is : Pushed (countedAt e high) (pushed (countedAt e high) (b .closed) (b .high) (itemEntry (b .items) y)) (entryRoom e) (b .high) (itemEntry (b .items) y)
+  put-is : Pushed (countedAt e high) (pushed (countedAt e high) (b .high) (itemEntry (b .items) y)) (entryRoom e) (b .high) (itemEntry (b .items) y)
   put-is =
-      let same : entryRoom (countedAt e high) ≡ entryRoom e = ap (λ x. x / 15) long in
-      rw same at (pushed-is (countedAt e high) (b .closed) (b .high) (itemEntry (b .items) y) left-still)
+      let same : entryRoom (countedAt e high) ≡ entryRoom e = ap (λ x. x / entryWidth) long in
+      rw same at (pushed-is (countedAt e high) (b .high) (itemEntry (b .items) y) (omega arith))
 
-  edge-is : edged e b high y ≡ pushed (countedAt e high) (b .closed) (b .high) (itemEntry (b .items) y)
+  edge-is : edged e b high y ≡ pushed (countedAt e high) (b .high) (itemEntry (b .items) y)
   unfolding edged
-  edge-is = rw left
+  edge-is = refl
 
   -- every entry but the contour's and the new one stays
   kept : (p : ℕ) → (p ≡ entryRoom e - suc high → ⊥) → (p ≡ entryRoom e - suc (b .high) → ⊥) → entryOf e p ≡ entryOf (edged e b high y) p
@@ -93,19 +85,17 @@ module _ (s : Sheet) (c y : Item) (es : List Item) (e a : List ℕ) (n high star
   contour-is : entryOf (edged e b high y) (entryRoom e - suc high) ≡ counted (entryOf e (entryRoom e - suc high))
   unfolding countedAt i
   contour-is =
-      let f = fits in
       rw edge-is (put-is .kept (entryRoom e - suc high) (λ q. let z : entryRoom e - suc high ≡ entryRoom e - suc (b .high) = q in absurd (omega arith))
       ∙ entry-stored e (entryRoom e - suc high) _ inside)
 
   pub edge-draws : Drawing s c (es ++ y ∷ []) (edged e b high y) a (entryRoom e) n (b .closed) high start h t
   unfolding DrawAll withCount
   edge-draws =
-      let f = fits in
       let at : suc high + length es ≡ b .high = omega arith in
       let before : t + 1 + length es ≡ b .items = omega arith in
       contour-edge s c y es e (edged e b high y) a (entryRoom e) n (b .closed) high start h t drawing (omega arith)
       (record {
-        as-long = rw edge-is (put-is .as-long) ∙ ap (λ x. x / 15) long;
+        as-long = rw edge-is (put-is .as-long) ∙ ap (λ x. x / entryWidth) long;
         same-closed = λ p l. kept p (λ q. let z : p ≡ entryRoom e - suc high = q in absurd (omega arith)) (λ q. let z : p ≡ entryRoom e - suc (b .high) = q in absurd (omega arith));
         same-stack = λ p l. kept (entryRoom e - suc p) (λ q. let z : entryRoom e - suc p ≡ entryRoom e - suc high = q in absurd (omega arith))
             (λ q. let z : entryRoom e - suc p ≡ entryRoom e - suc (b .high) = q in absurd (omega arith));
@@ -116,13 +106,12 @@ module _ (s : Sheet) (c y : Item) (es : List Item) (e a : List ℕ) (n high star
       (rw (at, before, edge-is, put-is .new) (item-draws a n h (b .items) y w low up own))
 
 -- a contour begins, as an item without edges
-pub contour-opens : (s : Sheet) (c : Item) (e a : List ℕ) (n : ℕ) (b : Builder) → Holds s e a (entryRoom e) n b → hasRoom e (b .closed) (b .high) ≡ true →
+pub contour-opens : (s : Sheet) (c : Item) (e a : List ℕ) (n : ℕ) (b : Builder) → Holds s e a (entryRoom e) n b → b .closed + b .high < entryRoom e →
     ItemWithin far (withCount 0 c) → 1 ≤ withCount 0 c .kind → withCount 0 c .kind ≤ 8 → withCount 0 c .place ≡ withCount 0 c .outer →
-    Drawing s c [] (pushed e (b .closed) (b .high) (itemEntry (b .items) (withCount 0 c))) a (entryRoom e) n (b .closed) (b .high) (b .start) (b .height) (b .items)
+    Drawing s c [] (pushed e (b .high) (itemEntry (b .items) (withCount 0 c))) a (entryRoom e) n (b .closed) (b .high) (b .start) (b .height) (b .items)
 contour-opens s c e a n b holds left w low up own =
-    let f = room-left e (b .closed) (b .high) left in
-    let put = pushed-is e (b .closed) (b .high) (itemEntry (b .items) (withCount 0 c)) left in
-    contour-begins s c e _ a (entryRoom e) n (b .closed) (b .high) (b .start) (b .height) (b .items) holds f
+    let put = pushed-is e (b .high) (itemEntry (b .items) (withCount 0 c)) (omega arith) in
+    contour-begins s c e _ a (entryRoom e) n (b .closed) (b .high) (b .start) (b .height) (b .items) holds left
     (record {
       as-long = put .as-long;
       same-closed = λ p l. sym (put .kept p (λ q. let z : p ≡ entryRoom e - suc (b .high) = q in absurd (omega arith)));

@@ -8,7 +8,7 @@ use native.Mathlib.Omega.{arith}
 use Rattle.base.specs.Run.{run, sums}
 use Rattle.place.specs.declared.Item.{Item}
 use Rattle.place.specs.Mark.{Mark, finish, Around, top, within, block, repeat, Sheet, closed, marked, written, plain}
-use Rattle.sheet.specs.Records.{entryRoom, apertureRoom}
+use Rattle.sheet.specs.Records.{entryWidth, entryRoom, apertureRoom}
 use Rattle.sheet.specs.Meaning.{sheetItems}
 use Rattle.sheet.specs.Valid.{most, valid}
 use Rattle.sheet.specs.declared.Aperture.{Aperture}
@@ -95,9 +95,9 @@ module _ (ms : List Mark) (e e′ a : List ℕ) (n : ℕ) (b : Builder) (holds :
   unfolding Opened
   ends top blocks here h = (
     finish-valid blocks here e a (entryRoom e) n (b .closed) (b .high) (b .start) (b .height) (b .items) h (headOf unit b n macros numbers) e′ headed
-        (ap (λ x. x / 15) (ended .as-long)) rooms few (ended .same-closed) (ended .settled),
+        (ap (λ x. x / entryWidth) (ended .as-long)) rooms few (ended .same-closed) (ended .settled),
     finish-items blocks here e a (entryRoom e) n (b .closed) (b .high) (b .start) (b .height) (b .items) h (headOf unit b n macros numbers) e′ headed
-        (ap (λ x. x / 15) (ended .as-long)) rooms few (ended .same-closed) (ended .settled),
+        (ap (λ x. x / entryWidth) (ended .as-long)) rooms few (ended .same-closed) (ended .settled),
   )
   ends (within (block m) before around) blocks here h = let lower = h .opened .0 .lower in absurd (omega arith)
   ends (within (repeat r) before around) blocks here h = let nine = h .opened .0 .height in absurd (omega arith)

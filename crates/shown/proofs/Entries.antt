@@ -1,13 +1,12 @@
 -- The entries that marks leave are in order, and say what the marks said.
 -- Assumes nothing.
-use Prim.Native.Nat.{ℕ, suc, _+_, _-_, _*_, _%_, _≤_, _<_, _^_}
+use Prim.Native.Nat.{ℕ, suc, _+_, _-_, _*_, _/_, _%_, _≤_, _<_, _^_}
 use mathlib.Core.Path.{_≡_, refl, ap}
 use mathlib.Core.Bool.{Bool, true, false}
 use mathlib.Core.List.{List}
 use native.Mathlib.Omega.{arith}
 use lib.Dec.{eqb, leb}
 use lib.IntN.{ℤ, natAbs}
-use lib.ListN.{length}
 use mir.Syntax.{w64}
 use mir.Val.{ofZ}
 use borrow.Author.Tests.{eq-eqb, le-leb, lt-ltb, ne-eqb}
@@ -19,15 +18,14 @@ use Rattle.points.specs.Points.{pt, Within}
 use Rattle.place.specs.declared.Item.{Item}
 use Rattle.place.specs.declared.Pose.{Pose}
 use Rattle.place.specs.Placing.{quarterTurn, PoseWithin, ItemWithin}
-use Rattle.sheet.specs.Records.{roleOf, entryRoom, entryWords}
+use Rattle.sheet.specs.Records.{entryWidth, roleOf, entryRoom, entryWords}
 use Rattle.sheet.specs.Containers.{blockOf}
 use Rattle.sheet.specs.Meaning.{flagWord, pointOf, drawn, poseOf}
 use Rattle.sheet.specs.Valid.{far, isNear, okPoints, okWords, isBlock, okUse, okRole, okEntry}
 use Rattle.sheet.specs.declared.Entry.{Entry}
 use Rattle.sheet.specs.declared.Role.the-variants.{Draws}
 use Rattle.sheet.proofs.Stored.{stored-long, entry-stored, entry-kept}
-use Rattle.stack.specs.Stack.{hasRoom, pushed}
-use Rattle.stack.proofs.Turning.{room-left}
+use Rattle.stack.specs.Stack.{pushed}
 use Rattle.building.proofs.Push.{Pushed}
 use Rattle.build.specs.Entries.{itemEntry, useEntry}
 
@@ -116,17 +114,12 @@ module _ (before who : ℕ) (m : Pose) (place : ℕ) (w : PoseWithin far m) wher
       (and-i _ _ (lt-ltb _ _ l) (and-i _ _ (and-i _ _ q (lt-ltb _ _ lower)) (eq-eqb _ _ quarters)))
 
 -- an entry pushed is the next of the stack, and every other stays
-pub pushed-is : (e : List ℕ) (closed high : ℕ) (r : Entry) → hasRoom e closed high ≡ true → Pushed e (pushed e closed high r) (entryRoom e) high r
+pub pushed-is : (e : List ℕ) (high : ℕ) (r : Entry) → high < entryRoom e → Pushed e (pushed e high r) (entryRoom e) high r
 unfolding pushed entryWords
-pushed-is e closed high r q =
-    let l = room-left e closed high q in
+pushed-is e high r left =
     let at : entryRoom e - suc high < entryRoom e = omega arith in
-    let long = stored-long e ((entryRoom e - suc high) * 15) (entryWords r) (words e (entryRoom e - suc high) r at) in
-    rw q (record {
-      as-long = ap (λ x. Prim.Native.Nat._/_ x 15) long;
+    record {
+      as-long = ap (λ x. x / entryWidth) (stored-long e ((entryRoom e - suc high) * entryWidth) (entryWords r) (omega arith));
       new = entry-stored e (entryRoom e - suc high) r at;
       kept = λ j ne. entry-kept e (entryRoom e - suc high) r at j ne;
-    })
-  where
-    words : (e : List ℕ) (i : ℕ) (r : Entry) → i < entryRoom e → i * 15 + length (entryWords r) ≤ length e
-    words e i r l = let long : length (entryWords r) ≡ 15 = refl in omega arith
+    }

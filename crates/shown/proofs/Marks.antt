@@ -15,14 +15,14 @@ use Rattle.place.specs.declared.Repeat.{Repeat}
 use Rattle.place.specs.Mark.{Mark, flash, begin, block, repeat, edges, Sheet, put, closed, marked, written}
 use Rattle.place.specs.Placing.{quarterTurn, PoseWithin, ItemWithin}
 use Rattle.place.proofs.Marks.{written-append}
-use Rattle.sheet.specs.Records.{apertureOf, roleOf}
+use Rattle.sheet.specs.Records.{entryRoom, apertureOf, roleOf}
 use Rattle.sheet.specs.Containers.{blockOf}
 use Rattle.sheet.specs.Meaning.{repeatOf}
 use Rattle.sheet.specs.Valid.{most, far, isBlock, okCounts}
-use Rattle.stack.specs.Stack.{hasRoom, pushed}
-use Rattle.stack.proofs.Turning.{room-left}
+use Rattle.sheet.specs.declared.Entry.{Entry}
+use Rattle.stack.specs.Stack.{pushed}
 use Rattle.building.proofs.Grow.{MayRise, stays-as-high}
-use Rattle.building.proofs.Push.{push-item, push-flash, open-block, open-repeat}
+use Rattle.building.proofs.Push.{Pushed, push-item, push-flash, open-block, open-repeat}
 use Rattle.build.specs.declared.Builder.{Builder}
 use Rattle.build.specs.Entries.{itemEntry, useEntry, blockEntry, repeatEntry}
 use Rattle.build.specs.Builder.{raised, grown, inner}
@@ -58,50 +58,53 @@ raised-rises h k eight lower = go (leb h k) refl
         record { rises = omega arith; stays = λ m. absurd (omega arith); lower = λ m. omega arith }
     go false q = stays-as-high h
 
-module _ (s : Sheet) (e a : List ℕ) (room n : ℕ) (b : Builder) (holds : Holds s e a room n b) (left : hasRoom e (b .closed) (b .high) ≡ true) where
+module _ (s : Sheet) (e a : List ℕ) (room n : ℕ) (b : Builder) (holds : Holds s e a room n b) (left : b .closed + b .high < entryRoom e) where
   fits : b .closed + b .high < room
-  fits = rw (holds .as-long) at (room-left e (b .closed) (b .high) left)
+  fits = rw (holds .as-long) at left
+
+  pushes : (r : Entry) → Pushed e (pushed e (b .high) r) room (b .high) r
+  pushes r = rw (holds .as-long) at (pushed-is e (b .high) r (omega arith))
 
   -- an item
   pub puts-item : (t : Item) → ItemWithin far t → 1 ≤ t .kind → t .kind ≤ 8 → t .place ≡ t .outer →
-      Holds (put (t ∷ []) s) (pushed e (b .closed) (b .high) (itemEntry (b .items) t)) a room n (grown b 1 (b .height))
+      Holds (put (t ∷ []) s) (pushed e (b .high) (itemEntry (b .items) t)) a room n (grown b 1 (b .height))
   unfolding grown
   puts-item t w low high own =
       rw (item-shows (b .items) t w own, ← add-one (b .high)) at
       (push-item s e a room n (b .closed) (b .high) (b .start) (b .height) (b .items) holds (itemEntry (b .items) t) _
-      (rw (holds .as-long) at (pushed-is e (b .closed) (b .high) (itemEntry (b .items) t) left)) fits
+      (pushes (itemEntry (b .items) t)) fits
       (item-role (b .items) t w low high) (item-before (b .items) t) (item-ok (b .items) t w a n (b .height) low high))
 
   -- a flash of a block, which makes the open one no higher than 8
   pub puts-flash : (who : ℕ) (m : Pose) (place : ℕ) → PoseWithin far m → m .angle % quarterTurn ≡ 0 → who < n → isBlock a who ≡ true → blockOf a who .height ≤ 8 →
       (b .height ≤ 8 → blockOf a who .height ≤ 7) →
-      Holds (marked (flash (apertureOf a who .number) m place) [] s) (pushed e (b .closed) (b .high) (useEntry (b .items) who m place)) a room n
+      Holds (marked (flash (apertureOf a who .number) m place) [] s) (pushed e (b .high) (useEntry (b .items) who m place)) a room n
       (grown b (blockOf a who .items) (raised (b .height) (blockOf a who .height)))
   unfolding grown marked useEntry roleOf
   puts-flash who m place w quarters l q eight lower =
       rw (pose-shows (b .items) who m place w, ← add-one (b .high)) at
       (push-flash s e a room n (b .closed) (b .high) (b .start) (b .height) (b .items) holds (useEntry (b .items) who m place) _
-      (rw (holds .as-long) at (pushed-is e (b .closed) (b .high) (useEntry (b .items) who m place) left)) fits
+      (pushes (useEntry (b .items) who m place)) fits
       (raised (b .height) (blockOf a who .height)) refl l q (raised-rises (b .height) (blockOf a who .height) eight lower) refl
       (use-ok (b .items) who m place w a n (raised (b .height) (blockOf a who .height)) l q (raised-above (b .height) (blockOf a who .height)) quarters))
 
   -- a block that opens in the next aperture record
   pub opens-block : (m place : ℕ) (a′ : List ℕ) → ((c : ℕ) → c < n → apertureOf a c ≡ apertureOf a′ c) → apertureOf a′ n .number ≡ m → isBlock a′ n ≡ false →
       ((c d : ℕ) → c < suc n → d < suc n → apertureOf a′ c .number ≡ apertureOf a′ d .number → c ≡ d) →
-      Holds (marked (begin (block m)) [] s) (pushed e (b .closed) (b .high) (blockEntry (b .items) n (b .start) (b .height) place)) a′ room (suc n) (inner b 1)
+      Holds (marked (begin (block m)) [] s) (pushed e (b .high) (blockEntry (b .items) n (b .start) (b .height) place)) a′ room (suc n) (inner b 1)
   unfolding inner blockEntry
   opens-block m place a′ same number none distinct =
       rw (← add-one (b .high)) at
       (open-block s e a room n (b .closed) (b .high) (b .start) (b .height) (b .items) holds (blockEntry (b .items) n (b .start) (b .height) place) _
-      (rw (holds .as-long) at (pushed-is e (b .closed) (b .high) (blockEntry (b .items) n (b .start) (b .height) place) left)) fits
+      (pushes (blockEntry (b .items) n (b .start) (b .height) place)) fits
       m a′ refl refl refl refl same number none distinct)
 
   -- a repeat that opens at the top level
   pub opens-repeat : (r : Repeat) (place : ℕ) → b .height ≡ 10 → 1 ≤ r .nx → r .nx ≤ 9999 → 1 ≤ r .ny → r .ny ≤ 9999 → r .dx ≤ most → r .dy ≤ most →
-      Holds (marked (begin (repeat r)) [] s) (pushed e (b .closed) (b .high) (repeatEntry (b .items) (b .start) r place)) a room n (inner b 9)
+      Holds (marked (begin (repeat r)) [] s) (pushed e (b .high) (repeatEntry (b .items) (b .start) r place)) a room n (inner b 9)
   unfolding inner repeatEntry repeatOf okCounts
   opens-repeat r place ten nx nx′ ny ny′ dx dy =
       rw (← add-one (b .high)) at
       (open-repeat s e a room n (b .closed) (b .high) (b .start) (b .height) (b .items) holds (repeatEntry (b .items) (b .start) r place) _
-      (rw (holds .as-long) at (pushed-is e (b .closed) (b .high) (repeatEntry (b .items) (b .start) r place) left)) fits
+      (pushes (repeatEntry (b .items) (b .start) r place)) fits
       r ten refl refl (and-i _ _ (and-i _ _ (le-leb _ _ nx) (le-leb _ _ nx′)) (and-i _ _ (le-leb _ _ ny) (le-leb _ _ ny′))) dx dy refl)

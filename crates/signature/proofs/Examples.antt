@@ -10,8 +10,9 @@ use Rattle.base.specs.Or.{_or_}
 use Rattle.base.specs.Bytes.{sameBytes}
 use Rattle.text.specs.First.{firstIn}
 use Rattle.text.specs.Text.{text, among}
-use Rattle.scan.specs.Permitted.{printable, breaksAfter, mayBreak, permitted, badIn}
-use Rattle.scan.specs.Scan.{kindOf, textFrom, endOf, commandFrom, commandAt, nextCommand}
+use Rattle.scan.specs.Fields.{inField}
+use Rattle.scan.specs.Permitted.{printable, breaksAfter, mayBreak, permitted, letterHere, badIn}
+use Rattle.scan.specs.Scan.{kindOf, textFrom, endOf, cutBy, commandIn, nextCommand}
 use Rattle.scan.specs.Tail.{tailOf}
 use Rattle.digest.specs.Text.{unbroken}
 use Rattle.hex.specs.Digits.{hexDigit, hexDigits}
@@ -54,5 +55,5 @@ abbrev refusal : String × ℕ × ℕ → ℕ × ℕ
 refusal row = (row .1, row .2)
 
 files-hold : map (λ row. told (text (row .0))) files ≡ map refusal files
-unfolding signatureOf walked atEnd judged refused bare isEnd isSignature hexDigits hexDigit digitsOf unbroken tailOf nextCommand commandAt commandFrom kindOf textFrom endOf badIn permitted printable mayBreak breaksAfter firstIn among sameBytes _and_ _or_
+unfolding signatureOf walked atEnd judged refused bare isEnd isSignature hexDigits hexDigit digitsOf unbroken tailOf nextCommand commandIn cutBy kindOf textFrom endOf inField letterHere badIn permitted printable mayBreak breaksAfter firstIn among sameBytes _and_ _or_
 files-hold = refl

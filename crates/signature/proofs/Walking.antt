@@ -8,6 +8,7 @@ use native.Mathlib.Omega.{arith}
 use lib.ListN.{length}
 use Rattle.scan.specs.Scan.{nextCommand}
 use Rattle.scan.specs.declared.Kind.{Kind}
+use Rattle.scan.specs.declared.Letters.the-variants.{Old}
 use Rattle.scan.specs.declared.Scan.{Scan}
 use Rattle.scan.specs.declared.Scan.the-variants.{Command, BadByte, Ended}
 use Rattle.scan.proofs.Within.{Within, next-within}
@@ -25,8 +26,8 @@ unfolding signatureOf
 starts file = record { fuel = suc (length file); inside = omega arith; enough = omega arith; same = refl }
 
 module _ {file : List ℕ} {from at : ℕ} (w : Walking file from at) where
-  within : {r : Scan} → nextCommand file at ≡ r → Within (length file) at r
-  within e = rw e at (next-within file at (w .inside))
+  within : {r : Scan} → nextCommand Old file at ≡ r → Within (length file) at r
+  within e = rw e at (next-within Old file at (w .inside))
 
   fuelled : (A : Type 0) → ((m : ℕ) → w .fuel ≡ suc m → A) → A
   fuelled A f = go (w .fuel) refl
@@ -35,7 +36,7 @@ module _ {file : List ℕ} {from at : ℕ} (w : Walking file from at) where
       go zero e = absurd (omega (arith, w .inside, w .enough, e))
       go (suc m) e = f m e
 
-  module _ {kind : Kind} {place text end next : ℕ} (e : nextCommand file at ≡ Command kind place text end next) where
+  module _ {kind : Kind} {place text end next : ℕ} (e : nextCommand Old file at ≡ Command kind place text end next) where
     pub moves : (at < next) × (next ≤ length file)
     moves = let k = within e in (omega (arith, k .0, k .1, k .2, k .3), k .4)
 
@@ -55,10 +56,10 @@ module _ {file : List ℕ} {from at : ℕ} (w : Walking file from at) where
     unfolding walked
     ends t = fuelled _ (λ m k. rw (k, walked, e, t) at (w .same))
 
-  pub bad : {place : ℕ} → nextCommand file at ≡ BadByte place → refused 2 place ≡ signatureOf file
+  pub bad : {place : ℕ} → nextCommand Old file at ≡ BadByte place → refused 2 place ≡ signatureOf file
   unfolding walked
   bad e = fuelled _ (λ m k. rw (k, walked, e) at (w .same))
 
-  pub over : {place : ℕ} → nextCommand file at ≡ Ended place → refused 3 place ≡ signatureOf file
+  pub over : {place : ℕ} → nextCommand Old file at ≡ Ended place → refused 3 place ≡ signatureOf file
   unfolding walked
   over e = fuelled _ (λ m k. rw (k, walked, e) at (w .same))

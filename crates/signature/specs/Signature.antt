@@ -6,6 +6,7 @@ use lib.ListN.{length, replicate}
 use lib.Seq.{slice}
 use Rattle.scan.specs.Scan.{nextCommand}
 use Rattle.scan.specs.Tail.{tailOf}
+use Rattle.scan.specs.declared.Letters.the-variants.{Old}
 use Rattle.scan.specs.declared.Scan.the-variants.{Command, BadByte, Ended}
 use Rattle.scan.specs.declared.Tail.the-variants.{Clean, Unprintable, More}
 use Rattle.digest.specs.Md5.{md5}
@@ -44,7 +45,7 @@ atEnd file from to place next =
 unfoldable pub walked : ℕ → List ℕ → ℕ → ℕ → Answer
 walked zero file from at = refused 3 (length file)
 walked (suc n) file from at =
-    elim (nextCommand file at) [
+    elim (nextCommand Old file at) [
       | Command kind place text end next ↦ elim (isEnd (bare file place next)) [
         | true ↦ atEnd file from at place next
         | false ↦ walked n file place next

@@ -1,5 +1,6 @@
 // The signature of a file: the `.MD5` just before M02 compared with the digest of what stands before it.
 use digest::State;
+use scan::Letters;
 use scan::Scan;
 use scan::Tail;
 ghost use mathlib.Core.Path.{_≡_};
@@ -152,7 +153,7 @@ pub fn check(file: &[u8]) -> Answer
     let mut from: usize = 0;
     let mut at: usize = 0;
     loop {
-        let s = scan::next_command(file, at);
+        let s = scan::next_command(Letters::Old, file, at);
         match s {
             Scan::Command {
                 kind,

@@ -10,10 +10,10 @@ use native.Mathlib.Omega.{arith}
 use lib.Dec.{ltb}
 use lib.ListN.{length}
 use borrow.Author.Tests.{ltb-true, ltb-false}
-use Rattle.sheet.specs.Records.{entryOf, entryRoom, entryWords, stored}
+use Rattle.sheet.specs.Records.{entryWidth, entryOf, entryRoom, entryWords, stored}
 use Rattle.sheet.specs.declared.Entry.{Entry}
 use Rattle.sheet.proofs.Stored.{entry-stored, entry-kept}
-use Rattle.stack.specs.Stack.{hasRoom, pushed, Turned}
+use Rattle.stack.specs.Stack.{hasRoom, Turned}
 
 -- the first i and the last i of the entries from lo up to hi have changed places
 pub record Swapped (e e′ : List ℕ) (lo hi i : ℕ) : Type 0 where
@@ -39,9 +39,9 @@ swapped-none e lo hi l = record {
 -- one pair more
 module _ (e e′ e″ : List ℕ) (lo hi i j : ℕ) (x y : Entry) (s : Swapped e e′ lo hi i) (at-j : j ≡ hi - suc i) (apart : lo + i < j) (room : hi ≤ entryRoom e)
     (x-is : x ≡ entryOf e′ (lo + i)) (y-is : y ≡ entryOf e′ j) (long : length e″ ≡ length e)
-    (stores : e″ ≡ stored (stored e′ ((lo + i) * 15) (entryWords y)) (j * 15) (entryWords x)) (mid : length (stored e′ ((lo + i) * 15) (entryWords y)) ≡ length e′) where
+    (stores : e″ ≡ stored (stored e′ ((lo + i) * entryWidth) (entryWords y)) (j * entryWidth) (entryWords x)) (mid : length (stored e′ ((lo + i) * entryWidth) (entryWords y)) ≡ length e′) where
   first : List ℕ
-  first = stored e′ ((lo + i) * 15) (entryWords y)
+  first = stored e′ ((lo + i) * entryWidth) (entryWords y)
 
   room-low : lo + i < entryRoom e′
   room-low = let l = s .as-long in omega arith
@@ -120,22 +120,11 @@ turned-met e e′ lo hi n i less fit met s =
     go k l true q = s .lows k (ltb-true k i q)
     go k l false q = mirror k l (ltb-false k i q) (ltb (hi - suc (lo + k)) i) refl (s .apart)
 
--- what a test that there is room says, and one that there is none
+-- what a test that there is room says
 pub room-left : (e : List ℕ) (closed high : ℕ) → hasRoom e closed high ≡ true → closed + high < entryRoom e
 unfolding hasRoom
 room-left e closed high q = ltb-true _ _ q
 
-pub pushed-to : (e e′ : List ℕ) (closed high : ℕ) (r : Entry) (t : Bool) → t ≡ hasRoom e closed high → t ≡ true →
-    e′ ≡ stored e ((entryRoom e - 1 - high) * 15) (entryWords r) → (true ≡ hasRoom e closed high) × (e′ ≡ pushed e closed high r)
-unfolding pushed
-pushed-to e e′ closed high r t q taken is =
-    let h : hasRoom e closed high ≡ true = sym q ∙ taken in
-    let p : entryRoom e - 1 - high ≡ entryRoom e - suc high = omega arith in
-    (sym h, rw h (rw p at is))
-
-pub pushed-not : (e : List ℕ) (closed high : ℕ) (r : Entry) (t : Bool) → t ≡ hasRoom e closed high → t ≡ false →
-    (false ≡ hasRoom e closed high) × (e ≡ pushed e closed high r)
-unfolding pushed
-pushed-not e closed high r t q left =
-    let h : hasRoom e closed high ≡ false = sym q ∙ left in
-    (sym h, rw h)
+-- the record below the stack's last
+pub next-down : (e : List ℕ) (high : ℕ) → entryRoom e - 1 - high ≡ entryRoom e - suc high
+next-down e high = omega arith

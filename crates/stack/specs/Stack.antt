@@ -1,11 +1,11 @@
 -- Entries on the stack: one more, and a container's turned over to behind the closed ones.
 use Prim.Native.Nat.{ℕ, suc, _+_, _-_, _*_, _≤_, _<_}
 use mathlib.Core.Path.{_≡_}
-use mathlib.Core.Bool.{Bool, cond}
+use mathlib.Core.Bool.{Bool}
 use mathlib.Core.List.{List}
 use lib.Dec.{ltb}
 use lib.ListN.{length}
-use Rattle.sheet.specs.Records.{entryOf, entryRoom, entryWords, stored}
+use Rattle.sheet.specs.Records.{entryWidth, entryOf, entryRoom, entryWords, stored}
 use Rattle.sheet.specs.declared.Entry.{Entry}
 
 -- room for an entry more, where some are closed and `high` lie on the stack (01, 17: "room used up")
@@ -13,8 +13,8 @@ unfoldable pub hasRoom : List ℕ → ℕ → ℕ → Bool
 hasRoom e closed high = ltb (closed + high) (entryRoom e)
 
 -- the stack grows down from the last record
-unfoldable pub pushed : List ℕ → ℕ → ℕ → Entry → List ℕ
-pushed e closed high r = cond (hasRoom e closed high) (stored e ((entryRoom e - suc high) * 15) (entryWords r)) e
+unfoldable pub pushed : List ℕ → ℕ → Entry → List ℕ
+pushed e high r = stored e ((entryRoom e - suc high) * entryWidth) (entryWords r)
 
 -- the n entries before record hi lie from record lo on, the last first, and what lay there is where they were
 pub record Turned (e e′ : List ℕ) (lo hi n : ℕ) : Type 0 where

@@ -1,7 +1,7 @@
 // The room for entries while a file is read: closed containers from record 0 on, open ones on a stack that grows down from the last record (decision 231).
 use sheet::Entry;
 ghost use mathlib.Core.Path.{_≡_};
-ghost use Prim.Native.Nat.{_+_, _≤_};
+ghost use Prim.Native.Nat.{_+_, _≤_, _<_};
 ghost use Rattle.sheet.specs.Records.{entryRoom};
 ghost use Rattle.stack.specs.Stack.{hasRoom, pushed, Turned};
 
@@ -9,23 +9,19 @@ ghost use Rattle.stack.specs.Stack.{hasRoom, pushed, Turned};
 pub fn has_room(e: &[u64], closed: usize, high: usize) -> bool
     ensures { λ t. ⌜ t ≡ hasRoom (now (e .entry)) closed high ⌝ }
 {
-    let room = e.len() / 15;
+    let room = e.len() / sheet::ENTRY_WORDS;
     if high < room {
         return closed < room - high;
     }
     false
 }
 
-// Stores the next entry of the stack, if there is room for it.
-pub fn push(e: &mut [u64], closed: usize, high: usize, r: Entry) -> bool
-    ensures { λ t. ⌜ (t ≡ hasRoom (now (e .entry)) closed high) × (now (e .exit) ≡ pushed (now (e .entry)) closed high r) ⌝ }
+// Stores the next entry of the stack.
+pub fn push(e: &mut [u64], high: usize, r: Entry)
+    requires { ⌜ high < entryRoom (now e) ⌝ }
+    ensures { λ _. ⌜ now (e .exit) ≡ pushed (now (e .entry)) high r ⌝ }
 {
-    if has_room(e, closed, high) {
-        let room = e.len() / 15;
-        sheet::put_entry(e, room - 1 - high, r);
-        return true;
-    }
-    false
+    sheet::put_entry(e, e.len() / sheet::ENTRY_WORDS - 1 - high, r);
 }
 
 // Turns the last n entries before record hi over to record lo: the last of them becomes the first.

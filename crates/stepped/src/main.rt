@@ -1,11 +1,15 @@
 // One graphics state stepped through commands, accepted and refused, each by a state that is lent and handed back. A line is the
 // command, its number, and the state behind it. The file `stdout` was worked out by hand, from document 01.
 use command::Axis;
+use command::Bracket;
 use command::Command;
+use command::Flaw;
 use command::Offset;
+use command::Operation;
+use command::Setting;
 use decimal::Amount;
-use fits::Level;
 use graphics::Graphics;
+use graphics::Level;
 use libc::STDOUT_FILENO;
 
 fn field(w: u64) {
@@ -50,18 +54,40 @@ fn take(g: Graphics, text: &[u8], c: Command, inside: u64, found: u64) -> Graphi
     behind
 }
 
+fn set(s: Setting) -> Command {
+    Command::Set(s)
+}
+
+fn scale(factor: Amount) -> Command {
+    set(Setting::Scale { factor, rounded: 0 })
+}
+
+fn go(x: Axis, y: Axis) -> Command {
+    Command::Operate(Operation::Move { x, y })
+}
+
+fn flash(x: Axis, y: Axis) -> Command {
+    Command::Operate(Operation::Flash { x, y })
+}
+
+// A line.
+fn draw(x: Axis, y: Axis) -> Command {
+    let centre = Offset::Missing;
+    Command::Operate(Operation::Draw { x, y, centre })
+}
+
 fn settings(g: Graphics) -> Graphics {
     let x = Axis::At(1000000);
     let y = Axis::At(1000000);
     let half = Amount { millionths: 500000 };
     let none = Amount { millionths: 0 };
-    let g1 = take(g, b"X1000000Y1000000D02", Command::Move { x, y }, 0, 0);
-    let g2 = take(g1, b"FSLAX46Y46", Command::Format(6), 0, 0);
-    let g3 = take(g2, b"FSLAX45Y45", Command::Format(5), 0, 0);
-    let g4 = take(g3, b"MOMM", Command::Millimetres, 0, 0);
-    let g5 = take(g4, b"LS0.5", Command::Scale(half), 0, 0);
-    let g6 = take(g5, b"LS0", Command::Scale(none), 0, 0);
-    take(g6, b"LPC", Command::Clear, 0, 0)
+    let g1 = take(g, b"X1000000Y1000000D02", go(x, y), 0, 0);
+    let g2 = take(g1, b"FSLAX46Y46", set(Setting::Format(6)), 0, 0);
+    let g3 = take(g2, b"FSLAX45Y45", set(Setting::Format(5)), 0, 0);
+    let g4 = take(g3, b"MOMM", set(Setting::Millimetres), 0, 0);
+    let g5 = take(g4, b"LS0.5", scale(half), 0, 0);
+    let g6 = take(g5, b"LS0", scale(none), 0, 0);
+    take(g6, b"LPC", set(Setting::Clear), 0, 0)
 }
 
 // D10, D03 and AB ask the stores: their number is handed in.
@@ -69,53 +95,36 @@ fn places(g: Graphics) -> Graphics {
     let x = Axis::At(5000000);
     let y = Axis::At(-2500000);
     let kept = Axis::Missing;
-    let g1 = take(g, b"X5000000D02", Command::Move { x, y: kept }, 0, 0);
-    let g2 = take(g1, b"X5000000Y-2500000D02", Command::Move { x, y }, 0, 0);
+    let opens = Command::Contain(Bracket::BlockStart(11));
+    let closes = Command::Contain(Bracket::BlockEnd);
+    let g1 = take(g, b"X5000000D02", go(x, kept), 0, 0);
+    let g2 = take(g1, b"X5000000Y-2500000D02", go(x, y), 0, 0);
     let g3 = take(g2, b"D10", Command::Select(10), 0, 8);
-    let g4 = take(
-        g3,
-        b"X0D03",
-        Command::Flash {
-            x: Axis::At(0),
-            y: kept,
-        },
-        0,
-        11,
-    );
-    let g5 = take(g4, b"ABD11", Command::BlockStart(11), 0, 0);
+    let g4 = take(g3, b"X0D03", flash(Axis::At(0), kept), 0, 11);
+    let g5 = take(g4, b"ABD11", opens, 0, 0);
     let g6 = take(g5, b"M02", Command::End, 1, 0);
-    take(g6, b"AB", Command::BlockEnd, 1, 0)
+    take(g6, b"AB", closes, 1, 0)
 }
 
 fn region(g: Graphics) -> Graphics {
     let x = Axis::At(0);
     let y = Axis::At(-7);
     let kept = Axis::Missing;
-    let centre = Offset::Missing;
-    let g1 = take(g, b"G36", Command::RegionStart, 0, 0);
-    let g2 = take(g1, b"G01", Command::Linear, 0, 0);
-    let g3 = take(g2, b"LPD", Command::Dark, 0, 0);
-    let g4 = take(g3, b"X0Y-7D02", Command::Move { x, y }, 0, 0);
-    let g5 = take(
-        g4,
-        b"Y0D01",
-        Command::Draw {
-            x: kept,
-            y: x,
-            centre,
-        },
-        0,
-        0,
-    );
-    let g6 = take(g5, b"G37", Command::RegionEnd, 0, 0);
-    let g7 = take(g6, b"Y-7D01", Command::Draw { x: kept, y, centre }, 0, 0);
-    take(g7, b"G37", Command::RegionEnd, 0, 0)
+    let g1 = take(g, b"G36", set(Setting::RegionStart), 0, 0);
+    let g2 = take(g1, b"G01", set(Setting::Linear), 0, 0);
+    let g3 = take(g2, b"LPD", set(Setting::Dark), 0, 0);
+    let g4 = take(g3, b"X0Y-7D02", go(x, y), 0, 0);
+    let g5 = take(g4, b"Y0D01", draw(kept, x), 0, 0);
+    let g6 = take(g5, b"G37", set(Setting::RegionEnd), 0, 0);
+    let g7 = take(g6, b"Y-7D01", draw(kept, y), 0, 0);
+    take(g7, b"G37", set(Setting::RegionEnd), 0, 0)
 }
 
 fn main() {
     let g1 = settings(graphics::start());
     let g2 = places(g1);
     let g3 = region(g2);
-    let g4 = take(g3, b"G05", Command::NotForm, 0, 0);
+    let unknown = Command::Broken(Flaw::NotForm);
+    let g4 = take(g3, b"G05", unknown, 0, 0);
     take(g4, b"M02", Command::End, 0, 0);
 }

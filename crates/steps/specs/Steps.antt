@@ -6,7 +6,9 @@ use mathlib.Core.List.{List}
 use lib.ListN.{length}
 use lib.Seq.{slice}
 use Rattle.command.specs.declared.Span.{Span}
-use Rattle.command.specs.declared.Command.the-variants.{FileAttribute}
+use Rattle.command.specs.declared.Deed.{Deed}
+use Rattle.command.specs.declared.Deed.the-variants.{SetFile}
+use Rattle.command.specs.declared.Command.the-variants.{Attribute}
 use Rattle.commands.specs.declared.Placed.{Placed}
 use Rattle.bounds.specs.Bounded.{Bounded}
 use Rattle.reading.specs.State.{State}
@@ -24,9 +26,12 @@ pub record Sound (file : List ℕ) (c : Placed) : Type 0 where
   pub inside : c .end ≤ length file
   pub bounded : Bounded (slice (c .from) (c .end) file) (c .command)
 
--- `again` says of a TF whether its name was set before
+-- `again` says of a TF with this text whether its name was set before
+unfoldable pub AgainBy : List ℕ → Deed → Bool → State → Type 0
+AgainBy text d again s = (name value : Span) → d ≡ SetFile name value → again ≡ isAmong (part text name) (s .names)
+
 unfoldable pub Again : List ℕ → Placed → Bool → State → Type 0
-Again file c again s = (name value : Span) → c .command ≡ FileAttribute name value → again ≡ isAmong (part (slice (c .from) (c .end) file) name) (s .names)
+Again file c again s = (d : Deed) → c .command ≡ Attribute d → AgainBy (slice (c .from) (c .end) file) d again s
 
 -- w before the step, w′ behind it
 abbrev pub Reads : Lent → Lent → Progress → Placed → Bool → Stepped → Type 0

@@ -8,7 +8,7 @@ use native.Mathlib.Omega.{arith}
 use lib.Dec.{eqb}
 use lib.ListN.{length}
 use borrow.Author.Tests.{eqb-false}
-use Rattle.index.specs.Tree.{bitsAbove, linkOf, next, lastLink}
+use Rattle.index.specs.Tree.{recordWidth, bitsAbove, linkOf, next, lastLink}
 use Rattle.index.specs.Indexed.{Leads, here, on, Indexed}
 
 module _ (s t : List ℕ) {used : ℕ} {keyOf : ℕ → ℕ} (links : (i key : ℕ) → i < used → next t i key ≡ next s i key) (o : Indexed s keyOf used) where
@@ -20,7 +20,7 @@ module _ (s t : List ℕ) {used : ℕ} {keyOf : ℕ → ℕ} (links : (i key : �
       let q : Leads t (bitsAbove key) (next t i key) j = rw e (leads-agree (o .later i key l h .1) m) in
       on {key = key} {i = i} {j = j} p q
 
-  pub indexed-agree : (keyOf′ : ℕ → ℕ) → used * 8 ≤ length t → ((j : ℕ) → j < used → keyOf j ≡ keyOf′ j) → Indexed t keyOf′ used
+  pub indexed-agree : (keyOf′ : ℕ → ℕ) → used * recordWidth ≤ length t → ((j : ℕ) → j < used → keyOf j ≡ keyOf′ j) → Indexed t keyOf′ used
   indexed-agree keyOf′ room same = record {
     inside = room;
     later = λ i key l h. rw (links i key l) (o .later i key l (rw (links i key l) at h));

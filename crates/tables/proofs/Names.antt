@@ -10,7 +10,7 @@ use lib.ListN.{length, getD, set}
 use lib.Seq.{slice}
 use Rattle.base.specs.Bytes.{sameBytes}
 use Rattle.index.specs.declared.Search.the-variants.{Free}
-use Rattle.index.specs.Tree.{next, lastLink, linked}
+use Rattle.index.specs.Tree.{recordWidth, next, lastLink, linked}
 use Rattle.index.specs.Names.{nameOf, keyOf, named, Named}
 use Rattle.index.proofs.More.{named-more}
 use Rattle.sheet.specs.Records.{stored}
@@ -31,32 +31,32 @@ module _ (file s : List ℕ) (used : ℕ) (name : List ℕ) (link : ℕ) (free :
       first-free (λ i. sameBytes (nameOf file s i) name) 0 used (lastLink s used 0 (keyOf name)) link free .1 j (omega arith) (omega arith) e
 
 -- a table's names, where links and names are as they were
-named-agree : (file s t : List ℕ) (used : ℕ) → Named file s used → used * 8 ≤ length t → ((i key : ℕ) → i < used → next t i key ≡ next s i key)
+named-agree : (file s t : List ℕ) (used : ℕ) → Named file s used → used * recordWidth ≤ length t → ((i key : ℕ) → i < used → next t i key ≡ next s i key)
     → ((j : ℕ) → j < used → nameOf file t j ≡ nameOf file s j) → Named file t used
 named-agree file s t used n long links same = record {
   tree = indexed-agree s t links (n .tree) (λ i. keyOf (nameOf file t i)) long (λ j l. ap keyOf (sym (same j l)));
   distinct = λ i j a b e. n .distinct i j a b (rw (same i a, same j b) at e);
 }
 
-module _ (file s : List ℕ) (used : ℕ) (name : List ℕ) (link : ℕ) (w : List ℕ) (eight : length w ≡ 8) (room : used < length s / 8) (n : Named file s used)
+module _ (file s : List ℕ) (used : ℕ) (name : List ℕ) (link : ℕ) (w : List ℕ) (wide : length w ≡ recordWidth) (room : used < length s / recordWidth) (n : Named file s used)
     (free : named file s used name ≡ Free link) (is : slice (getD w 0 0) (getD w 1 0) file ≡ name) (low : getD w 6 0 ≡ 0) (high : getD w 7 0 ≡ 0) where
   abbrev t : List ℕ
-  t = stored s (used * 8) w
+  t = stored s (used * recordWidth) w
 
   old : (j : ℕ) → j < used → nameOf file t j ≡ nameOf file s j
   unfolding nameOf
-  old j l = λ x. slice (more-below s used w eight room (j * 8) (omega arith) x) (more-below s used w eight room (j * 8 + 1) (omega arith) x) file
+  old j l = λ x. slice (more-below s used w wide room (j * recordWidth) (omega arith) x) (more-below s used w wide room (j * recordWidth + 1) (omega arith) x) file
 
   own : nameOf file t used ≡ name
   unfolding nameOf
   own =
-      let p : getD t (used * 8) 0 ≡ getD w 0 0 = rw (add-zero (used * 8)) at (more-at s used w eight room 0 (omega arith)) in
-      let q : getD t (used * 8 + 1) 0 ≡ getD w 1 0 = more-at s used w eight room 1 (omega arith) in
+      let p : getD t (used * recordWidth) 0 ≡ getD w 0 0 = rw (add-zero (used * recordWidth)) at (more-at s used w wide room 0 (omega arith)) in
+      let q : getD t (used * recordWidth + 1) 0 ≡ getD w 1 0 = more-at s used w wide room 1 (omega arith) in
       (λ x. slice (p x) (q x) file) ∙ is
 
   same-end : lastLink t used 0 (keyOf (nameOf file t used)) ≡ link
   same-end = ap (λ (v : List ℕ). lastLink t used 0 (keyOf v)) own
-      ∙ end-agree s t (more-links s used w eight room) (n .tree) (keyOf name) used (le-refl used) ∙ name-ends file s used name link free
+      ∙ end-agree s t (more-links s used w wide room) (n .tree) (keyOf name) used (le-refl used) ∙ name-ends file s used name link free
 
   linked-is : linked t used (keyOf (nameOf file t used)) ≡ added s used link w
   linked-is = ap (λ (i : ℕ). set t i used) same-end ∙ sym (added-room s used link w room)
@@ -64,6 +64,6 @@ module _ (file s : List ℕ) (used : ℕ) (name : List ℕ) (link : ℕ) (w : Li
   pub named-added : Named file (added s used link w) (suc used)
   named-added = subst (λ (l : List ℕ). Named file l (suc used)) linked-is
       (named-more file t used
-      (named-agree file s t used n (let h = more-long s used w eight room in omega arith) (more-links s used w eight room) old)
-      (more-long s used w eight room) (more-free s used w eight room low high)
+      (named-agree file s t used n (let h = more-long s used w wide room in omega arith) (more-links s used w wide room) old)
+      (more-long s used w wide room) (more-free s used w wide room low high)
       (λ j l e. name-new file s used name link free j l (rw (old j l, own) at e)))

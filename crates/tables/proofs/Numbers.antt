@@ -9,7 +9,7 @@ use lib.Dec.{eqb}
 use lib.ListN.{length, getD, set}
 use borrow.Author.Tests.{eq-eqb}
 use Rattle.index.specs.declared.Search.the-variants.{Free}
-use Rattle.index.specs.Tree.{next, lastLink, linked}
+use Rattle.index.specs.Tree.{recordWidth, next, lastLink, linked}
 use Rattle.index.specs.Numbers.{numberOf, numbered, Numbered}
 use Rattle.index.proofs.More.{numbered-more}
 use Rattle.sheet.specs.Records.{stored}
@@ -30,26 +30,26 @@ module _ (s : List ℕ) (used number link : ℕ) (free : numbered s used number 
       first-free (λ i. eqb (numberOf s i) number) 0 used (lastLink s used 0 number) link free .1 j (omega arith) (omega arith) (eq-eqb (numberOf s j) number e)
 
 -- a table's numbers, where links and numbers are as they were
-pub numbered-agree : (s t : List ℕ) (used : ℕ) → Numbered s used → used * 8 ≤ length t → ((i key : ℕ) → i < used → next t i key ≡ next s i key)
+pub numbered-agree : (s t : List ℕ) (used : ℕ) → Numbered s used → used * recordWidth ≤ length t → ((i key : ℕ) → i < used → next t i key ≡ next s i key)
     → ((j : ℕ) → j < used → numberOf t j ≡ numberOf s j) → Numbered t used
 numbered-agree s t used n long links same = record {
   tree = indexed-agree s t links (n .tree) (numberOf t) long (λ j l. sym (same j l));
   distinct = λ i j a b e. n .distinct i j a b (sym (same i a) ∙ e ∙ same j b);
 }
 
-module _ (s : List ℕ) (used number link : ℕ) (w : List ℕ) (eight : length w ≡ 8) (room : used < length s / 8) (n : Numbered s used)
+module _ (s : List ℕ) (used number link : ℕ) (w : List ℕ) (wide : length w ≡ recordWidth) (room : used < length s / recordWidth) (n : Numbered s used)
     (free : numbered s used number ≡ Free link) (is : getD w 0 0 ≡ number) (low : getD w 6 0 ≡ 0) (high : getD w 7 0 ≡ 0) where
   abbrev t : List ℕ
-  t = stored s (used * 8) w
+  t = stored s (used * recordWidth) w
 
   old : (j : ℕ) → j < used → numberOf t j ≡ numberOf s j
-  old j l = more-below s used w eight room (j * 8) (omega arith)
+  old j l = more-below s used w wide room (j * recordWidth) (omega arith)
 
   own : numberOf t used ≡ number
-  own = rw (add-zero (used * 8)) at (more-at s used w eight room 0 (omega arith)) ∙ is
+  own = rw (add-zero (used * recordWidth)) at (more-at s used w wide room 0 (omega arith)) ∙ is
 
   same-end : lastLink t used 0 (numberOf t used) ≡ link
-  same-end = ap (lastLink t used 0) own ∙ end-agree s t (more-links s used w eight room) (n .tree) number used (le-refl used) ∙ number-ends s used number link free
+  same-end = ap (lastLink t used 0) own ∙ end-agree s t (more-links s used w wide room) (n .tree) number used (le-refl used) ∙ number-ends s used number link free
 
   linked-is : linked t used (numberOf t used) ≡ added s used link w
   linked-is = ap (λ (i : ℕ). set t i used) same-end ∙ sym (added-room s used link w room)
@@ -57,6 +57,6 @@ module _ (s : List ℕ) (used number link : ℕ) (w : List ℕ) (eight : length 
   pub numbered-added : Numbered (added s used link w) (suc used)
   numbered-added = subst (λ (l : List ℕ). Numbered l (suc used)) linked-is
       (numbered-more t used
-      (numbered-agree s t used n (let h = more-long s used w eight room in omega arith) (more-links s used w eight room) old)
-      (more-long s used w eight room) (more-free s used w eight room low high)
+      (numbered-agree s t used n (let h = more-long s used w wide room in omega arith) (more-links s used w wide room) old)
+      (more-long s used w wide room) (more-free s used w wide room low high)
       (λ j l e. number-new s used number link free j l (sym (old j l) ∙ e ∙ own)))

@@ -4,11 +4,15 @@ use mathlib.Core.List.{List, [], _∷_}
 use lib.ListN.{length, getD}
 use Rattle.tables.specs.declared.Macro.{Macro}
 
+-- its words
+abbrev pub macroWidth : ℕ
+macroWidth = 8
+
 abbrev pub macroRoom : List ℕ → ℕ
-macroRoom m = length m / 8
+macroRoom m = length m / macroWidth
 
 unfoldable pub macroOf : List ℕ → ℕ → Macro
-macroOf m i = record { from = getD m (i * 8) 0; to = getD m (i * 8 + 1) 0; first = getD m (i * 8 + 2) 0; end = getD m (i * 8 + 3) 0 }
+macroOf m i = record { from = getD m (i * macroWidth) 0; to = getD m (i * macroWidth + 1) 0; first = getD m (i * macroWidth + 2) 0; end = getD m (i * macroWidth + 3) 0 }
 
 -- its words as it is put into the table: the links lead nowhere yet
 unfoldable pub macroWords : Macro → List ℕ

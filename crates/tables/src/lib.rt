@@ -1,11 +1,15 @@
-// The tables of apertures and macros while a file is read: records of eight words that are found by number or by name (docs/SHEET.md, decision 209).
+// The tables of apertures and macros while a file is read: records that are found by number or by name (docs/SHEET.md, decision 209).
 use sheet::Aperture;
 ghost use mathlib.Core.Path.{_≡_};
 ghost use Prim.Native.Nat.{_≤_};
 ghost use lib.ListN.{length};
+ghost use Rattle.index.specs.Tree.{recordWidth};
 ghost use Rattle.tables.specs.Added.{hasRoom, added};
 ghost use Rattle.tables.specs.Apertures.{apertureWords};
 ghost use Rattle.tables.specs.Macros.{macroRoom, macroOf, macroWords};
+
+// The words of a macro.
+pub const MACRO_WORDS: usize = 8;
 
 // Where a macro's name and its blocks begin and end in the file.
 pub struct Macro {
@@ -15,13 +19,13 @@ pub struct Macro {
     pub end: usize,
 }
 
-// Stores the eight words w behind the records in use, and lets a link lead there; without room for them nothing changes.
+// Stores the words w of a record behind the records in use, and lets a link lead there; without room for them nothing changes.
 fn put_record(s: &mut [u64], used: usize, link: usize, w: &[u64]) -> bool
-    requires { ⌜ length (now w) ≡ 8 ⌝ }
+    requires { ⌜ length (now w) ≡ recordWidth ⌝ }
     ensures { λ t. ⌜ (t ≡ hasRoom (now (s .entry)) used) × (now (s .exit) ≡ added (now (s .entry)) used link (now (w .entry))) ⌝ }
 {
-    if used < s.len() / 8 {
-        sheet::put_words(s, used * 8, w);
+    if used < s.len() / index::RECORD_WORDS {
+        sheet::put_words(s, used * index::RECORD_WORDS, w);
         base::put(s, link, used as u64);
         return true;
     }
@@ -41,7 +45,7 @@ pub fn macro_at(m: &[u64], i: usize) -> Macro
     requires { ⌜ i ≤ macroRoom (now m) ⌝ }
     ensures { λ r. ⌜ r ≡ macroOf (now (m .entry)) i ⌝ }
 {
-    let p = i * 8;
+    let p = i * MACRO_WORDS;
     Macro {
         from: base::word_at(m, p) as usize,
         to: base::word_at(m, p + 1) as usize,

@@ -7,7 +7,7 @@ use lib.Dec.{eqb}
 use Rattle.base.specs.And.{_and_}
 use Rattle.base.specs.Or.{_or_}
 use Rattle.text.specs.Text.{_is_}
-use Rattle.command.specs.Choose.{choose}
+use Rattle.base.specs.Choose.{choose}
 use Rattle.decimal.specs.Amounts.{atLeastZero, aboveZero}
 use Rattle.decimal.specs.declared.answers.Amount.{Amount}
 use Rattle.primitives.specs.Rules.{wholeBetween}

@@ -51,10 +51,10 @@ fn is_polygon(q: Asked) -> bool
 pub fn kind_of(name: &[u8]) -> u64
     ensures { λ r. ⌜ r ≡ kindOf (now (name .entry)) ⌝ }
 {
-    let p = drawing::fault(text::is(name, b"P"), 4, 5);
-    let o = drawing::fault(text::is(name, b"O"), 3, p);
-    let r = drawing::fault(text::is(name, b"R"), 2, o);
-    drawing::fault(text::is(name, b"C"), 1, r)
+    let p = base::row(text::is(name, b"P"), 4, 5);
+    let o = base::row(text::is(name, b"O"), 3, p);
+    let r = base::row(text::is(name, b"R"), 2, o);
+    base::row(text::is(name, b"C"), 1, r)
 }
 
 // The parameters keep the rule of their template.

@@ -11,7 +11,7 @@ use Rattle.digits.specs.declared.answers.Natural.{Natural}
 use Rattle.digits.specs.declared.answers.Natural.the-variants as natural
 use Rattle.text.specs.First.{first}
 use Rattle.text.specs.Text.{byte}
-use Rattle.command.specs.Choose.{choose}
+use Rattle.base.specs.Choose.{choose}
 use Rattle.command.specs.Numbers.{sizeOf}
 use Rattle.command.specs.declared.Number.{Number}
 use Rattle.tokens.specs.Words.{numeral, joins, words}

@@ -9,6 +9,7 @@ use native.Mathlib.Omega.{arith}
 use lib.Dec.{eqb, leb}
 use borrow.Author.Tests.{le-leb}
 use Rattle.base.specs.Or.{_or_}
+use Rattle.command.specs.Rounded.{counted}
 use Rattle.tokens.specs.declared.Token.{Token}
 use Rattle.tokens.specs.declared.Token.the-variants as token
 use Rattle.form.specs.Expression.{start, afterOperand, afterOperator, opened, closed, unknown, step, walked, finished}
@@ -124,35 +125,39 @@ start-written d (begun plus) (begun l) ts e = no e
 start-written d (begun minus) (begun l) ts e = no e
 start-written d (behind r second) (begun l) ts e = no e
 
+-- what the walk says of the numbers that it passed: whether one is too long, and how many were rounded
+abbrev Passed : Type 0
+Passed = Bool × ℕ
+
 -- the walk's state
-walk-at : {D d : ℕ} → Around D d → Here d → Bool → Walk
-walk-at o (wants terms factors) long =
-    record { formless = false; long = long; deep = false; depth = open-in o; operand = false; sign = is-start terms factors }
-walk-at o (has terms t) long =
-    record { formless = false; long = long; deep = false; depth = open-in o; operand = true; sign = false }
+walk-at : {D d : ℕ} → Around D d → Here d → Passed → Walk
+walk-at o (wants terms factors) numbers =
+    record { formless = false; long = numbers .0; deep = false; depth = open-in o; operand = false; sign = is-start terms factors; rounded = numbers .1 }
+walk-at o (has terms t) numbers =
+    record { formless = false; long = numbers .0; deep = false; depth = open-in o; operand = true; sign = false; rounded = numbers .1 }
 
 -- ---- one token more
 
-record Goes {D d : ℕ} (o : Around D d) (p : Here d) (long : Bool) (t : Token) : Type 0 where
+record Goes {D d : ℕ} (o : Around D d) (p : Here d) (numbers : Passed) (t : Token) : Type 0 where
   left : ℕ
   around : Around D left
   here : Here left
-  any-long : Bool
-  walks : step (walk-at o p long) t ≡ walk-at around here any-long
+  onward : Passed
+  walks : step (walk-at o p numbers) t ≡ walk-at around here onward
   writes : (ts : List Token) → aroundWritten around (hereWritten left here ts) ≡ aroundWritten o (hereWritten d p (t ∷ ts))
 
-module _ {D d : ℕ} (o : Around D d) (terms : Terms d) (long : Bool) where
+module _ {D d : ℕ} (o : Around D d) (terms : Terms d) (numbers : Passed) where
   -- a number or a variable
-  leaf-goes : (factors : Factors d) (x : Factor (Inner d)) (t : Token) (l : Bool) →
-      step (walk-at o (wants terms factors) long) t ≡ walk-at o (has terms (plugged factors x)) l →
-      ((ts : List Token) → factorWritten (innerWritten d) x ts ≡ t ∷ ts) → Goes o (wants terms factors) long t
+  leaf-goes : (factors : Factors d) (x : Factor (Inner d)) (t : Token) (l : Passed) →
+      step (walk-at o (wants terms factors) numbers) t ≡ walk-at o (has terms (plugged factors x)) l →
+      ((ts : List Token) → factorWritten (innerWritten d) x ts ≡ t ∷ ts) → Goes o (wants terms factors) numbers t
   unfolding hereWritten termWritten
   leaf-goes factors x t l walks token =
       record {
         left = d;
         around = o;
         here = has terms (plugged factors x);
-        any-long = l;
+        onward = l;
         walks = walks;
         writes =
             λ ts.
@@ -161,29 +166,29 @@ module _ {D d : ℕ} (o : Around D d) (terms : Terms d) (long : Bool) where
       }
 
   sign-goes : (factors : Factors d) (l : Lead) (t : Token) →
-      step (walk-at o (wants terms factors) long) t ≡ walk-at o (wants (begun l) (begun nothing)) long →
-      ((ts : List Token) → leadWritten l ts ≡ t ∷ ts) → not (is-start terms factors) ≡ false → Goes o (wants terms factors) long t
+      step (walk-at o (wants terms factors) numbers) t ≡ walk-at o (wants (begun l) (begun nothing)) numbers →
+      ((ts : List Token) → leadWritten l ts ≡ t ∷ ts) → not (is-start terms factors) ≡ false → Goes o (wants terms factors) numbers t
   unfolding hereWritten aheadWritten
   sign-goes factors l t walks token e =
       record {
         left = d;
         around = o;
         here = wants (begun l) (begun nothing);
-        any-long = long;
+        onward = numbers;
         walks = walks;
         writes = λ ts. ap (aroundWritten o) (token ts ∙ start-written d terms factors (t ∷ ts) e);
       }
 
   plus-goes : (x : Term (Inner d)) (second : Bool) (t : Token) →
-      step (walk-at o (has terms x) long) t ≡ walk-at o (wants (behind (plugged terms x) second) (begun nothing)) long →
-      plusOr second ≡ t → Goes o (has terms x) long t
+      step (walk-at o (has terms x) numbers) t ≡ walk-at o (wants (behind (plugged terms x) second) (begun nothing)) numbers →
+      plusOr second ≡ t → Goes o (has terms x) numbers t
   unfolding hereWritten aheadWritten
   plus-goes x second t walks token =
       record {
         left = d;
         around = o;
         here = wants (behind (plugged terms x) second) (begun nothing);
-        any-long = long;
+        onward = numbers;
         walks = walks;
         writes =
             λ ts.
@@ -193,42 +198,42 @@ module _ {D d : ℕ} (o : Around D d) (terms : Terms d) (long : Bool) where
       }
 
   times-goes : (x : Term (Inner d)) (second : Bool) (t : Token) →
-      step (walk-at o (has terms x) long) t ≡ walk-at o (wants terms (behind x second)) long →
-      timesOr second ≡ t → Goes o (has terms x) long t
+      step (walk-at o (has terms x) numbers) t ≡ walk-at o (wants terms (behind x second)) numbers →
+      timesOr second ≡ t → Goes o (has terms x) numbers t
   unfolding hereWritten aheadWritten termWritten
   times-goes x second t walks token =
       record {
         left = d;
         around = o;
         here = wants terms (behind x second);
-        any-long = long;
+        onward = numbers;
         walks = walks;
         writes = λ ts. ap (λ (u : Token). aroundWritten o (termsWritten d terms (termWritten (innerWritten d) x (u ∷ ts)))) token;
       }
 
-open-goes : {D d : ℕ} → D ≡ deepest → (o : Around D d) (terms : Terms d) (factors : Factors d) (long : Bool) → leb (suc deepest) (open-in o + 1) ≡ false → Goes o (wants terms factors) long token.Open
+open-goes : {D d : ℕ} → D ≡ deepest → (o : Around D d) (terms : Terms d) (factors : Factors d) (numbers : Passed) → leb (suc deepest) (open-in o + 1) ≡ false → Goes o (wants terms factors) numbers token.Open
 unfolding hereWritten aroundWritten aheadWritten leadWritten walk-at open-in is-start step opened _or_
-open-goes {d = zero} q o terms factors long e = let h = open-and-left o in no (sym (le-leb (suc deepest) (open-in o + 1) (omega arith)) ∙ e)
-open-goes {d = suc d} q o terms factors long e =
+open-goes {d = zero} q o terms factors numbers e = let h = open-and-left o in no (sym (le-leb (suc deepest) (open-in o + 1) (omega arith)) ∙ e)
+open-goes {d = suc d} q o terms factors numbers e =
     record {
       left = d;
       around = within o terms factors;
       here = wants (begun bare) (begun nothing);
-      any-long = long;
+      onward = numbers;
       walks = rw e;
       writes = λ ts. refl;
     }
 
-close-goes : {D d : ℕ} (o : Around D d) (terms : Terms d) (x : Term (Inner d)) (long : Bool) → eqb (open-in o) 0 ≡ false → Goes o (has terms x) long token.Close
+close-goes : {D d : ℕ} (o : Around D d) (terms : Terms d) (x : Term (Inner d)) (numbers : Passed) → eqb (open-in o) 0 ≡ false → Goes o (has terms x) numbers token.Close
 unfolding hereWritten aroundWritten walk-at open-in step closed factorWritten termWritten sumWritten innerWritten _or_
-close-goes outermost terms x long e = no e
-close-goes (within {d = d} o around-terms factors) terms x long e =
+close-goes outermost terms x numbers e = no e
+close-goes (within {d = d} o around-terms factors) terms x numbers e =
     let z : open-in o + 1 - 1 ≡ open-in o = omega arith in
     record {
       left = suc d;
       around = o;
       here = has around-terms (plugged factors (inside (plugged terms x)));
-      any-long = long;
+      onward = numbers;
       walks = rw (e, z);
       writes =
           λ ts.
@@ -238,55 +243,55 @@ close-goes (within {d = d} o around-terms factors) terms x long e =
           (plugged-written plusOr leadWritten (termWritten (innerWritten d)) terms x (token.Close ∷ ts)));
     }
 
-goes : {D d : ℕ} → D ≡ deepest → (o : Around D d) (p : Here d) (long : Bool) (t : Token) → Good (step (walk-at o p long) t) → Goes o p long t
+goes : {D d : ℕ} → D ≡ deepest → (o : Around D d) (p : Here d) (numbers : Passed) (t : Token) → Good (step (walk-at o p numbers) t) → Goes o p numbers t
 unfolding walk-at is-start step afterOperand afterOperator opened closed unknown factorWritten leadWritten plusOr timesOr _or_
-goes q o (wants terms factors) long token.End e = no (e .0)
-goes q o (wants terms factors) long (token.Number n) e =
+goes q o (wants terms factors) numbers token.End e = no (e .0)
+goes q o (wants terms factors) numbers (token.Number n) e =
     let f : n .formless ≡ false = e .0 in
-    leaf-goes o terms long factors (number n) (token.Number n) (long or n .long) (rw f) (λ ts. refl)
-goes q o (wants terms factors) long (token.Variable n) e =
+    leaf-goes o terms numbers factors (number n) (token.Number n) (numbers .0 or n .long, numbers .1 + counted (n .rounded)) (rw f) (λ ts. refl)
+goes q o (wants terms factors) numbers (token.Variable n) e =
     let f : n .formless ≡ false = e .0 in
-    leaf-goes o terms long factors (variable n) (token.Variable n) (long or n .long) (rw f) (λ ts. refl)
-goes q o (wants terms factors) long token.Plus e =
+    leaf-goes o terms numbers factors (variable n) (token.Variable n) (numbers .0 or n .long, numbers .1 + counted false) (rw f) (λ ts. refl)
+goes q o (wants terms factors) numbers token.Plus e =
     let f : not (is-start terms factors) ≡ false = e .0 in
-    sign-goes o terms long factors plus token.Plus (rw f) (λ ts. refl) f
-goes q o (wants terms factors) long token.Minus e =
+    sign-goes o terms numbers factors plus token.Plus (rw f) (λ ts. refl) f
+goes q o (wants terms factors) numbers token.Minus e =
     let f : not (is-start terms factors) ≡ false = e .0 in
-    sign-goes o terms long factors minus token.Minus (rw f) (λ ts. refl) f
-goes q o (wants terms factors) long token.Times e = no (e .0)
-goes q o (wants terms factors) long token.Over e = no (e .0)
-goes q o (wants terms factors) long token.Open e = open-goes q o terms factors long (e .1)
-goes q o (wants terms factors) long token.Close e = no (e .0)
-goes q o (wants terms factors) long token.Unknown e = no (e .0)
-goes q o (has terms x) long token.End e = no (e .0)
-goes q o (has terms x) long (token.Number n) e = no (e .0)
-goes q o (has terms x) long (token.Variable n) e = no (e .0)
-goes q o (has terms x) long token.Plus e = plus-goes o terms long x false token.Plus refl refl
-goes q o (has terms x) long token.Minus e = plus-goes o terms long x true token.Minus refl refl
-goes q o (has terms x) long token.Times e = times-goes o terms long x false token.Times refl refl
-goes q o (has terms x) long token.Over e = times-goes o terms long x true token.Over refl refl
-goes q o (has terms x) long token.Open e = no (e .0)
-goes q o (has terms x) long token.Close e = close-goes o terms x long (e .0)
-goes q o (has terms x) long token.Unknown e = no (e .0)
+    sign-goes o terms numbers factors minus token.Minus (rw f) (λ ts. refl) f
+goes q o (wants terms factors) numbers token.Times e = no (e .0)
+goes q o (wants terms factors) numbers token.Over e = no (e .0)
+goes q o (wants terms factors) numbers token.Open e = open-goes q o terms factors numbers (e .1)
+goes q o (wants terms factors) numbers token.Close e = no (e .0)
+goes q o (wants terms factors) numbers token.Unknown e = no (e .0)
+goes q o (has terms x) numbers token.End e = no (e .0)
+goes q o (has terms x) numbers (token.Number n) e = no (e .0)
+goes q o (has terms x) numbers (token.Variable n) e = no (e .0)
+goes q o (has terms x) numbers token.Plus e = plus-goes o terms numbers x false token.Plus refl refl
+goes q o (has terms x) numbers token.Minus e = plus-goes o terms numbers x true token.Minus refl refl
+goes q o (has terms x) numbers token.Times e = times-goes o terms numbers x false token.Times refl refl
+goes q o (has terms x) numbers token.Over e = times-goes o terms numbers x true token.Over refl refl
+goes q o (has terms x) numbers token.Open e = no (e .0)
+goes q o (has terms x) numbers token.Close e = close-goes o terms x numbers (e .0)
+goes q o (has terms x) numbers token.Unknown e = no (e .0)
 
 -- ---- to the end
 
-ended : {D d : ℕ} (o : Around D d) (p : Here d) (long : Bool) → Sound (finished (walk-at o p long)) → (e : Expression D) × (written D e [] ≡ aroundWritten o (hereWritten d p []))
+ended : {D d : ℕ} (o : Around D d) (p : Here d) (numbers : Passed) → Sound (finished (walk-at o p numbers)) → (e : Expression D) × (written D e [] ≡ aroundWritten o (hereWritten d p []))
 unfolding finished walk-at open-in aroundWritten hereWritten written sumWritten _or_
-ended o (wants terms factors) long s = no (s .form)
-ended {D = D} outermost (has terms x) long s = (plugged terms x, plugged-written plusOr leadWritten (termWritten (innerWritten D)) terms x [])
-ended (within o around-terms factors) (has terms x) long s = no (sym (le-leb 1 (open-in o + 1) (omega arith)) ∙ s .form)
+ended o (wants terms factors) numbers s = no (s .form)
+ended {D = D} outermost (has terms x) numbers s = (plugged terms x, plugged-written plusOr leadWritten (termWritten (innerWritten D)) terms x [])
+ended (within o around-terms factors) (has terms x) numbers s = no (sym (le-leb 1 (open-in o + 1) (omega arith)) ∙ s .form)
 
-built : {D : ℕ} → D ≡ deepest → (ts : List Token) {d : ℕ} (o : Around D d) (p : Here d) (long : Bool) → Sound (finished (walked (walk-at o p long) ts)) →
+built : {D : ℕ} → D ≡ deepest → (ts : List Token) {d : ℕ} (o : Around D d) (p : Here d) (numbers : Passed) → Sound (finished (walked (walk-at o p numbers) ts)) →
     (e : Expression D) × (written D e [] ≡ aroundWritten o (hereWritten d p ts))
 unfolding walked
-built q [] o p long s = ended o p long s
-built q (t ∷ ts) o p long s =
-    let g = goes q o p long t (good-so-far (step (walk-at o p long) t) ts s) in
-    let s′ : Sound (finished (walked (step (walk-at o p long) t) ts)) = s in
-    let b = built q ts (g .around) (g .here) (g .any-long) (rw (g .walks) at s′) in
+built q [] o p numbers s = ended o p numbers s
+built q (t ∷ ts) o p numbers s =
+    let g = goes q o p numbers t (good-so-far (step (walk-at o p numbers) t) ts s) in
+    let s′ : Sound (finished (walked (step (walk-at o p numbers) t) ts)) = s in
+    let b = built q ts (g .around) (g .here) (g .onward) (rw (g .walks) at s′) in
     (b .0, b .1 ∙ g .writes ts)
 
 pub tokens-tree : (ts : List Token) → Sound (finished (walked start ts)) → (e : Expression deepest) × (written deepest e [] ≡ ts)
 unfolding start walk-at open-in is-start aroundWritten hereWritten aheadWritten leadWritten
-tokens-tree ts s = built refl ts outermost (wants (begun bare) (begun nothing)) false s
+tokens-tree ts s = built refl ts outermost (wants (begun bare) (begun nothing)) (false, 0) s

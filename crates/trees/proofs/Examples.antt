@@ -18,7 +18,7 @@ use Rattle.base.specs.Trimmed.{dropLeading, keptBefore, dropTrailing}
 use Rattle.decimal.specs.Decimal.{isDecimal, nearest as nearestWhole, inMillionths, isRounded, amountOf, numeralOf, decimalOf}
 use Rattle.decimal.specs.Point.{beforePoint, afterPoint}
 use Rattle.text.specs.Text.{text}
-use Rattle.command.specs.Choose.{pick}
+use Rattle.base.specs.Choose.{pick}
 use Rattle.command.specs.Numbers.{sizedAs}
 use Rattle.reckon.specs.Rounding.{nearest, keptOf, sumOf, differenceOf, productOf, quotientOf}
 use Rattle.reckon.specs.declared.Reckoned.{Reckoned}

@@ -13,10 +13,12 @@ use lib.Seq.{slice, take-take, length-take-le}
 use Rattle.base.specs.Or.{_or_}
 use Rattle.text.specs.First.{place, after}
 use Rattle.text.specs.Text.{byte}
-use Rattle.command.specs.Choose.{pick}
+use Rattle.base.specs.Choose.{pick}
 use Rattle.command.specs.Numbers.{judged}
 use Rattle.command.specs.Span.{span}
-use Rattle.command.specs.declared.Command.the-variants.{NotForm, TooLong, Macro}
+use Rattle.command.specs.declared.Command.the-variants.{Define}
+use Rattle.command.specs.declared.Definition.the-variants.{Macro}
+use Rattle.command.specs.Flaws.{notForm, tooLong}
 use Rattle.command.specs.declared.Span.{Span}
 use Rattle.reckon.specs.declared.Reckoned.{Reckoned}
 use Rattle.reckon.specs.declared.Reckoned.the-variants.{Refused, Value}
@@ -149,30 +151,30 @@ module _ (s : List ℕ) where
       let l : m ≤ length trimmed = omega arith in
       ap (λ (n : ℕ). take n s) (length-take-le m trimmed l) ∙ sym (take-take m (length trimmed) s l) ∙ ap (take m) (trailing-prefix s)
 
-  module _ (name body : Span) where
-    named : (q : ℕ) (u : List ℕ) (formless long deep : Bool) →
-        pick formless NotForm (pick long TooLong (Macro (span 2 q) (span (q + 1) (length u)) deep)) ≡ Macro name body false →
+  module _ (name body : Span) (rounded : ℕ) where
+    named : (q : ℕ) (u : List ℕ) (formless long deep : Bool) (count : ℕ) →
+        pick formless notForm (pick long tooLong (Define (Macro (span 2 q) (span (q + 1) (length u)) deep count))) ≡ Define (Macro name body false rounded) →
         (name .to ≡ q) × (body .to ≡ length u) × (formless ≡ false) × (deep ≡ false)
     unfolding pick
-    named q u true long deep e = let z : _≡_ {A = ℕ} 0 1 = cc in absurd (omega arith)
-    named q u false true deep e = let z : _≡_ {A = ℕ} 0 1 = cc in absurd (omega arith)
-    named q u false false deep e =
+    named q u true long deep count e = let z : _≡_ {A = ℕ} 0 1 = cc in absurd (omega arith)
+    named q u false true deep count e = let z : _≡_ {A = ℕ} 0 1 = cc in absurd (omega arith)
+    named q u false false deep count e =
         let n : span 2 q ≡ name = cc in
         let b : span (q + 1) (length u) ≡ body = cc in
         (ap (λ (x : Span). x .to) (sym n), ap (λ (x : Span). x .to) (sym b), refl, cc)
 
-    headed-sound : (t u : List ℕ) (q : ℕ) → headed t u q ≡ Macro name body false →
+    headed-sound : (t u : List ℕ) (q : ℕ) → headed t u q ≡ Define (Macro name body false rounded) →
         (name .to ≡ q) × (body .to ≡ length u) × Sound (blocksForm (drop q u))
     unfolding headed judged
     headed-sound t u q e =
-        let n = named q u _ _ _ e in
+        let n = named q u _ _ _ _ e in
         (n .0, n .1, record { form = or-r _ _ (n .2); depth = n .3 })
 
-    pub taken-sound : macroOf s ≡ Macro name body false → Sound (blocksForm (slice (name .to) (body .to) s))
+    pub taken-sound : macroOf s ≡ Define (Macro name body false rounded) → Sound (blocksForm (slice (name .to) (body .to) s))
     unfolding macroOf
     taken-sound e = by (ltb (place (code "*") unended 2) (length unended)) e
       where
-        by : (x : Bool) → pick x (headed trimmed unended (place (code "*") unended 2)) NotForm ≡ Macro name body false → Sound (blocksForm (slice (name .to) (body .to) s))
+        by : (x : Bool) → pick x (headed trimmed unended (place (code "*") unended 2)) notForm ≡ Define (Macro name body false rounded) → Sound (blocksForm (slice (name .to) (body .to) s))
         by true e =
             unfold pick in
             (let h = headed-sound trimmed unended (place (code "*") unended 2) e in
@@ -180,6 +182,6 @@ module _ (s : List ℕ) where
         by false e = unfold pick in (let z : _≡_ {A = ℕ} 0 1 = cc in absurd (omega arith))
 
     -- worked out from any variables, it is 9 only over an operation of one of its trees
-    pub taken-nine : macroOf s ≡ Macro name body false → (variables : List ℤ) →
+    pub taken-nine : macroOf s ≡ Define (Macro name body false rounded) → (variables : List ℤ) →
         workedOut variables (blocksIn (slice (name .to) (body .to) s)) .fault ≡ 9 → Fails variables (blocksIn (slice (name .to) (body .to) s))
     taken-nine e variables = nine-by-operation variables (slice (name .to) (body .to) s) (taken-sound e)

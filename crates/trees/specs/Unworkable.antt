@@ -7,7 +7,7 @@ use lib.IntN.{ℤ}
 use lib.ListN.{drop, getD}
 use Rattle.text.specs.First.{place, after}
 use Rattle.text.specs.Text.{byte}
-use Rattle.command.specs.Choose.{choose}
+use Rattle.base.specs.Choose.{choose}
 use Rattle.reckon.specs.declared.Reckoned.the-variants.{Refused}
 use Rattle.tokens.specs.LineEnds.{withoutLeading}
 use Rattle.macros.specs.Work.{parametersIn, blockDone}

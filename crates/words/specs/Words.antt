@@ -4,27 +4,25 @@ use Prim.Native.Char.{code}
 use mathlib.Core.List.{List, [], _∷_}
 use lib.ListN.{drop}
 use Rattle.text.specs.Text.{_is_, _begins_, _ends_, among}
-use Rattle.command.specs.Choose.{pick, choose}
+use Rattle.base.specs.Choose.{pick, choose}
 use Rattle.command.specs.Numbers.{judged, apertureNumber}
 use Rattle.command.specs.declared.Number.{Number}
 use Rattle.command.specs.declared.Command.{Command}
-use Rattle.command.specs.declared.Command.the-variants.{
-  NotForm,
-  Comment,
+use Rattle.command.specs.declared.Command.the-variants.{Note, End, Set, Select}
+use Rattle.command.specs.declared.Setting.the-variants.{
   Linear,
   Clockwise,
   Counterclockwise,
   MultiQuadrant,
   RegionStart,
   RegionEnd,
-  End,
-  Select,
 }
+use Rattle.command.specs.Flaws.{notForm}
 use Rattle.operations.specs.Operations.{drawOf, moveOf, flashOf}
 
 -- G04 and a string, in which no `%` stands
 unfoldable pub commentOf : List ℕ → Command
-commentOf s = pick (among s (code "%")) NotForm Comment
+commentOf s = pick (among s (code "%")) notForm Note
 
 -- Dn
 unfoldable pub selectOf : List ℕ → Command
@@ -34,15 +32,15 @@ selectOf s = let n : Number = apertureNumber (drop 1 s) in judged (n .formless) 
 unfoldable pub codeOf : List ℕ → Command
 codeOf s =
     choose
-    ((s is "G01", Linear)
-    ∷ (s is "G02", Clockwise)
-    ∷ (s is "G03", Counterclockwise)
-    ∷ (s is "G75", MultiQuadrant)
-    ∷ (s is "G36", RegionStart)
-    ∷ (s is "G37", RegionEnd)
+    ((s is "G01", Set Linear)
+    ∷ (s is "G02", Set Clockwise)
+    ∷ (s is "G03", Set Counterclockwise)
+    ∷ (s is "G75", Set MultiQuadrant)
+    ∷ (s is "G36", Set RegionStart)
+    ∷ (s is "G37", Set RegionEnd)
     ∷ (s is "M02", End)
     ∷ [])
-    NotForm
+    notForm
 
 -- a word command; n is that of FS, 0 before it
 unfoldable pub wordOf : ℕ → List ℕ → Command

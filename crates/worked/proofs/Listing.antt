@@ -9,23 +9,27 @@ use Rattle.base.specs.Or.{_or_}
 use Rattle.ints.specs.Ints.{signed, isNeg}
 use Rattle.points.specs.Points.{samePoint, shift, flipped}
 use Rattle.points.specs.Points as points-Points
-use Rattle.digits.specs.Coordinate.{wholeOf, coordinateOf}
+use Rattle.digits.specs.Coordinate.{wholeOf, coordinateOf, coordinateEnd, coordinateAt}
 use Rattle.digits.specs.Digits.{isDigit, allDigits, isNumber, valueOf}
 use Rattle.digits.specs.Natural.{naturalOf}
-use Rattle.digits.specs.Sign.{hasMinus, afterSign}
+use Rattle.digits.specs.Sign.{hasMinus, afterSign, pastSign}
 use Rattle.base.specs.Trimmed.{dropLeading, keptBefore, dropTrailing}
 use Rattle.decimal.specs.Decimal.{isDecimal, nearest, inMillionths, isRounded, amountOf, numeralOf, decimalOf}
 use Rattle.decimal.specs.Point.{beforePoint, afterPoint}
 use Rattle.text.specs.First.{firstIn, beforeByte, afterByte}
 use Rattle.text.specs.Name.{letter, nameStart, nameByte, nameBytes, isName}
 use Rattle.text.specs.Text.{among}
-use Rattle.scan.specs.Permitted.{fits, printable, breaksAfter, mayBreak, permitted, badIn}
-use Rattle.scan.specs.Scan.{textFrom, endOf, commandFrom, commandAt, nextCommand}
+use Rattle.scan.specs.Permitted.{fits, printable, breaksAfter, mayBreak, permitted, letterHere, badIn}
+use Rattle.scan.specs.Scan.{textFrom, endOf, cutBy, commandIn, nextCommand}
 use Rattle.scan.specs.Scan as scan-Scan
 use Rattle.scan.specs.Tail.{tailOf}
-use Rattle.command.specs.Choose.{pick}
+use Rattle.scan.specs.Fields.{inField}
+use Rattle.letters.specs.Table as letters-Table
+use Rattle.base.specs.Choose.{pick}
+use Rattle.command.specs.Flaws.{flawNumber}
+use Rattle.command.specs.Rounded as command-Rounded
 use Rattle.command.specs.Numbers.{judged, inRange, anySize, sizedAs}
-use Rattle.operations.specs.Coordinates.{digitLimit, inCoordinate, fieldEnd, given, missing, fieldOf, past, fieldsIn, fieldsOf}
+use Rattle.operations.specs.Coordinates.{digitLimit, given, missing, fieldAt, fieldsIn, fieldsOf}
 use Rattle.operations.specs.Operations.{broken, tooLong, alone, axisOf, draw, drawOf, moveOf, flashOf}
 use Rattle.operations.specs.Operations as operations-Operations
 use Rattle.words.specs.Words.{commentOf, selectOf, wordOf}
@@ -41,23 +45,24 @@ use Rattle.apertures.specs.Parameters.{more, gathered, parametersOf}
 use Rattle.text.specs.Pieces.{onto, parted, pieces}
 use Rattle.recognise.specs.Commands.{oneBlock, dataOf, extendedOf, commandOf}
 use Rattle.commands.specs.Commands.{commandsFrom, commandsOf}
-use Rattle.commands.specs.Leads.{leadOf}
+use Rattle.commands.specs.Leads.{leadOfFlaw, leadOfSetting, leadOf}
 use Rattle.commands.specs.Turns.{led, turnOf, tailFault}
 use Rattle.commands.specs.Turns as commands-Turns
 use Rattle.primitives.specs.Asked.{none, added, asked}
 use Rattle.graphics.specs.Graphics.{origin, unset, noAperture, noRegion, withFormat, withPoint, withAperture, withMode, withQuadrants, withTransform, withRegion}
 use Rattle.graphics.specs.Graphics as graphics-Graphics
 use Rattle.graphics.specs.Orientation.{angleOf, angleAfter, orientation}
-use Rattle.changes.specs.After.{along, target, goingTo, emptyRegion, startsContour, drawing, ended, withDigits, withUnit, withClear, withMirror, withRotation, withScale, after}
+use Rattle.changes.specs.After.{along, target, goingTo, emptyRegion, startsContour, drawing, ended, withDigits, withUnit, withClear, withMirror, withRotation, withScale, afterSetting, afterOperation, after}
 use Rattle.fits.specs.Fits.{isMissing, unready, placeless, brushless, circular, hasOffset, arcless, drawMisfits, flashMisfits, moveless, centreOf, badCentre, unclosed, askew, tooTall}
 use Rattle.fits.specs.Fits as fits-Fits
 use Rattle.drawing.specs.Counts.{counted, tooMany}
 use Rattle.drawing.specs.Faults.{drawItems, drawFault, moveFault, flashItems, flashFault, regionEndFault}
 use Rattle.rules.specs.Bounds.{isCount, isRepeat}
 use Rattle.decimal.specs.Amounts.{aboveZero}
+use Rattle.rules.specs.Settings.{settingRules, settingFault}
 use Rattle.rules.specs.Rules.{regionFault, formatFault, unitFault, scaleFault, selectFault, apertureFault, macroFault, blockStartFault, closingFault, repeatStartFault, fileAttributeFault, endFault}
 use Rattle.marks.specs.Items.{arcCentre, drawn, edge, contour, flashed, pose}
-use Rattle.marks.specs.Marks.{drawMarks, flashMarks, marksOf}
+use Rattle.marks.specs.Marks.{drawMarks, flashMarks, operationMarks, bracketMarks, marksOf}
 use Rattle.marks.specs.Marks as marks-Marks
 use Rattle.templates.specs.Templates.{withHole, rectangle, plainCircle}
 use Rattle.templates.specs.Templates as templates-Templates
@@ -67,7 +72,7 @@ use Rattle.reading.specs.Levels.{higher, raisedTo, withItems, inBlock, inRepeat
 use Rattle.reading.specs.Reading.{readOn}
 use Rattle.reading.specs.Reading as reading-Reading
 use Rattle.reading.specs.State.{outermost, begun}
-use Rattle.reading.specs.Steps.{passed, withGraphics, withLevel, withOpened, withApertures, withMacros, withNames, withNumbers, drawStep, flashHeight, flashStep, selectStep, apertureStep, macroStep, blockStartStep, repeatStartStep, blockEnds, repeatEnds, blockEndStep, repeatEndStep, fileAttributeStep, stepOf}
+use Rattle.reading.specs.Steps.{passed, withGraphics, withLevel, withOpened, withApertures, withMacros, withNames, withNumbers, settingStep, drawStep, flashHeight, flashStep, moveStep, selectStep, apertureStep, macroStep, blockStartStep, repeatStartStep, blockEnds, repeatEnds, blockEndStep, repeatEndStep, fileAttributeStep, operationStep, definitionStep, bracketStep, deedStep, stepOf}
 use Rattle.place.specs.Mark.{edges, withCount, itemsOf, put, closed, marked, written}
 use Rattle.place.specs.Mark as place-Mark
 use Rattle.place.specs.Copies.{step, copies}
@@ -85,10 +90,10 @@ unfolding answer said listed ample strip item output xor run
     signed isNeg
     samePoint shift flipped
     points-Points.turned
-    wholeOf coordinateOf
+    wholeOf coordinateOf coordinateEnd coordinateAt
     isDigit allDigits isNumber valueOf
     naturalOf
-    hasMinus afterSign
+    hasMinus afterSign pastSign
     dropLeading keptBefore dropTrailing
     isDecimal nearest inMillionths isRounded amountOf numeralOf decimalOf
     beforePoint afterPoint
@@ -96,12 +101,12 @@ unfolding answer said listed ample strip item output xor run
     letter nameStart nameByte nameBytes isName
     among
     fits printable breaksAfter mayBreak permitted badIn
-    textFrom endOf commandFrom commandAt nextCommand
+    textFrom endOf cutBy commandIn nextCommand inField letterHere letters-Table.letterIn letters-Table.wholeOf letters-Table.leadOf letters-Table.leadIn letters-Table.table letters-Table.follows letters-Table.within
     scan-Scan.kindOf
     tailOf
     pick
-    judged inRange anySize sizedAs
-    digitLimit inCoordinate fieldEnd given missing fieldOf past fieldsIn fieldsOf
+    flawNumber judged inRange anySize sizedAs command-Rounded.counted
+    digitLimit given missing fieldAt fieldsIn fieldsOf
     broken tooLong alone axisOf draw drawOf moveOf flashOf
     operations-Operations.offsetOf operations-Operations.plain
     commentOf selectOf wordOf
@@ -117,22 +122,22 @@ unfolding answer said listed ample strip item output xor run
     onto parted pieces
     oneBlock dataOf extendedOf commandOf
     commandsFrom commandsOf
-    leadOf
+    leadOfFlaw leadOfSetting leadOf
     led turnOf tailFault
     commands-Turns.turned
     none added asked
     origin unset noAperture noRegion withFormat withPoint withAperture withMode withQuadrants withTransform withRegion
     graphics-Graphics.start
     angleOf angleAfter orientation
-    along target goingTo emptyRegion startsContour drawing ended withDigits withUnit withClear withMirror withRotation withScale after
+    along target goingTo emptyRegion startsContour drawing ended withDigits withUnit withClear withMirror withRotation withScale afterSetting afterOperation after
     isMissing unready placeless brushless circular hasOffset arcless drawMisfits flashMisfits moveless centreOf badCentre unclosed askew tooTall
     fits-Fits.offsetOf
     counted tooMany
     drawItems drawFault moveFault flashItems flashFault regionEndFault
     aboveZero isCount isRepeat
-    regionFault formatFault unitFault scaleFault selectFault apertureFault macroFault blockStartFault closingFault repeatStartFault fileAttributeFault endFault
+    settingRules settingFault regionFault formatFault unitFault scaleFault selectFault apertureFault macroFault blockStartFault closingFault repeatStartFault fileAttributeFault endFault
     arcCentre drawn edge contour flashed pose
-    drawMarks flashMarks marksOf
+    drawMarks flashMarks operationMarks bracketMarks marksOf
     marks-Marks.repeatOf
     withHole rectangle plainCircle
     templates-Templates.circle templates-Templates.polygon templates-Templates.kindOf templates-Templates.keeps
@@ -142,7 +147,7 @@ unfolding answer said listed ample strip item output xor run
     readOn
     reading-Reading.reading
     outermost begun
-    passed withGraphics withLevel withOpened withApertures withMacros withNames withNumbers drawStep flashHeight flashStep selectStep apertureStep macroStep blockStartStep repeatStartStep blockEnds repeatEnds blockEndStep repeatEndStep fileAttributeStep stepOf
+    passed withGraphics withLevel withOpened withApertures withMacros withNames withNumbers settingStep drawStep flashHeight flashStep moveStep selectStep apertureStep macroStep blockStartStep repeatStartStep blockEnds repeatEnds blockEndStep repeatEndStep fileAttributeStep operationStep definitionStep bracketStep deedStep stepOf
     edges withCount itemsOf put closed marked written
     place-Mark.plain
     step copies

@@ -13,9 +13,10 @@ pub fn questions(seed: u64, file: &[u8]) -> Vec<String> {
     if let Ok(sheet) = read(file, Room::UNLIMITED) {
         rooms(&mut random, &sheet.used, &mut questions);
         items(&mut random, &sheet, &mut questions);
+        addresses(&mut random, &sheet, &mut questions);
     }
     attributes(&mut random, file, &mut questions);
-    questions.push(String::from("signature"));
+    questions.push(String::from("verify"));
     questions
 }
 
@@ -46,6 +47,26 @@ fn items(random: &mut Random, sheet: &Sheet, questions: &mut Vec<String>) {
     ask(total + random.next() % 1000);
     for _ in 0..3 {
         ask(random.next() % (total + 1));
+    }
+}
+
+/// Addresses of items, and such with one word a little more or less.
+fn addresses(random: &mut Random, sheet: &Sheet, questions: &mut Vec<String>) {
+    for _ in 0..3 {
+        let k = random.next() % (sheet.total() + 1);
+        questions.push(format!("address {k}"));
+        let Some(mut words) = sheet.address(k) else {
+            continue;
+        };
+        let mut ask = |words: &[u64]| {
+            let words: Vec<String> = words.iter().map(u64::to_string).collect();
+            questions.push(format!("number {}", words.join(" ")));
+        };
+        ask(&words);
+        ask(&words[..1 + random.below(3)]);
+        let word = &mut words[random.below(4)];
+        *word = random.pick(&[*word + 1, word.saturating_sub(1), 0]);
+        ask(&words);
     }
 }
 

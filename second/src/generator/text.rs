@@ -29,7 +29,8 @@ pub fn decimal(random: &mut Random, value: i64) -> String {
 
 /// Now and then a longer one that is rounded to it (document 02, [1]).
 pub fn unsigned_decimal(random: &mut Random, value: i64) -> String {
-    let (value, tail) = if random.percent(8) { long_tail(random, value) } else { (value, String::new()) };
+    let (value, tail) =
+        if random.percent(8) { long_tail(random, value) } else { (value, String::new()) };
     let fraction = format!("{:06}{tail}", value % ONE);
     let fraction = fraction.trim_end_matches('0');
     let zeros = if random.percent(10) { random.below(9) } else { 0 };

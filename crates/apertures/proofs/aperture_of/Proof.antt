@@ -1,7 +1,7 @@
 -- `apertures::aperture_of` meets its contract: its first letters pick the case of `apertureOf`.
 -- Assumes nothing.
 use Rattle.apertures.specs.Definitions.{apertureOf}
-use Rattle.command.proofs.Choose.{row-holds, row-fails}
+use Rattle.base.proofs.Choose.{row-holds, row-fails}
 use mathlib.Core.Path.{refl, sym, _∙_}
 use borrow.Author.Needs.{needs}
 use Rattle.apertures.proofs.aperture_of.Statement.{statement}
@@ -13,8 +13,8 @@ slice-aggregate-begins c = search needs
 begins-requires : tie.Need-begins-requires
 begins-requires c κs = search needs
 
-digits-end-requires : tie.Need-digits-end-requires
-digits-end-requires c κs = search needs
+past-digits-requires : tie.Need-past-digits-requires
+past-digits-requires c κs = search needs
 
 find-requires : tie.Need-find-requires
 find-requires c κs = search needs
@@ -24,7 +24,7 @@ defined-requires c κs = search needs
 
 returns : tie.Need-returns
 unfolding apertureOf
-returns c = row-holds _ (sym (c .before .before .before .before .begins .ensures) ∙ c .before .before .before .if1 .taken) (simp (c .defined .ensures, c .before .find .ensures, c .before .before .digits-end .ensures))
+returns c = row-holds _ (sym (c .before .before .before .before .begins .ensures) ∙ c .before .before .before .if1 .taken) (simp (c .defined .ensures, c .before .find .ensures, c .before .before .past-digits .ensures))
 
 returns-2 : tie.Need-returns-2
 unfolding apertureOf
@@ -36,7 +36,7 @@ aperture-of-spec =
     (tie.spec
     slice-aggregate-begins
     begins-requires
-    digits-end-requires
+    past-digits-requires
     find-requires
     defined-requires
     returns

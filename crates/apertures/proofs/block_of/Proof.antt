@@ -1,7 +1,7 @@
 -- `apertures::block_of` meets its contract: each test is that of a row of `blockOf`.
 -- Assumes nothing.
 use Rattle.apertures.specs.Blocks.{blockStart, blockOf}
-use Rattle.command.proofs.Choose.{row-holds, row-fails}
+use Rattle.base.proofs.Choose.{row-holds, row-fails}
 use mathlib.Core.Path.{refl, sym, _∙_, ap}
 use borrow.Author.Needs.{needs}
 use Rattle.apertures.proofs.block_of.Statement.{statement}

@@ -3,6 +3,7 @@
 -- Assumes nothing.
 use Rattle.apertures.proofs.Gathered.{gather-next, gather-end}
 use Rattle.apertures.specs.Parameters.{more, gathered, parametersOf}
+use Rattle.command.proofs.Rounded.{counted-within}
 use Rattle.text.specs.Pieces.{pieces}
 use Rattle.text.proofs.First.{first-from}
 use borrow.Author.Needs.{needs}
@@ -16,14 +17,17 @@ use Rattle.apertures.proofs.parameters_of.Statement.{statement}
 use Rattle.apertures.proofs.parameters_of.Tie as tie
 
 abbrev Inv-loop : tie.InvT-loop
-Inv-loop s comma formless₀ long₀ count₀ at₀ formless long count at = (gathered (record { formless = formless; long = long; count = count }) (pieces (code "X") (drop at s)) ≡ parametersOf (drop comma s)) × (count ≤ at)
+Inv-loop s comma formless₀ long₀ count₀ rounded₀ at₀ formless long count rounded at =
+    (gathered (record { formless = formless; long = long; count = count; rounded = rounded }) (pieces (code "X") (drop at s)) ≡ parametersOf (drop comma s))
+    × (count ≤ at)
+    × (rounded ≤ at)
 
 abbrev μ-loop : tie.MeasureT-loop
-μ-loop s comma formless₀ long₀ count₀ at₀ formless long count at = length s - at
+μ-loop s comma formless₀ long₀ count₀ rounded₀ at₀ formless long count rounded at = length s - at
 
 loop-holds : tie.Need-loop-holds Inv-loop μ-loop
 unfolding parametersOf
-loop-holds c = (refl, omega arith)
+loop-holds c = (refl, omega arith, omega arith)
 
 add-find : tie.Need-add-find Inv-loop μ-loop
 add-find c = omega arith
@@ -49,25 +53,33 @@ either-requires-2 c κs = search needs
 add-count : tie.Need-add-count Inv-loop μ-loop
 add-count c = omega (arith, c .before .before .before .before .before .before .loop .inv .1)
 
+counted-requires : tie.Need-counted-requires Inv-loop μ-loop
+counted-requires c κs = search needs
+
+add-rounded : tie.Need-add-rounded Inv-loop μ-loop
+add-rounded c = omega (arith, c .before .before .before .before .before .before .before .loop .inv .2, counted-within (c .before .before .before .size-of .result .rounded))
+
 loop-less : tie.Need-loop-less Inv-loop μ-loop
 loop-less c =
-    let l = c .before .before .before .before .before .before .loop in
-    omega (arith, first-from (λ b. eqb b (code "X")) (c .before .before .before .before .before .before .before .before .args .s .now) (l .at + 1), c .before .before .before .before .find .ensures)
+    let l = c .before .before .before .before .before .before .before .loop in
+    omega (arith, first-from (λ b. eqb b (code "X")) (c .before .before .before .before .before .before .before .before .before .args .s .now) (l .at + 1), c .before .before .before .before .before .find .ensures)
 
 loop-again : tie.Need-loop-again Inv-loop μ-loop
 unfolding more
 loop-again c =
-    let l = c .before .before .before .before .before .before .loop in
-    let s = c .before .before .before .before .before .before .before .before .args .s .now in (
-      simp (c .before .either .ensures, c .either2 .ensures, c .before .before .size-of .ensures, c .before .before .before .part .ensures, c .before .before .before .before .find .ensures)
-          (sym (gather-next s (l .at) (c .before .before .before .before .before .loop-test .taken) (record { formless = l .formless; long = l .long; count = l .count })) ∙ l .inv .0),
-      omega (arith, first-from (λ b. eqb b (code "X")) s (l .at + 1), c .before .before .before .before .find .ensures, l .inv .1),
+    let l = c .before .before .before .before .before .before .before .loop in
+    let s = c .before .before .before .before .before .before .before .before .before .args .s .now in
+    let d = c .before .before .before .size-of .result in (
+      simp (c .counted .ensures, c .before .either2 .ensures, c .before .before .either .ensures, c .before .before .before .size-of .ensures, c .before .before .before .before .part .ensures, c .before .before .before .before .before .find .ensures)
+          (sym (gather-next s (l .at) (c .before .before .before .before .before .before .loop-test .taken) (record { formless = l .formless; long = l .long; count = l .count; rounded = l .rounded })) ∙ l .inv .0),
+      omega (arith, first-from (λ b. eqb b (code "X")) s (l .at + 1), c .before .before .before .before .before .find .ensures, l .inv .1),
+      omega (arith, first-from (λ b. eqb b (code "X")) s (l .at + 1), c .before .before .before .before .before .find .ensures, l .inv .2, counted-within (d .rounded)),
     )
 
 returns : tie.Need-returns Inv-loop μ-loop
 returns c =
     let l = c .before .loop in
-    sym (gather-end _ _ (c .loop-test .left) (record { formless = l .formless; long = l .long; count = l .count })) ∙ l .inv .0
+    sym (gather-end _ _ (c .loop-test .left) (record { formless = l .formless; long = l .long; count = l .count; rounded = l .rounded })) ∙ l .inv .0
 
 pub parameters-of-spec : {M : Type 1} → statement M
 parameters-of-spec =
@@ -84,6 +96,8 @@ parameters-of-spec =
     either-requires
     either-requires-2
     add-count
+    counted-requires
+    add-rounded
     loop-less
     loop-again
     returns)

@@ -1,7 +1,7 @@
 -- `attribute::answer_at` meets its contract: whether the attribute is taken there, or a contour begins there, picks the row.
 -- Assumes nothing.
 use mathlib.Core.Path.{sym, _∙_, ap}
-use Rattle.command.proofs.Choose.{row-holds, row-fails}
+use Rattle.base.proofs.Choose.{row-holds, row-fails}
 use Rattle.sayings.specs.Regions.{beginsContour}
 use Rattle.sayings.specs.Sayings.{takenAt}
 use Rattle.attribute.specs.Attribute.{answerAt}

@@ -2,7 +2,7 @@
 -- Assumes nothing.
 use mathlib.Core.Path.{sym, _∙_}
 use Rattle.attribute.specs.Attribute.{answerIn, attributeOf}
-use Rattle.command.specs.Choose.{pick}
+use Rattle.base.specs.Choose.{pick}
 use Rattle.commands.specs.Commands.{commandsOf}
 use borrow.Author.Needs.{needs}
 use Rattle.attribute.proofs.attribute.Statement.{statement}

@@ -1,7 +1,7 @@
 -- `attribute::judged` meets its contract: the number picks the row, and what is found the case.
 -- Assumes nothing.
 use borrow.Author.Tests.{eq-eqb, ne-eqb}
-use Rattle.command.proofs.Choose.{row-holds, row-fails}
+use Rattle.base.proofs.Choose.{row-holds, row-fails}
 use Rattle.attribute.specs.Pass.{closing, judged}
 use borrow.Author.Needs.{needs}
 use Rattle.attribute.proofs.judged.Statement.{statement}

@@ -2,7 +2,7 @@
 -- Assumes nothing.
 use mathlib.Core.Path.{refl, ap}
 use borrow.Author.Tests.{eq-eqb, ne-eqb}
-use Rattle.command.proofs.Choose.{row-holds, row-fails}
+use Rattle.base.proofs.Choose.{row-holds, row-fails}
 use Rattle.attribute.specs.declared.Found.the-variants.{Is}
 use Rattle.attribute.specs.Pass.{met}
 use borrow.Author.Needs.{needs}

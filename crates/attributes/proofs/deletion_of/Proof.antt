@@ -1,7 +1,7 @@
 -- `attributes::deletion_of` meets its contract: each test is that of a row of `deletionOf`.
 -- Assumes nothing.
 use mathlib.Core.Path.{refl, sym, _∙_}
-use Rattle.command.proofs.Choose.{row-holds, row-fails}
+use Rattle.base.proofs.Choose.{row-holds, row-fails}
 use Rattle.attributes.specs.Attributes.{deletionOf}
 use borrow.Author.Needs.{needs}
 use Rattle.attributes.proofs.deletion_of.Statement.{statement}

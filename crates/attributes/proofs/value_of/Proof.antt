@@ -2,7 +2,7 @@
 -- Assumes nothing.
 use mathlib.Core.Path.{refl}
 use borrow.Author.Tests.{lt-ltb, le-ltb}
-use Rattle.command.proofs.Choose.{row-holds, row-fails}
+use Rattle.base.proofs.Choose.{row-holds, row-fails}
 use Rattle.attributes.specs.Attributes.{valueOf}
 use borrow.Author.Needs.{needs}
 use Rattle.attributes.proofs.value_of.Statement.{statement}

@@ -1,6 +1,6 @@
 -- `command::pick` meets its contract: the test picks the case of its contract.
 -- Assumes nothing.
-use Rattle.command.specs.Choose.{pick}
+use Rattle.base.specs.Choose.{pick}
 use Rattle.command.proofs.pick.Statement.{statement}
 use Rattle.command.proofs.pick.Tie as tie
 

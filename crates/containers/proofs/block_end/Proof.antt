@@ -1,10 +1,10 @@
 -- `containers::block_end` meets its contract: its fault, and the block that closes.
+use Rattle.containers.proofs.BlockEnds as ends
+use native.Mathlib.Omega.{arith}
 use mathlib.Core.Path.{refl}
 use borrow.Author.Needs.{needs}
 use Rattle.containers.proofs.block_end.Statement.{statement}
 use Rattle.containers.proofs.block_end.Tie as tie
-use native.Mathlib.Omega.{arith}
-use Rattle.containers.proofs.BlockEnds as ends
 
 level-of-requires : tie.Need-level-of-requires
 level-of-requires c κs = search needs
@@ -21,17 +21,26 @@ close-block-requires c κs = ends.block-end-closes _ _ (c .before .before .befor
 after-requires : tie.Need-after-requires
 after-requires c κs = search needs
 
-sub-t16 : tie.Need-sub-t16
-sub-t16 c = let deep = ends.block-end-deep _ _ (c .before .before .before .before .before .before .before .before .before .before .before .before .before .before .before .before .args .p) _ (c .before .before .before .before .before .before .before .before .before .before .before .level-of .ensures) _ (c .before .before .before .before .before .before .before .before .before .before .closing-fault .ensures) (c .before .before .before .before .before .before .before .before .before .before .before .before .before .before .before .before .pre) (omega (arith, c .before .before .before .before .before .before .before .before .before .if1 .left)) in omega arith
+with-graphics-requires : tie.Need-with-graphics-requires
+with-graphics-requires c κs = search needs
+
+with-builder-requires : tie.Need-with-builder-requires
+with-builder-requires c κs = search needs
+
+sub-with-depth : tie.Need-sub-with-depth
+sub-with-depth c = let deep = ends.block-end-deep _ _ (c .before .before .before .before .before .before .before .before .before .before .before .before .before .before .before .before .before .before .args .p) _ (c .before .before .before .before .before .before .before .before .before .before .before .before .before .level-of .ensures) _ (c .before .before .before .before .before .before .before .before .before .before .before .before .closing-fault .ensures) (c .before .before .before .before .before .before .before .before .before .before .before .before .before .before .before .before .before .before .pre) (omega (arith, c .before .before .before .before .before .before .before .before .before .before .before .if1 .left)) in omega arith
+
+with-depth-requires : tie.Need-with-depth-requires
+with-depth-requires c κs = search needs
 
 same-length : tie.Need-same-length
-same-length c = search needs
+same-length c = search (needs, c .before .before .before .before .before .before .before .before .e .given, c .before .before .before .before .before .before .before .before .before .close-block)
 
 same-length-2 : tie.Need-same-length-2
 same-length-2 c = search needs
 
 returns-2 : tie.Need-returns-2
-returns-2 c = (same-length c, same-length-2 c, ends.block-end-ends _ _ (c .before .before .before .before .before .before .before .before .before .before .before .before .before .before .before .before .args .p) _ (c .before .before .before .before .before .before .before .before .before .before .before .level-of .ensures) _ (c .before .before .before .before .before .before .before .before .before .before .closing-fault .ensures) (c .before .before .before .before .before .before .before .before .before .before .before .before .before .before .before .before .pre) (omega (arith, c .before .before .before .before .before .before .before .before .before .if1 .left)) _ _ _ (c .before .before .before .before .before .before .close-block .ensures) _ (c .before .after .ensures))
+returns-2 c = (same-length c, same-length-2 c, ends.block-end-ends _ _ (c .before .before .before .before .before .before .before .before .before .before .before .before .before .before .before .before .before .before .before .args .p) _ (c .before .before .before .before .before .before .before .before .before .before .before .before .before .before .level-of .ensures) _ (c .before .before .before .before .before .before .before .before .before .before .before .before .before .closing-fault .ensures) (c .before .before .before .before .before .before .before .before .before .before .before .before .before .before .before .before .before .before .before .pre) (omega (arith, c .before .before .before .before .before .before .before .before .before .before .before .before .if1 .left)) _ _ _ (c .before .before .before .before .before .before .before .before .before .close-block .ensures) (c .before .before .before .before .after .ensures) (rw (c .before .before .with-builder .ensures, c .before .before .before .with-graphics .ensures) at (c .with-depth .ensures)))
 
 pub block-end-spec : {M : Type 1} → statement M
 block-end-spec =
@@ -42,7 +51,10 @@ block-end-spec =
     returns
     close-block-requires
     after-requires
-    sub-t16
+    with-graphics-requires
+    with-builder-requires
+    sub-with-depth
+    with-depth-requires
     same-length
     same-length-2
     returns-2)

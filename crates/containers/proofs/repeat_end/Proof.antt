@@ -1,10 +1,10 @@
 -- `containers::repeat_end` meets its contract: its fault, and the repeat that closes.
+use Rattle.containers.proofs.RepeatEnds as ends
+use native.Mathlib.Omega.{arith}
 use mathlib.Core.Path.{refl}
 use borrow.Author.Needs.{needs}
 use Rattle.containers.proofs.repeat_end.Statement.{statement}
 use Rattle.containers.proofs.repeat_end.Tie as tie
-use native.Mathlib.Omega.{arith}
-use Rattle.containers.proofs.RepeatEnds as ends
 
 level-of-requires : tie.Need-level-of-requires
 level-of-requires c κs = search needs
@@ -21,11 +21,20 @@ close-repeat-requires c κs = ends.repeat-end-closes _ (c .before .before .befor
 after-requires : tie.Need-after-requires
 after-requires c κs = search needs
 
+with-graphics-requires : tie.Need-with-graphics-requires
+with-graphics-requires c κs = search needs
+
+with-builder-requires : tie.Need-with-builder-requires
+with-builder-requires c κs = search needs
+
+with-repeat-requires : tie.Need-with-repeat-requires
+with-repeat-requires c κs = search needs
+
 same-length : tie.Need-same-length
 same-length c = search needs
 
 returns-2 : tie.Need-returns-2
-returns-2 c = (same-length c, ends.repeat-end-ends _ (c .before .before .before .before .before .before .before .before .before .before .before .args .p) _ (c .before .before .before .before .before .before .before .level-of .ensures) _ (c .before .before .before .before .before .before .closing-fault .ensures) (c .before .before .before .before .before .before .before .before .before .before .before .pre) (omega (arith, c .before .before .before .before .before .if1 .left)) _ _ (c .before .before .before .close-repeat .ensures) _ (c .after .ensures))
+returns-2 c = (same-length c, ends.repeat-end-ends _ (c .before .before .before .before .before .before .before .before .before .before .before .before .before .before .args .p) _ (c .before .before .before .before .before .before .before .before .before .before .level-of .ensures) _ (c .before .before .before .before .before .before .before .before .before .closing-fault .ensures) (c .before .before .before .before .before .before .before .before .before .before .before .before .before .before .pre) (omega (arith, c .before .before .before .before .before .before .before .before .if1 .left)) _ _ (c .before .before .before .before .before .before .close-repeat .ensures) (c .before .before .before .after .ensures) (rw (c .before .with-builder .ensures, c .before .before .with-graphics .ensures) at (c .with-repeat .ensures)))
 
 pub repeat-end-spec : {M : Type 1} → statement M
 repeat-end-spec =
@@ -36,5 +45,8 @@ repeat-end-spec =
     returns
     close-repeat-requires
     after-requires
+    with-graphics-requires
+    with-builder-requires
+    with-repeat-requires
     same-length
     returns-2)

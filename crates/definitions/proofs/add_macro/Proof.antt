@@ -1,5 +1,4 @@
 -- `definitions::add_macro` meets its contract: the name that the search sought is the text's, and so are the parts that are put.
--- Assumes nothing.
 use Prim.Native.Nat.{_≤_}
 use mathlib.Core.Path.{refl, sym, ap, _∙_}
 use native.Mathlib.Omega.{arith}
@@ -14,20 +13,17 @@ use Rattle.definitions.proofs.add_macro.Statement.{statement}
 use Rattle.definitions.proofs.add_macro.Tie as tie
 
 add-first : tie.Need-add-first
-add-first c =
-    let a = c .before .before .before .before .args in
+add-first c = let a = c .before .before .before .before .args in
     let p = c .before .before .before .before .pre in
     omega (arith, text-end (a .file .now) (a .from) (a .end) (p .1) (p .2) (a .name .to) (omega (arith, p .3 .behind, p .3 .inside)), p .2, p .3 .ordered)
 
 add-last : tie.Need-add-last
-add-last c =
-    let a = c .before .before .before .before .before .args in
+add-last c = let a = c .before .before .before .before .before .args in
     let p = c .before .before .before .before .before .pre in
     omega (arith, text-end (a .file .now) (a .from) (a .end) (p .1) (p .2) (a .name .to) (omega (arith, p .3 .behind, p .3 .inside)), p .2)
 
 search-name-requires : tie.Need-search-name-requires
-search-name-requires c κs =
-    let a = c .before .before .before .before .before .before .args in
+search-name-requires c κs = let a = c .before .before .before .before .before .before .args in
     let p = c .before .before .before .before .before .before .pre in
     let l = text-end (a .file .now) (a .from) (a .end) (p .1) (p .2) (a .name .to) (omega (arith, p .3 .behind, p .3 .inside)) in
     (rw (p .0 .is .0, p .0 .is .1) at (p .0 .knows .macros .indexed), omega (arith, p .3 .ordered), omega (arith, l, p .2))
@@ -45,8 +41,7 @@ same-length : tie.Need-same-length
 same-length c = search needs
 
 returns : tie.Need-returns
-returns c =
-    let a = c .before .before .before .before .before .before .before .before .before .before .args in
+returns c = let a = c .before .before .before .before .before .before .before .before .before .before .args in
     let p = c .before .before .before .before .before .before .before .before .before .before .pre in
     let t = part-of-file (a .file .now) (a .from) (a .end) (p .1) (p .2) (a .name .from) (a .name .to) (omega (arith, p .3 .behind, p .3 .inside)) in (
       refl,
@@ -54,9 +49,8 @@ returns c =
           (ap (named (a .file .now) (a .m .now) (a .p .macros)) t ∙ sym (c .before .before .before .search-name .ensures) ∙ c .before .enum-told .given .1) _ _ (c .macro-fault .ensures),
     )
 
-add-t22 : tie.Need-add-t22
-add-t22 c =
-    let a = c .before .before .before .before .before .before .before .before .before .before .before .args in
+add-with-macros : tie.Need-add-with-macros
+add-with-macros c = let a = c .before .before .before .before .before .before .before .before .before .before .before .args in
     let p = c .before .before .before .before .before .before .before .before .before .before .before .pre in
     omega (arith, text-end (a .file .now) (a .from) (a .end) (p .1) (p .2) (a .blocks .to) (p .3 .inside), p .2)
 
@@ -76,8 +70,7 @@ same-length-2 : tie.Need-same-length-2
 same-length-2 c = search needs
 
 returns-2 : tie.Need-returns-2
-returns-2 c =
-    let a = c .before .before .before .before .before .before .before .before .before .before .before .before .before .before .before .before .before .before .before .args in
+returns-2 c = let a = c .before .before .before .before .before .before .before .before .before .before .before .before .before .before .before .before .before .before .before .args in
     let p = c .before .before .before .before .before .before .before .before .before .before .before .before .before .before .before .before .before .before .before .pre in
     let t = part-of-file (a .file .now) (a .from) (a .end) (p .1) (p .2) (a .name .from) (a .name .to) (omega (arith, p .3 .behind, p .3 .inside)) in (
       same-length-2 c,
@@ -86,18 +79,19 @@ returns-2 c =
           _ (c .before .before .kind-of .ensures ∙ ap kindOf (c .before .before .before .part .ensures ∙ sym t)) _ (c .before .before .before .before .before .before .put-macro .ensures .0) _ (c .before .macro-fault2 .ensures) _ (c .if1 .taken),
     )
 
-add-t22-2 : tie.Need-add-t22-2
-add-t22-2 c =
-    let p = c .before .before .before .before .before .before .before .before .before .before .before .before .before .before .before .before .before .before .before .before .before .pre in
+add-with-macros-2 : tie.Need-add-with-macros-2
+add-with-macros-2 c = let p = c .before .before .before .before .before .before .before .before .before .before .before .before .before .before .before .before .before .before .before .before .pre in
     let i = p .0 .knows .macros .indexed .tree .inside in
-    omega (arith, rw (p .0 .is .1) at i, c .before .before .before .before .before .before .before .before .before .before .before .before .before .before .before .before .before .before .before .before .before .good .1 .0)
+    omega (arith, rw (p .0 .is .1) at i, c .before .before .before .before .before .before .before .before .before .before .before .before .before .before .before .before .before .before .before .before .good .1 .0)
+
+with-macros-requires : tie.Need-with-macros-requires
+with-macros-requires c κs = search needs
 
 same-length-3 : tie.Need-same-length-3
 same-length-3 c = search needs
 
 returns-3 : tie.Need-returns-3
-returns-3 c =
-    let a = c .before .before .before .before .before .before .before .before .before .before .before .before .before .before .before .before .before .before .before .before .before .args in
+returns-3 c = let a = c .before .before .before .before .before .before .before .before .before .before .before .before .before .before .before .before .before .before .before .before .before .args in
     let p = c .before .before .before .before .before .before .before .before .before .before .before .before .before .before .before .before .before .before .before .before .before .pre in
     let l : a .name .to ≤ length (slice (a .from) (a .end) (a .file .now)) = omega (arith, p .3 .behind, p .3 .inside) in
     let t = part-of-file (a .file .now) (a .from) (a .end) (p .1) (p .2) (a .name .from) (a .name .to) l in
@@ -107,7 +101,7 @@ returns-3 c =
       λ w s is k. macro-goes w (a .p) s k (a .file .now) (a .m .now) (is .0) (is .1) _ _ (a .deep) _
           (ap (named (a .file .now) (a .m .now) (a .p .macros)) t ∙ sym (c .before .before .before .before .before .before .before .before .before .before .before .before .before .before .search-name .ensures) ∙ c .before .before .before .before .before .before .before .before .before .before .before .before .found .given .1)
           _ (c .before .before .before .before .kind-of .ensures ∙ ap kindOf (c .before .before .before .before .before .part .ensures ∙ sym t)) _ (c .before .before .before .before .before .before .before .before .put-macro .ensures .0) _ (c .before .before .before .macro-fault2 .ensures) (c .before .before .if1 .left)
-          _ (sym t) (sym b) (omega (arith, p .3 .behind)) (omega (arith, e, p .2)) _ (c .before .before .before .before .before .before .before .before .put-macro .ensures .1),
+          _ (sym t) (sym b) (omega (arith, p .3 .behind)) (omega (arith, e, p .2)) _ (c .before .before .before .before .before .before .before .before .put-macro .ensures .1) (c .with-macros .ensures),
     )
 
 pub add-macro-spec : {M : Type 1} → statement M
@@ -122,13 +116,14 @@ add-macro-spec =
     macro-fault-requires
     same-length
     returns
-    add-t22
+    add-with-macros
     put-macro-requires
     part-requires
     kind-of-requires
     macro-fault-requires-2
     same-length-2
     returns-2
-    add-t22-2
+    add-with-macros-2
+    with-macros-requires
     same-length-3
     returns-3)

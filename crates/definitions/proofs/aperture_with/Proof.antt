@@ -5,6 +5,7 @@ use native.Mathlib.Omega.{arith}
 use borrow.Author.Needs.{needs}
 use Rattle.graphics.specs.Graphics.{noAperture}
 use Rattle.reading.specs.Apertures.{selected}
+use Rattle.progress.specs.Tables.{asStored}
 use Rattle.progress.proofs.Apertures.{at-below}
 use Rattle.definitions.specs.Chosen.{chosenBy}
 use Rattle.definitions.proofs.aperture_with.Statement.{statement}
@@ -33,7 +34,7 @@ both-requires : tie.Need-both-requires
 both-requires c κs = search needs
 
 returns-2 : tie.Need-returns-2
-unfolding chosenBy selected
+unfolding chosenBy asStored selected
 returns-2 c =
     rw (← c .before .before .before .before .before .before .before .before .before .search-number .ensures, c .before .before .before .before .before .before .before .found .given .1, ← c .before .before .before .before .before .aperture-at .ensures, ← c .before .both .ensures)
 

@@ -1,5 +1,4 @@
 -- `definitions::define` meets its contract: the template and the parameters are parts of the text; each way out is one case of reading's step.
--- Assumes nothing.
 use mathlib.Core.Path.{refl, sym, ap, _∙_}
 use native.Mathlib.Omega.{arith}
 use Rattle.templates.specs.Templates.{kindOf}
@@ -27,23 +26,20 @@ same-length : tie.Need-same-length
 same-length c = search needs
 
 returns : tie.Need-returns
-returns c =
-    let a = c .before .before .before .before .before .before .before .before .before .args in (
-      refl,
-      refl,
-      λ w s is k. aperture-taken w (a .p) s k (a .file .now) (a .a .now) (a .m .now) (a .numbers .now) is (a .n) _ _ _
-          (sym (c .before .before .before .search-number .ensures) ∙ c .before .enum-told .given .1) _ _ (c .aperture-fault .ensures),
-    )
+returns c = let a = c .before .before .before .before .before .before .before .before .before .args in (
+  refl,
+  refl,
+  λ w s is k. aperture-taken w (a .p) s k (a .file .now) (a .a .now) (a .m .now) (a .numbers .now) is (a .n) _ _ _
+      (sym (c .before .before .before .search-number .ensures) ∙ c .before .enum-told .given .1) _ _ (c .aperture-fault .ensures),
+)
 
 add-part : tie.Need-add-part
-add-part c =
-    let a = c .before .before .before .before .before .before .before .before .before .before .args in
+add-part c = let a = c .before .before .before .before .before .before .before .before .before .before .args in
     let p = c .before .before .before .before .before .before .before .before .before .before .pre in
     omega (arith, text-end (a .file .now) (a .from) (a .end) (p .1) (p .2) (a .name .to) (p .3 .named .inside), p .2, p .3 .named .ordered, c .before .before .before .before .before .before .before .before .before .before .good .0)
 
 add-part-2 : tie.Need-add-part-2
-add-part-2 c =
-    let a = c .before .before .before .before .before .before .before .before .before .before .before .args in
+add-part-2 c = let a = c .before .before .before .before .before .before .before .before .before .before .before .args in
     let p = c .before .before .before .before .before .before .before .before .before .before .before .pre in
     omega (arith, text-end (a .file .now) (a .from) (a .end) (p .1) (p .2) (a .name .to) (p .3 .named .inside), p .2, c .before .before .before .before .before .before .before .before .before .before .before .good .0)
 
@@ -54,14 +50,12 @@ kind-of-requires : tie.Need-kind-of-requires
 kind-of-requires c κs = search needs
 
 add-part-3 : tie.Need-add-part-3
-add-part-3 c =
-    let a = c .before .before .before .before .before .before .before .before .before .before .before .before .before .before .args in
+add-part-3 c = let a = c .before .before .before .before .before .before .before .before .before .before .before .before .before .before .args in
     let p = c .before .before .before .before .before .before .before .before .before .before .before .before .before .before .pre in
     omega (arith, text-end (a .file .now) (a .from) (a .end) (p .1) (p .2) (a .parameters .to) (p .3 .given .inside), p .2, p .3 .given .ordered, c .before .before .before .before .before .before .before .before .before .before .before .before .before .before .good .0)
 
 add-part-4 : tie.Need-add-part-4
-add-part-4 c =
-    let a = c .before .before .before .before .before .before .before .before .before .before .before .before .before .before .before .args in
+add-part-4 c = let a = c .before .before .before .before .before .before .before .before .before .before .before .before .before .before .before .args in
     let p = c .before .before .before .before .before .before .before .before .before .before .before .before .before .before .before .pre in
     omega (arith, text-end (a .file .now) (a .from) (a .end) (p .1) (p .2) (a .parameters .to) (p .3 .given .inside), p .2, c .before .before .before .before .before .before .before .before .before .before .before .before .before .before .before .good .0)
 
@@ -69,15 +63,13 @@ part-requires-2 : tie.Need-part-requires-2
 part-requires-2 c κs = search needs
 
 worked-requires : tie.Need-worked-requires
-worked-requires c κs =
-    let a = c .before .before .before .before .before .before .before .before .before .before .before .before .before .before .before .before .before .args in
+worked-requires c κs = let a = c .before .before .before .before .before .before .before .before .before .before .before .before .before .before .before .before .before .args in
     let p = c .before .before .before .before .before .before .before .before .before .before .before .before .before .before .before .before .before .pre in
     let l = text-end (a .file .now) (a .from) (a .end) (p .1) (p .2) (a .name .to) (p .3 .named .inside) in
     (c .before .before .before .before .kind-of .ensures ∙ ap kindOf (c .before .before .before .before .before .part .ensures), rw (p .0 .is .file-is, p .0 .is .macros-are) at (p .0 .knows .macros .indexed), omega (arith, p .3 .named .ordered), omega (arith, l, p .2))
 
-sub-t25 : tie.Need-sub-t25
-sub-t25 c =
-    let p = c .before .before .before .before .before .before .before .before .before .before .before .before .before .before .before .before .before .before .before .before .before .pre .0 in
+sub-t24 : tie.Need-sub-t24
+sub-t24 c = let p = c .before .before .before .before .before .before .before .before .before .before .before .before .before .before .before .before .before .before .before .before .before .pre .0 in
     works-on _ _ _ _ _ _ (c .before .before .before .worked .ensures (p .state .macros) (rw (p .is .file-is, p .is .macros-are) at (p .knows .macros))) (rw (p .is .numbers-are) at (p .knows .numbers .fits))
 
 put-aperture-requires : tie.Need-put-aperture-requires
@@ -93,8 +85,7 @@ same-length-3 : tie.Need-same-length-3
 same-length-3 c = search needs
 
 returns-2 : tie.Need-returns-2
-returns-2 c =
-    let a = c .before .before .before .before .before .before .before .before .before .before .before .before .before .before .before .before .before .before .before .before .before .before .before .before .before .before .before .args in
+returns-2 c = let a = c .before .before .before .before .before .before .before .before .before .before .before .before .before .before .before .before .before .before .before .before .before .before .before .before .before .before .before .args in
     let p = c .before .before .before .before .before .before .before .before .before .before .before .before .before .before .before .before .before .before .before .before .before .before .before .before .before .before .before .pre in
     let t = part-of-file (a .file .now) (a .from) (a .end) (p .1) (p .2) (a .name .from) (a .name .to) (p .3 .named .inside) in
     let u = part-of-file (a .file .now) (a .from) (a .end) (p .1) (p .2) (a .parameters .from) (a .parameters .to) (p .3 .given .inside) in
@@ -105,30 +96,34 @@ returns-2 c =
           (sym (c .before .before .before .before .before .before .before .before .before .before .before .before .before .before .before .before .before .before .before .before .before .search-number .ensures) ∙ c .before .before .before .before .before .before .before .before .before .before .before .before .before .before .before .before .before .before .before .found .given .1) _ _ k _ (c .before .before .before .before .put-aperture .ensures .0) _ (c .before .aperture-fault2 .ensures) _ (c .if1 .taken),
     )
 
-add-t26 : tie.Need-add-t26
-add-t26 c =
-    let p = c .before .before .before .before .before .before .before .before .before .before .before .before .before .before .before .before .before .before .before .before .before .before .before .before .before .before .before .before .before .pre .0 in
+add-with-apertures : tie.Need-add-with-apertures
+add-with-apertures c = let p = c .before .before .before .before .before .before .before .before .before .before .before .before .before .before .before .before .before .before .before .before .before .before .before .before .before .before .before .before .pre .0 in
     let i = p .knows .apertures .indexed .tree .inside in
-    omega (arith, rw (p .is .apertures-are) at i, c .before .before .before .before .before .before .before .before .before .before .before .before .before .before .before .before .before .before .before .before .before .before .before .before .before .before .before .before .before .good .1 .0)
+    omega (arith, rw (p .is .apertures-are) at i, c .before .before .before .before .before .before .before .before .before .before .before .before .before .before .before .before .before .before .before .before .before .before .before .before .before .before .before .before .good .1 .0)
+
+with-numbers-requires : tie.Need-with-numbers-requires
+with-numbers-requires c κs = search needs
+
+with-apertures-requires : tie.Need-with-apertures-requires
+with-apertures-requires c κs = search needs
 
 same-length-4 : tie.Need-same-length-4
 same-length-4 c = search needs
 
 same-length-5 : tie.Need-same-length-5
-same-length-5 c = search needs
+same-length-5 c = search (needs, c .before .before .before .before .before .before .before .before .before .before .before .numbers .given, c .before .before .before .before .before .before .before .before .before .before .before .before .worked)
 
 returns-3 : tie.Need-returns-3
-returns-3 c =
-    let a = c .before .before .before .before .before .before .before .before .before .before .before .before .before .before .before .before .before .before .before .before .before .before .before .before .before .before .before .before .before .args in
-    let p = c .before .before .before .before .before .before .before .before .before .before .before .before .before .before .before .before .before .before .before .before .before .before .before .before .before .before .before .before .before .pre in
+returns-3 c = let a = c .before .before .before .before .before .before .before .before .before .before .before .before .before .before .before .before .before .before .before .before .before .before .before .before .before .before .before .before .before .before .args in
+    let p = c .before .before .before .before .before .before .before .before .before .before .before .before .before .before .before .before .before .before .before .before .before .before .before .before .before .before .before .before .before .before .pre in
     let t = part-of-file (a .file .now) (a .from) (a .end) (p .1) (p .2) (a .name .from) (a .name .to) (p .3 .named .inside) in
     let u = part-of-file (a .file .now) (a .from) (a .end) (p .1) (p .2) (a .parameters .from) (a .parameters .to) (p .3 .given .inside) in
-    let k = works-text (a .file .now) (a .m .now) (a .p .macros) _ _ _ _ _ _ (a .p .numbers) _ (sym t) (c .before .before .before .before .before .before .before .before .before .before .before .before .before .part2 .ensures ∙ sym u) (c .before .before .before .before .before .before .before .before .before .before .before .worked .ensures) in (
+    let k = works-text (a .file .now) (a .m .now) (a .p .macros) _ _ _ _ _ _ (a .p .numbers) _ (sym t) (c .before .before .before .before .before .before .before .before .before .before .before .before .before .before .part2 .ensures ∙ sym u) (c .before .before .before .before .before .before .before .before .before .before .before .before .worked .ensures) in (
       same-length-4 c,
       same-length-5 c,
       λ w s is knows. aperture-goes w (a .p) s knows (a .file .now) (a .a .now) (a .m .now) (a .numbers .now) is (a .n) _ _ _
-          (sym (c .before .before .before .before .before .before .before .before .before .before .before .before .before .before .before .before .before .before .before .before .before .before .before .search-number .ensures) ∙ c .before .before .before .before .before .before .before .before .before .before .before .before .before .before .before .before .before .before .before .before .before .found .given .1) _ _ k _ (c .before .before .before .before .before .before .put-aperture .ensures .0) _ (c .before .before .before .aperture-fault2 .ensures) (c .before .before .if1 .left)
-          _ (c .before .before .before .before .before .before .before .before .before .before .before .before .before .before .before .before .kind-of .ensures ∙ ap kindOf (c .before .before .before .before .before .before .before .before .before .before .before .before .before .before .before .before .before .part .ensures ∙ sym t)) _ (c .before .before .before .before .before .before .put-aperture .ensures .1),
+          (sym (c .before .before .before .before .before .before .before .before .before .before .before .before .before .before .before .before .before .before .before .before .before .before .before .before .search-number .ensures) ∙ c .before .before .before .before .before .before .before .before .before .before .before .before .before .before .before .before .before .before .before .before .before .before .found .given .1) _ _ k _ (c .before .before .before .before .before .before .before .put-aperture .ensures .0) _ (c .before .before .before .before .aperture-fault2 .ensures) (c .before .before .before .if1 .left)
+          _ (c .before .before .before .before .before .before .before .before .before .before .before .before .before .before .before .before .before .kind-of .ensures ∙ ap kindOf (c .before .before .before .before .before .before .before .before .before .before .before .before .before .before .before .before .before .before .part .ensures ∙ sym t)) _ (c .before .before .before .before .before .before .before .put-aperture .ensures .1) (rw (c .before .with-numbers .ensures) at (c .with-apertures .ensures)),
     )
 
 pub define-spec : {M : Type 1} → statement M
@@ -149,13 +144,15 @@ define-spec =
     add-part-4
     part-requires-2
     worked-requires
-    sub-t25
+    sub-t24
     put-aperture-requires
     aperture-fault-requires-2
     same-length-2
     same-length-3
     returns-2
-    add-t26
+    add-with-apertures
+    with-numbers-requires
+    with-apertures-requires
     same-length-4
     same-length-5
     returns-3)

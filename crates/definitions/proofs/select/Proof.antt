@@ -1,7 +1,6 @@
 -- `definitions::select` meets its contract: a Dn that keeps its rules is known behind it, any other has reading's fault.
--- Assumes nothing.
-use borrow.Author.Needs.{needs}
 use Rattle.definitions.proofs.Selecting.{select-refused, select-goes}
+use borrow.Author.Needs.{needs}
 use Rattle.definitions.proofs.select.Statement.{statement}
 use Rattle.definitions.proofs.select.Tie as tie
 
@@ -12,17 +11,16 @@ select-fault-requires : tie.Need-select-fault-requires
 select-fault-requires c κs = search needs
 
 returns : tie.Need-returns
-returns c =
-    let b = c .before .before .before in
-    λ w s is k. select-refused w (b .before .before .args .p) s k (b .before .before .args .n) (b .before .before .args .a .now) is (b .aperture-with .result) (b .aperture-with .ensures) _ (c .before .select-fault .ensures) (c .if1 .taken)
+returns c = λ w s is k. select-refused w (c .before .before .before .before .before .args .p) s k (c .before .before .before .before .before .args .n) (c .before .before .before .before .before .args .a .now) is _ (c .before .before .before .aperture-with .ensures) _ (c .before .select-fault .ensures) (c .if1 .taken)
 
 with-aperture-requires : tie.Need-with-aperture-requires
 with-aperture-requires c κs = search needs
 
+with-graphics-requires : tie.Need-with-graphics-requires
+with-graphics-requires c κs = search needs
+
 returns-2 : tie.Need-returns-2
-returns-2 c =
-    let b = c .before .before .before .before .before in
-    λ w s is k. select-goes w (b .before .before .args .p) s k (b .before .before .args .n) (b .before .before .args .a .now) is (b .aperture-with .result) (b .aperture-with .ensures) _ (c .before .before .before .select-fault .ensures) (c .before .before .if1 .left) _ (c .with-aperture .ensures)
+returns-2 c = λ w s is k. select-goes w (c .before .before .before .before .before .before .before .args .p) s k (c .before .before .before .before .before .before .before .args .n) (c .before .before .before .before .before .before .before .args .a .now) is _ (c .before .before .before .before .before .aperture-with .ensures) _ (c .before .before .before .select-fault .ensures) (c .before .before .if1 .left) (c .before .with-aperture .ensures) (c .with-graphics .ensures)
 
 pub select-spec : {M : Type 1} → statement M
 select-spec =
@@ -32,4 +30,5 @@ select-spec =
     select-fault-requires
     returns
     with-aperture-requires
+    with-graphics-requires
     returns-2)

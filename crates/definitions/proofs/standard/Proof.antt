@@ -61,8 +61,8 @@ loop-again c =
 keeps-rule-requires : tie.Need-keeps-rule-requires Inv-loop μ-loop
 keeps-rule-requires c κs = search needs
 
-fault-requires : tie.Need-fault-requires Inv-loop μ-loop
-fault-requires c κs = search needs
+row-requires : tie.Need-row-requires Inv-loop μ-loop
+row-requires c κs = search needs
 
 answered-requires : tie.Need-answered-requires Inv-loop μ-loop
 answered-requires c κs = search needs
@@ -74,7 +74,7 @@ returns : tie.Need-returns Inv-loop μ-loop
 returns c =
     let l = c .before .before .before .before .loop in
     let a = c .before .before .before .before .before .before .before .args in
-    standard-end (a .t .now) (l .at) (l .at) _ _ _ _ (l .q) (l .inv) (c .before .before .before .loop-test .left) (a .kind) (a .used) refl _ (c .before .before .keeps-rule .ensures) _ (c .before .fault .ensures) _ (c .answered .ensures)
+    standard-end (a .t .now) (l .at) (l .at) _ _ _ _ (l .q) (l .inv) (c .before .before .before .loop-test .left) (a .kind) (a .used) refl _ (c .before .before .keeps-rule .ensures) _ (c .before .row .ensures) _ (c .answered .ensures)
 
 pub standard-spec : {M : Type 1} → statement M
 standard-spec =
@@ -94,7 +94,7 @@ standard-spec =
     loop-less
     loop-again
     keeps-rule-requires
-    fault-requires
+    row-requires
     answered-requires
     same-length
     returns)

@@ -1,5 +1,5 @@
 -- `descend::before_at` meets its contract: the word read is that of the record.
-use Rattle.sheet.specs.Records.{entryIn, entryOf}
+use Rattle.sheet.specs.Records.{entryWidth, entryIn, entryOf}
 use lib.Seq.{getD-drop}
 use mathlib.Core.Path.{sym, _∙_}
 use Prim.Native.Nat.{_*_}
@@ -18,7 +18,7 @@ word-at-requires c κs = search needs
 
 returns : tie.Need-returns
 unfolding entryOf entryIn
-returns c = c .word-at .ensures ∙ sym (getD-drop (c .before .before .args .i * 15) (c .before .before .args .e .now) 1 0)
+returns c = c .word-at .ensures ∙ sym (getD-drop (c .before .before .args .i * entryWidth) (c .before .before .args .e .now) 1 0)
 
 pub before-at-spec : {M : Type 1} → statement M
 before-at-spec = tie.close (tie.spec mul-word-at add-word-at word-at-requires returns)

@@ -1,4 +1,5 @@
 -- `descend::fill` meets its contract. The loop's invariant: j slots are filled, and the rest is 0.
+use Rattle.place.specs.Item.{itemWidth}
 use Rattle.descend.specs.Search.{Whole}
 use Rattle.descend.proofs.Slots.{filled, filled-none, filled-more, filled-whole, filled-past}
 use Rattle.sheet.specs.Meaning.{items}
@@ -12,7 +13,7 @@ use Rattle.descend.proofs.fill.Statement.{statement}
 use Rattle.descend.proofs.fill.Tie as tie
 
 abbrev Inv-loop : tie.InvT-loop
-Inv-loop e a k n out₀ room j₀ out j = (j ≤ room) × (length out ≡ length out₀) × (out ≡ filled (items e a 10 k) n (length out₀) j) × (Whole e a k n) × (room ≡ length out₀ / 15)
+Inv-loop e a k n out₀ room j₀ out j = (j ≤ room) × (length out ≡ length out₀) × (out ≡ filled (items e a 10 k) n (length out₀) j) × (Whole e a k n) × (room ≡ length out₀ / itemWidth)
 
 abbrev μ-loop : tie.MeasureT-loop
 μ-loop e a k n out₀ room j₀ out j = room - j

@@ -7,20 +7,20 @@ use Rattle.drawing.proofs.move_fault.Tie as tie
 is-unclosed-requires : tie.Need-is-unclosed-requires
 is-unclosed-requires c κs = search needs
 
-fault-requires : tie.Need-fault-requires
-fault-requires c κs = search needs
+row-requires : tie.Need-row-requires
+row-requires c κs = search needs
 
 is-placeless-requires : tie.Need-is-placeless-requires
 is-placeless-requires c κs = search needs
 
-fault-requires-2 : tie.Need-fault-requires-2
-fault-requires-2 c κs = search needs
+row-requires-2 : tie.Need-row-requires-2
+row-requires-2 c κs = search needs
 
 is-unready-requires : tie.Need-is-unready-requires
 is-unready-requires c κs = search needs
 
-fault-requires-3 : tie.Need-fault-requires-3
-fault-requires-3 c κs = search needs
+row-requires-3 : tie.Need-row-requires-3
+row-requires-3 c κs = search needs
 
 returns : tie.Need-returns
 unfolding moveFault
@@ -31,9 +31,9 @@ move-fault-spec =
     tie.close
     (tie.spec
     is-unclosed-requires
-    fault-requires
+    row-requires
     is-placeless-requires
-    fault-requires-2
+    row-requires-2
     is-unready-requires
-    fault-requires-3
+    row-requires-3
     returns)

@@ -7,11 +7,11 @@ use Rattle.drawing.proofs.region_end_fault.Tie as tie
 is-unclosed-requires : tie.Need-is-unclosed-requires
 is-unclosed-requires c κs = search needs
 
-fault-requires : tie.Need-fault-requires
-fault-requires c κs = search needs
+row-requires : tie.Need-row-requires
+row-requires c κs = search needs
 
-fault-requires-2 : tie.Need-fault-requires-2
-fault-requires-2 c κs = search needs
+row-requires-2 : tie.Need-row-requires-2
+row-requires-2 c κs = search needs
 
 returns : tie.Need-returns
 unfolding regionEndFault
@@ -19,4 +19,4 @@ returns c = cc
 
 pub region-end-fault-spec : {M : Type 1} → statement M
 region-end-fault-spec =
-    tie.close (tie.spec is-unclosed-requires fault-requires fault-requires-2 returns)
+    tie.close (tie.spec is-unclosed-requires row-requires row-requires-2 returns)

@@ -11,20 +11,23 @@ target-requires c κs = search needs
 edge-requires : tie.Need-edge-requires
 edge-requires c κs = (known-mode _ _ (c .before .before .before .before .pre .0 .known), (known-point _ _ (c .before .before .before .before .pre .0 .known), c .before .before .before .before .pre .0 .near .centre))
 
-put-edge-requires : tie.Need-put-edge-requires
-put-edge-requires c κs = edge-asks _ _ (c .before .before .before .before .before .before .args .place) _ _ _ (c .before .before .before .before .before .before .pre .0) (c .before .before .before .before .before .before .pre .1)
+add-edge-requires : tie.Need-add-edge-requires
+add-edge-requires c κs = edge-asks _ _ (c .before .before .before .before .before .before .args .place) _ _ _ (c .before .before .before .before .before .before .pre .0) (c .before .before .before .before .before .before .pre .1)
 
 after-requires : tie.Need-after-requires
 after-requires c κs = search needs
 
-advanced-requires : tie.Need-advanced-requires
-advanced-requires c κs = search needs
+with-graphics-requires : tie.Need-with-graphics-requires
+with-graphics-requires c κs = search needs
+
+with-builder-requires : tie.Need-with-builder-requires
+with-builder-requires c κs = search needs
 
 same-length : tie.Need-same-length
 same-length c = search needs
 
 returns : tie.Need-returns
-returns c = edge-drawn _ _ _ _ _ _ (c .before .before .before .before .before .before .before .before .before .before .before .pre .0) (c .before .before .before .before .before .before .before .target .ensures) (c .before .after .ensures) (c .before .before .before .before .before .before .before .before .before .before .before .pre .1) (c .before .before .before .before .before .before .edge .ensures) (c .before .before .before .before .put-edge .ensures) (c .advanced .ensures)
+returns c = edge-drawn _ _ _ _ _ _ (c .before .before .before .before .before .before .before .before .before .before .before .before .pre .0) (c .before .before .before .before .before .before .before .before .target .ensures) (c .before .before .after .ensures) (c .before .with-graphics .ensures) (c .before .before .before .before .before .before .before .before .before .before .before .before .pre .1) (c .before .before .before .before .before .before .before .edge .ensures) (c .before .before .before .before .before .add-edge .ensures) (c .with-builder .ensures)
 
 pub draw-edge-spec : {M : Type 1} → statement M
 draw-edge-spec =
@@ -32,8 +35,9 @@ draw-edge-spec =
     (tie.spec
     target-requires
     edge-requires
-    put-edge-requires
+    add-edge-requires
     after-requires
-    advanced-requires
+    with-graphics-requires
+    with-builder-requires
     same-length
     returns)

@@ -11,20 +11,23 @@ target-requires c κs = search needs
 drawn-requires : tie.Need-drawn-requires
 drawn-requires c κs = (known-point _ _ (c .before .before .before .before .pre .0 .known), c .before .before .before .before .pre .0 .near .centre)
 
-put-item-requires : tie.Need-put-item-requires
-put-item-requires c κs = (known-items _ _ (c .before .before .before .before .before .before .pre .0 .known), draw-has-room _ _ (c .before .before .before .before .before .before .args .place) _ _ _ (c .before .before .before .before .before .before .pre .0))
+add-item-requires : tie.Need-add-item-requires
+add-item-requires c κs = (draw-has-room _ _ (c .before .before .before .before .before .before .args .place) _ _ _ (c .before .before .before .before .before .before .pre .0), known-items _ _ (c .before .before .before .before .before .before .pre .0 .known))
 
 after-requires : tie.Need-after-requires
 after-requires c κs = search needs
 
-advanced-requires : tie.Need-advanced-requires
-advanced-requires c κs = search needs
+with-graphics-requires : tie.Need-with-graphics-requires
+with-graphics-requires c κs = search needs
+
+with-builder-requires : tie.Need-with-builder-requires
+with-builder-requires c κs = search needs
 
 same-length : tie.Need-same-length
 same-length c = search needs
 
 returns : tie.Need-returns
-returns c = item-drawn _ _ _ _ _ _ (c .before .before .before .before .before .before .before .before .before .before .before .pre .0) (c .before .before .before .before .before .before .before .target .ensures) (c .before .after .ensures) (c .before .before .before .before .before .before .before .before .before .before .before .pre .1) (c .before .before .before .before .before .before .drawn .ensures) (c .before .before .before .before .put-item .ensures) (c .advanced .ensures)
+returns c = item-drawn _ _ _ _ _ _ (c .before .before .before .before .before .before .before .before .before .before .before .before .pre .0) (c .before .before .before .before .before .before .before .before .target .ensures) (c .before .before .after .ensures) (c .before .with-graphics .ensures) (c .before .before .before .before .before .before .before .before .before .before .before .before .pre .1) (c .before .before .before .before .before .before .before .drawn .ensures) (c .before .before .before .before .before .add-item .ensures) (c .with-builder .ensures)
 
 pub draw-item-spec : {M : Type 1} → statement M
 draw-item-spec =
@@ -32,8 +35,9 @@ draw-item-spec =
     (tie.spec
     target-requires
     drawn-requires
-    put-item-requires
+    add-item-requires
     after-requires
-    advanced-requires
+    with-graphics-requires
+    with-builder-requires
     same-length
     returns)

@@ -11,20 +11,23 @@ target-requires c κs = search needs
 flashed-requires : tie.Need-flashed-requires
 flashed-requires c κs = search needs
 
-put-item-requires : tie.Need-put-item-requires
-put-item-requires c κs = (known-items _ _ (c .before .before .before .before .before .before .pre .0 .known), flash-has-room _ _ (c .before .before .before .before .before .before .args .place) _ _ (c .before .before .before .before .before .before .pre .0))
+add-item-requires : tie.Need-add-item-requires
+add-item-requires c κs = (flash-has-room _ _ (c .before .before .before .before .before .before .args .place) _ _ (c .before .before .before .before .before .before .pre .0), known-items _ _ (c .before .before .before .before .before .before .pre .0 .known))
 
 after-requires : tie.Need-after-requires
 after-requires c κs = search needs
 
-advanced-requires : tie.Need-advanced-requires
-advanced-requires c κs = search needs
+with-graphics-requires : tie.Need-with-graphics-requires
+with-graphics-requires c κs = search needs
+
+with-builder-requires : tie.Need-with-builder-requires
+with-builder-requires c κs = search needs
 
 same-length : tie.Need-same-length
 same-length c = search needs
 
 returns : tie.Need-returns
-returns c = item-flashed _ _ _ _ _ (c .before .before .before .before .before .before .before .before .before .before .before .pre .0) (c .before .before .before .before .before .before .before .target .ensures) (c .before .after .ensures) (c .before .before .before .before .before .before .before .before .before .before .before .pre .1) (c .before .before .before .before .before .before .flashed .ensures) (c .before .before .before .before .put-item .ensures) (c .advanced .ensures)
+returns c = item-flashed _ _ _ _ _ (c .before .before .before .before .before .before .before .before .before .before .before .before .pre .0) (c .before .before .before .before .before .before .before .before .target .ensures) (c .before .before .after .ensures) (c .before .with-graphics .ensures) (c .before .before .before .before .before .before .before .before .before .before .before .before .pre .1) (c .before .before .before .before .before .before .before .flashed .ensures) (c .before .before .before .before .before .add-item .ensures) (c .with-builder .ensures)
 
 pub flash-item-spec : {M : Type 1} → statement M
 flash-item-spec =
@@ -32,8 +35,9 @@ flash-item-spec =
     (tie.spec
     target-requires
     flashed-requires
-    put-item-requires
+    add-item-requires
     after-requires
-    advanced-requires
+    with-graphics-requires
+    with-builder-requires
     same-length
     returns)

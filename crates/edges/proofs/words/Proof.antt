@@ -2,14 +2,15 @@
 use native.Mathlib.Omega.{arith}
 use mathlib.Core.Path.{refl}
 use Prim.Native.Nat.{_-_, _≤_}
+use Rattle.place.specs.Item.{itemWidth}
 use Rattle.edges.proofs.words.Statement.{statement}
 use Rattle.edges.proofs.words.Tie as tie
 
 abbrev Inv-loop : tie.InvT-loop
-Inv-loop out i₀ t3 i = i ≤ 15
+Inv-loop out i₀ t3 i = i ≤ itemWidth
 
 abbrev μ-loop : tie.MeasureT-loop
-μ-loop out i₀ t3 i = 15 - i
+μ-loop out i₀ t3 i = itemWidth - i
 
 loop-holds : tie.Need-loop-holds Inv-loop μ-loop
 loop-holds c = omega arith

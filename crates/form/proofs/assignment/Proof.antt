@@ -1,6 +1,8 @@
 -- `form::assignment` meets its contract: its two parts are those of `assignmentForm`.
 -- Assumes nothing.
-use Rattle.form.specs.Blocks.{assignmentForm}
+use mathlib.Core.Path.{ap}
+use native.Mathlib.Omega.{arith}
+use Rattle.form.specs.Blocks.{numbered, assignmentForm}
 use borrow.Author.Needs.{needs}
 use Rattle.form.proofs.assignment.Statement.{statement}
 use Rattle.form.proofs.assignment.Tie as tie
@@ -24,7 +26,8 @@ expression-requires : tie.Need-expression-requires
 expression-requires c κs = search needs
 
 both-requires : tie.Need-both-requires
-both-requires c κs = search needs
+unfolding numbered
+both-requires c κs = omega (arith, ap (λ x. x .rounded) (c .before .before .numbered .ensures))
 
 returns : tie.Need-returns
 unfolding assignmentForm

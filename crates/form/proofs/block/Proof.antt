@@ -1,7 +1,7 @@
 -- `form::block` meets its contract: its first byte picks the case of `blockForm`.
 -- Assumes nothing.
 use Rattle.form.specs.Blocks.{good, blockForm}
-use Rattle.command.proofs.Choose.{row-holds, row-fails}
+use Rattle.base.proofs.Choose.{row-holds, row-fails}
 use borrow.Author.Tests.{eq-eqb, ne-eqb}
 use mathlib.Core.Path.{refl, sym}
 use borrow.Author.Needs.{needs}

@@ -5,6 +5,9 @@ use borrow.Author.Needs.{needs}
 use Rattle.form.proofs.both.Statement.{statement}
 use Rattle.form.proofs.both.Tie as tie
 
+add-rounded : tie.Need-add-rounded
+add-rounded c = search needs
+
 either-requires : tie.Need-either-requires
 either-requires c κs = search needs
 
@@ -19,4 +22,5 @@ unfolding joined
 returns c = cc
 
 pub both-spec : {M : Type 1} → statement M
-both-spec = tie.close (tie.spec either-requires either-requires-2 either-requires-3 returns)
+both-spec =
+    tie.close (tie.spec add-rounded either-requires either-requires-2 either-requires-3 returns)

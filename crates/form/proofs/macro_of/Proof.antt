@@ -1,7 +1,7 @@
 -- `form::macro_of` meets its contract: whether a `*` stands behind the name picks the case of `macroOf`.
 -- Assumes nothing.
 use Rattle.form.specs.Macro.{headed, macroOf}
-use Rattle.command.proofs.Choose.{row-holds, row-fails}
+use Rattle.base.proofs.Choose.{row-holds, row-fails}
 use borrow.Author.Tests.{lt-ltb, le-ltb}
 use mathlib.Core.Path.{refl, sym}
 use borrow.Author.Needs.{needs}

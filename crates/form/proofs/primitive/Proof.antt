@@ -1,21 +1,23 @@
--- `form::primitive` meets its contract: the loop's invariant: what is wrong so far, with the expressions from here on, is what is wrong with all of it.
+-- `form::primitive` meets its contract: the loop's invariant: what is wrong so far, with the expressions from here on, is what is wrong with all of it;
+-- no more decimals are counted than bytes were passed.
 -- Assumes nothing.
-use Rattle.form.specs.Blocks.{gathered, parameterForm, primitiveForm}
+use Rattle.form.specs.Blocks.{joined, gathered, parameterForm, primitiveForm}
+use Rattle.form.proofs.Few.{parameter-few, piece}
 use Rattle.form.proofs.Gathered.{gather-next, gather-end}
 use Rattle.text.specs.Pieces.{pieces}
 use Rattle.text.proofs.First.{first-from}
 use native.Mathlib.Omega.{arith}
 use lib.Dec.{eqb}
 use lib.ListN.{length, drop}
-use mathlib.Core.Path.{_≡_, sym, _∙_}
+use mathlib.Core.Path.{_≡_, sym, ap, _∙_}
 use Prim.Native.Char.{code}
-use Prim.Native.Nat.{_+_, _-_}
+use Prim.Native.Nat.{_+_, _-_, _≤_}
 use borrow.Author.Needs.{needs}
 use Rattle.form.proofs.primitive.Statement.{statement}
 use Rattle.form.proofs.primitive.Tie as tie
 
 abbrev Inv-loop : tie.InvT-loop
-Inv-loop t at₀ f₀ at f = gathered parameterForm f (pieces (code ",") (drop at t)) ≡ primitiveForm t
+Inv-loop t at₀ f₀ at f = (gathered parameterForm f (pieces (code ",") (drop at t)) ≡ primitiveForm t) × (f .rounded ≤ at)
 
 abbrev μ-loop : tie.MeasureT-loop
 μ-loop t at₀ f₀ at f = length t - at
@@ -31,7 +33,7 @@ is-number-requires c κs = search needs
 
 loop-holds : tie.Need-loop-holds Inv-loop μ-loop
 unfolding primitiveForm
-loop-holds c = rw (c .is-number .ensures, c .before .up-to .ensures, c .before .before .find .ensures)
+loop-holds c = (rw (c .is-number .ensures, c .before .up-to .ensures, c .before .before .find .ensures), omega arith)
 
 add-find : tie.Need-add-find Inv-loop μ-loop
 add-find c = omega arith
@@ -51,8 +53,13 @@ without-leading-requires c κs = search needs
 expression-requires : tie.Need-expression-requires Inv-loop μ-loop
 expression-requires c κs = search needs
 
+-- the next expression's decimals, with those before it, are no more than the bytes up to its end
+next-few : (c : tie.After-expression Inv-loop μ-loop) → (c .expression .result .rounded + (c .before .before .before .before .before .loop .at + 1) ≤ c .before .before .before .find2 .result) × (c .before .before .before .find2 .result ≤ length (c .before .before .before .before .before .before .before .before .before .before .args .t .now))
+unfolding parameterForm
+next-few c = rw (c .expression .ensures, c .before .without-leading .ensures, c .before .before .part .ensures) (piece parameterForm parameter-few (code ",") _ _ _ (c .before .before .before .before .loop-test .taken) (c .before .before .before .find2 .ensures))
+
 both-requires : tie.Need-both-requires Inv-loop μ-loop
-both-requires c κs = search needs
+both-requires c κs = let few = next-few c in omega (arith, few .0, few .1, c .before .before .before .before .before .loop .inv .1)
 
 loop-less : tie.Need-loop-less Inv-loop μ-loop
 loop-less c =
@@ -60,17 +67,20 @@ loop-less c =
     omega (arith, first-from (λ b. eqb b (code ",")) (c .before .before .before .before .before .before .before .before .before .before .before .args .t .now) (l .at + 1), c .before .before .before .before .find2 .ensures)
 
 loop-again : tie.Need-loop-again Inv-loop μ-loop
-unfolding parameterForm
+unfolding joined parameterForm
 loop-again c =
     let l = c .before .before .before .before .before .before .loop in
     let t = c .before .before .before .before .before .before .before .before .before .before .before .args .t .now in
-    rw (c .both .ensures, c .before .expression .ensures, c .before .before .without-leading .ensures, c .before .before .before .part .ensures, c .before .before .before .before .find2 .ensures)
-    (sym (gather-next parameterForm (code ",") t (l .at) (l .f) (c .before .before .before .before .before .loop-test .taken)) ∙ l .inv)
+    let few = next-few (c .before) in (
+      rw (c .both .ensures, c .before .expression .ensures, c .before .before .without-leading .ensures, c .before .before .before .part .ensures, c .before .before .before .before .find2 .ensures)
+          (sym (gather-next parameterForm (code ",") t (l .at) (l .f) (c .before .before .before .before .before .loop-test .taken)) ∙ l .inv .0),
+      omega (arith, ap (λ x. x .rounded) (c .both .ensures), few .0, l .inv .1),
+    )
 
 returns : tie.Need-returns Inv-loop μ-loop
 returns c =
     let l = c .before .loop in
-    sym (gather-end parameterForm (code ",") _ (l .at) (l .f) (c .loop-test .left)) ∙ l .inv
+    sym (gather-end parameterForm (code ",") _ (l .at) (l .f) (c .loop-test .left)) ∙ l .inv .0
 
 pub primitive-spec : {M : Type 1} → statement M
 primitive-spec =

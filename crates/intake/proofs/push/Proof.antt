@@ -19,14 +19,11 @@ slice-aggregate-grow c = search needs
 grow-requires : tie.Need-grow-requires
 grow-requires c κs = search needs
 
-way-after-requires : tie.Need-way-after-requires
-way-after-requires c κs = search needs
-
 holds-end-requires : tie.Need-holds-end-requires
 holds-end-requires c κs = search needs
 
-settle-requires : tie.Need-settle-requires
-settle-requires c κs = search needs
+stage-after-requires : tie.Need-stage-after-requires
+stage-after-requires c κs = search needs
 
 slice-aggregate-feed-text : tie.Need-slice-aggregate-feed-text
 slice-aggregate-feed-text c = search needs
@@ -47,13 +44,12 @@ returns c =
       c .wrapping-add-usize .ensures,
       c .before .pick2 .ensures,
       c .before .before .feed-text .ensures,
-      c .before .before .before .before .settle .ensures,
+      c .before .before .before .before .stage-after .ensures,
       c .before .before .before .before .before .holds-end .ensures,
-      c .before .before .before .before .before .before .way-after .ensures,
-      c .before .before .before .before .before .before .before .before .grow .ensures,
-      c .before .before .before .before .before .before .before .before .before .before .pick .ensures,
-      c .before .before .before .before .before .before .before .before .before .before .before .fresh .ensures,
-      c .before .before .before .before .before .before .before .before .before .before .before .before .does-begin .ensures,
+      c .before .before .before .before .before .before .before .grow .ensures,
+      c .before .before .before .before .before .before .before .before .before .pick .ensures,
+      c .before .before .before .before .before .before .before .before .before .before .fresh .ensures,
+      c .before .before .before .before .before .before .before .before .before .before .before .does-begin .ensures,
     )
 
 pub push-spec : {M : Type 1} → statement M
@@ -65,9 +61,8 @@ push-spec =
     pick-requires
     slice-aggregate-grow
     grow-requires
-    way-after-requires
     holds-end-requires
-    settle-requires
+    stage-after-requires
     slice-aggregate-feed-text
     feed-text-requires
     pick-requires-2

@@ -45,9 +45,9 @@ use denote.Exit.{yes}
 use Rattle.command.specs.declared.Command.{Command}
 use Rattle.command.proofs.Command as E
 use Rattle.command.proofs.Command.Laws as E′
-use Rattle.fits.specs.declared.Level.{Level}
-use Rattle.fits.proofs.Level as Lv
-use Rattle.fits.proofs.Level.Laws as Lv′
+use Rattle.graphics.specs.declared.Level.{Level}
+use Rattle.graphics.proofs.Level as Lv
+use Rattle.graphics.proofs.Level.Laws as Lv′
 use Rattle.graphics.specs.declared.Graphics.{Graphics}
 use Rattle.graphics.proofs.Graphics as T
 use Rattle.graphics.proofs.Graphics.Laws as T′
@@ -144,9 +144,9 @@ module _ {M : Type 1} (𝓤 : URA M) (H : Heap 𝓤) (A : Atoms 𝓤) (W : Given
     walk =
         qed W (‵ ftrue ∷ ‵ (owns (R ∷ Lv.the-row ∷ E.the-row ∷ u64 ∷ []) a at) ∷ []) ∵ keep ! [] $ enter ! C Λ code.function (mach h ∷ lev l ∷ cmd c ∷ vint w64 found ∷ []) _ $
         alloc1 ! (λ l₀. alloc1 ! (λ l₁. alloc1 ! (λ l₂. alloc1 ! (λ l₃. alloc1 ! (λ l₄. alloc1 ! (λ l₅. alloc1 ! (λ l₆. alloc1 ! (λ l₇. alloc1 ! (λ l₈. alloc0 ! $ params1 ! $
-        pass1 ! (init ! 14 refl (typed 𝓤 H A W h g)) $ pass1 ! (init ! 12 refl (LL.lawful Lv.the-type Lv′.the-laws 𝓤 H A W .typed l _ gl .0)) $ pass1 ! (init ! 10 refl (EL.lawful E.the-type E′.the-laws 𝓤 H A W tt .typed c _ gc .0)) $ pass1 ! (init ! 8 refl (tt, record { fits = found-fits })) $ pass0 ! $
+        pass1 ! (init ! 14 {τ = T′.mir} {v = mach h} refl (typed 𝓤 H A W h g)) $ pass1 ! (init ! 12 {τ = Lv′.mir} {v = lev l} refl (LL.lawful Lv.the-type Lv′.the-laws 𝓤 H A W .typed l _ gl .0)) $ pass1 ! (init ! 10 {τ = E′.mir} {v = cmd c} refl (EL.lawful E.the-type E′.the-laws 𝓤 H A W tt .typed c _ gc .0)) $ pass1 ! (init ! 8 refl (tt, record { fits = found-fits })) $ pass0 ! $
         -- [_8; …; _7; …; _6; …; _5; …; _4; …; _3; …; _2; …; _1; …; room for _0; …]
-        assigns ! (of-opd ! (load ! (from ! (stop !)) (look ! 14 refl))) (from ! (stop !)) (init ! 6 refl (typed 𝓤 H A W h g)) $
+        assigns ! (of-opd ! (load ! (from ! (stop !)) (look ! 14 refl))) (from ! (stop !)) (init ! 6 {τ = T′.mir} {v = mach h} refl (typed 𝓤 H A W h g)) $
         assigns ! (addr ! (from ! (stop !))) (from ! (stop !)) (init ! 2 refl (tt, tt)) $
         -- the state is lent, for a lifetime ν of the call
         move ! (6 ∷ []) $ use1 W (‵ (mem R .lies h l₅ 0)) (state-in 𝓤 H A W h l₅ g) $ lft-new ! tt (λ ν. move ! (1 ∷ []) $
@@ -167,8 +167,8 @@ module _ {M : Type 1} (𝓤 : URA M) (H : Heap 𝓤) (A : Atoms 𝓤) (W : Given
         move ! (1 ∷ []) $ peeks ! R (Is R) (shows 𝓤 H A R) (ws .0) (mach (ws .0) ∷ []) (λ g′.
         let made : Is S.the-row (ans n (ws .0)) (val n (ws .0) ∷ []) = LL.owes S.the-type S′.the-laws (ans n (ws .0)) ((refl, is .1), (g′, tt)) in
         -- [what the state owns; _5; true; what n owns; true; _8; …; _7; …; _6; …; that _5 dies; _4; …; _3; …; _2; …; _1; …; room for _0; …]
-        assigns ! (of-opd ! (load ! (from ! (stop !)) (look ! 1 refl))) (from ! (stop !)) (init ! 5 refl (typed 𝓤 H A W (ws .0) g′)) $
-        assigns ! (agg ! (and-then ! (load ! (from ! (stop !)) (look ! 9 refl)) (and-then ! (load ! (from ! (stop !)) (look ! 5 refl)) (no-more !)))) (from ! (stop !)) (init ! 20 refl (LL.lawful S.the-type S′.the-laws 𝓤 H A W .typed (ans n (ws .0)) _ made .0)) $
+        assigns ! (of-opd ! (load ! (from ! (stop !)) (look ! 1 refl))) (from ! (stop !)) (init ! 5 {τ = T′.mir} {v = mach (ws .0)} refl (typed 𝓤 H A W (ws .0) g′)) $
+        assigns ! (agg ! (and-then ! (load ! (from ! (stop !)) (look ! 9 refl)) (and-then ! (load ! (from ! (stop !)) (look ! 5 refl)) (no-more !)))) (from ! (stop !)) (init ! 20 {τ = S′.mir} {v = val n (ws .0)} refl (LL.lawful S.the-type S′.the-laws 𝓤 H A W .typed (ans n (ws .0)) _ made .0)) $
         returns ! (look ! 20 refl) $ forget ! 1 refl $ forget ! 5 refl $ forget ! 7 refl $ forget ! 9 refl $ forget ! 12 refl $ forget ! 14 refl $ forget ! 16 refl $ forget ! 18 refl $ forget ! 20 refl $
         move ! (20 ∷ 21 ∷ []) $ free1 ! $ move ! (18 ∷ 19 ∷ []) $ free1 ! $ move ! (16 ∷ 17 ∷ []) $ free1 ! $ move ! (14 ∷ 15 ∷ []) $ free1 ! $ move ! (12 ∷ 13 ∷ []) $ free1 ! $ move ! (1 ∷ 11 ∷ []) $ free1 ! $ move ! (8 ∷ 9 ∷ []) $ free1 ! $ move ! (6 ∷ 7 ∷ []) $ free1 ! $ move ! (4 ∷ 5 ∷ []) $ free1 ! $ free0 ! $
         keep ! [] $ by ! (exits n (ws .0) made e))))))))))))))))))

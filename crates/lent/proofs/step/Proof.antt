@@ -44,9 +44,9 @@ use denote.Exit.{yes}
 use Rattle.command.specs.declared.Command.{Command}
 use Rattle.command.proofs.Command as E
 use Rattle.command.proofs.Command.Laws as E′
-use Rattle.fits.specs.declared.Level.{Level}
-use Rattle.fits.proofs.Level as Lv
-use Rattle.fits.proofs.Level.Laws as Lv′
+use Rattle.graphics.specs.declared.Level.{Level}
+use Rattle.graphics.proofs.Level as Lv
+use Rattle.graphics.proofs.Level.Laws as Lv′
 use Rattle.graphics.specs.declared.Graphics.{Graphics}
 use Rattle.graphics.proofs.Graphics as T
 use Rattle.graphics.proofs.Graphics.Laws as T′
@@ -137,11 +137,11 @@ module _ {M : Type 1} (𝓤 : URA M) (H : Heap 𝓤) (A : Atoms 𝓤) (W : Given
         qed W ((‵ (flft κ q) ⊛ ‵ ftrue) ∷ ‵ (owns (MutRef (named 0) κ (T.the-row) ∷ Lv.the-row ∷ E.the-row ∷ u64 ∷ []) x at) ∷ []) ∵ split ! $ move ! (2 ∷ []) $ fsplit ! $ fsplit3 ! $ drop ! $ keep ! (0 ∷ 1 ∷ 3 ∷ []) $
         -- [obs; the borrow; the token]; what a parameter or an answer owns is let go, for it can be made again
         enter ! C Λ code.function (vptr b o ∷ lev l ∷ cmd c ∷ vint w64 found ∷ []) _ $
-        alloc1 ! (λ l₀. alloc1 ! (λ l₁. alloc1 ! (λ l₂. alloc1 ! (λ l₃. alloc1 ! (λ l₄. alloc1 ! (λ l₅. alloc1 ! (λ l₆. alloc0 ! $ params1 ! $ pass1 ! (init ! 10 refl (tt, tt)) $ pass1 ! (init ! 8 refl (LL.lawful Lv.the-type Lv′.the-laws 𝓤 H A W .typed l _ gl .0)) $ pass1 ! (init ! 6 refl (EL.lawful E.the-type E′.the-laws 𝓤 H A W tt .typed c _ gc .0)) $ pass1 ! (init ! 4 refl (tt, record { fits = found-fits })) $ pass0 ! $
+        alloc1 ! (λ l₀. alloc1 ! (λ l₁. alloc1 ! (λ l₂. alloc1 ! (λ l₃. alloc1 ! (λ l₄. alloc1 ! (λ l₅. alloc1 ! (λ l₆. alloc0 ! $ params1 ! $ pass1 ! (init ! 10 refl (tt, tt)) $ pass1 ! (init ! 8 {τ = Lv′.mir} {v = lev l} refl (LL.lawful Lv.the-type Lv′.the-laws 𝓤 H A W .typed l _ gl .0)) $ pass1 ! (init ! 6 {τ = E′.mir} {v = cmd c} refl (EL.lawful E.the-type E′.the-laws 𝓤 H A W tt .typed c _ gc .0)) $ pass1 ! (init ! 4 refl (tt, record { fits = found-fits })) $ pass0 ! $
         move ! (14 ∷ 15 ∷ 16 ∷ []) $ opens ! tt (T.the-row) {h = h} b o (λ vs. spelt ! (T.the-row) (Is (T.the-row)) (shows 𝓤 H A (T.the-row)) (LL.vals T.the-type T′.the-laws) (LL.tells T.the-type T′.the-laws) fullShare h vs b o $
         move ! (1 ∷ []) $ peeks ! (T.the-row) (Is (T.the-row)) (shows 𝓤 H A (T.the-row)) h (mach h ∷ []) (λ g. drop ! $
         -- [the struct's cell; the open borrow; obs; auth; _6; …; _5; …; _4; …; _3; …; _2; …; _1; …; room for _0; …]
-        assigns ! (of-opd ! (load ! (from ! (hop ! {τ = T′.mir} (look ! 14 refl) (stop !))) (look-raw ! 0 refl))) (from ! (stop !)) (init ! 4 refl (typed 𝓤 H A W h g)) $
+        assigns ! (of-opd ! (load ! (from ! (hop ! {τ = T′.mir} (look ! 14 refl) (stop !))) (look-raw ! 0 refl))) (from ! (stop !)) (init ! 4 {τ = T′.mir} {v = mach h} refl (typed 𝓤 H A W h g)) $
         use0 W (raw (Next 𝓤 H A at-mem run .pre to-next)) (goes-next g) $
         calls-at ! fm (Next 𝓤 H A at-mem run) known to-next (and-then ! (load ! (from ! (stop !)) (look ! 5 refl)) (and-then ! (load ! (from ! (stop !)) (look ! 13 refl)) (and-then ! (load ! (from ! (stop !)) (look ! 11 refl)) (and-then ! (load ! (from ! (stop !)) (look ! 9 refl)) (no-more !))))) (λ w.
         use1 W (later (some (λ (r : Stepped). (‵ ftrue ⊛ ‵ (S.the-row .own r (w ∷ []))) ⊛ raw (ensured 𝓤 H A next.ended (next.clauses 𝓤 H A at-mem run) tt (h, (l, (c, (found, tt)))) tt r)))) (id⊢ 𝓤 _) $ await ! tt $ pick ! (λ r.
@@ -149,7 +149,7 @@ module _ {M : Type 1} (𝓤 : URA M) (H : Heap 𝓤) (A : Atoms 𝓤) (W : Given
         peeks ! S.the-row (Is S.the-row) (shows 𝓤 H A S.the-row) r (w ∷ []) (λ is. drop ! $
         -- [the struct's cell; the open borrow; obs; auth; _6; …; _5; …; _4; …; _3; …; _2; …; _1; …; room for _0; …]
         -- places and types are given where they are known: found by the check, they would be spelt out field by field and make it slow
-        land ! (from ! (stop !)) (init ! 6 refl (answer-typed 𝓤 H A W r w is)) $
+        land ! (from ! (stop !)) (init ! 6 {τ = S′.mir} {v = w} refl (answer-typed 𝓤 H A W r w is)) $
         rewrite ! 6 (λ (v : Val). ‵ (fat fullShare S′.mir l₅ 0 v)) (told r w is) refl $
         assigns ! (of-opd ! (load ! (from ! (fld ! {sp = (S′.mir, l₅, 0)} {τ = T′.mir} refl (stop !))) (look-in ! 6 {τ = T′.mir} {v = mach (r .graphics)} (sub ! {vs = vcons (vint w64 (r .number)) (vcons (mach (r .graphics)) vnil)} 1 {τ = T′.mir} refl (whole ! {v = ans r}))))) (from ! (hop ! {τ = T′.mir} (look ! 14 refl) (stop !))) (store-raw ! 0 refl (typed 𝓤 H A W (r .graphics) (parts r w is .1 .0))) $
         assigns ! (of-opd ! (load ! (from ! (fld ! {sp = (S′.mir, l₅, 0)} refl (stop !))) (look-in ! 6 {v = vint w64 (r .number)} (sub ! {vs = vcons (vint w64 (r .number)) (vcons (mach (r .graphics)) vnil)} 0 refl (whole ! {v = ans r}))))) (from ! (stop !)) (init ! 16 refl (tt, record { fits = parts r w is .0 .1 })) $

@@ -3,20 +3,23 @@
 use borrow.Author.Needs.{needs}
 use Prim.Native.Nat.{_-_, _≤_}
 use mathlib.Core.Path.{_≡_, refl, sym, _∙_}
+use mathlib.Core.List.{[], _∷_}
 use native.Mathlib.Omega.{arith}
 use lib.ListN.{length}
 use lib.Seq.{slice}
 use Rattle.base.specs.Bytes.{sameBytes}
-use Rattle.names.specs.Twice.{firstIn, firstAt}
+use Rattle.names.specs.Twice.{lookAt, firstIn, firstAt}
+use Rattle.names.specs.declared.Look.the-variants.{Other, Naming}
 use Rattle.names.proofs.Walk.{other-onward, naming-onward, first-end, first-other, first-here, first-on}
+use Rattle.names.proofs.Known.{among-one}
 use Rattle.names.proofs.first_at.Statement.{statement}
 use Rattle.names.proofs.first_at.Tie as tie
 
 abbrev Inv-loop : tie.InvT-loop
-Inv-loop file from to at₀ at = (at ≤ length file) × (firstIn file at (slice from to file) ≡ firstAt file (slice from to file))
+Inv-loop file name at₀ at = (at ≤ length file) × (firstIn file at (name ∷ []) ≡ firstAt file name)
 
 abbrev μ-loop : tie.MeasureT-loop
-μ-loop file from to at₀ at = length file - at
+μ-loop file name at₀ at = length file - at
 
 loop-holds : tie.Need-loop-holds Inv-loop μ-loop
 unfolding firstAt
@@ -31,56 +34,63 @@ enum-told c = search needs
 returns : tie.Need-returns Inv-loop μ-loop
 returns c =
     let l = c .before .before .before .loop in
-    let e = sym (c .before .before .look-at .ensures) ∙ c .enum-told .given .1 in
-    sym (first-end _ (l .at) _ e) ∙ l .inv .1
+    sym (first-end _ (l .at) _ (sym (c .before .before .look-at .ensures) ∙ c .enum-told .given .1)) ∙ l .inv .1
 
 enum-known-l : tie.Need-enum-known-l Inv-loop μ-loop
 enum-known-l c = search needs
 
+-- no name is set
+other : (c : tie.After-l Inv-loop μ-loop) → let l = c .before .before .before in lookAt (l .before .before .before .args .file .now) (l .loop .at) ≡ Other (c .l .given .0 .0)
+other c = sym (c .before .before .look-at .ensures) ∙ c .l .given .1
+
 loop-less : tie.Need-loop-less Inv-loop μ-loop
 loop-less c =
     let l = c .before .before .before .before .loop in
-    let o = other-onward _ (l .at) (l .inv .0) (sym (c .before .before .before .look-at .ensures) ∙ c .before .l .given .1) in
+    let o = other-onward _ (l .at) (l .inv .0) (other (c .before)) in
     omega (arith, o .0, o .1)
 
 loop-again : tie.Need-loop-again Inv-loop μ-loop
 loop-again c =
     let l = c .before .before .before .before .loop in
-    let e = sym (c .before .before .before .look-at .ensures) ∙ c .before .l .given .1 in
-    (other-onward _ (l .at) (l .inv .0) e .1, sym (first-other _ (l .at) _ (l .inv .0) e) ∙ l .inv .1)
+    (other-onward _ (l .at) (l .inv .0) (other (c .before)) .1, sym (first-other _ (l .at) _ (l .inv .0) (other (c .before))) ∙ l .inv .1)
 
 enum-known-l-2 : tie.Need-enum-known-l-2 Inv-loop μ-loop
 enum-known-l-2 c = search needs
 
+-- a TF
+naming : (c : tie.After-l2 Inv-loop μ-loop) → let l = c .before .before .before in let v = c .l2 .given .0 in
+    lookAt (l .before .before .before .args .file .now) (l .loop .at) ≡ Naming (v .0) (v .1 .0) (v .1 .1 .0) (v .1 .1 .1 .0)
+naming c = sym (c .before .before .look-at .ensures) ∙ c .l2 .given .1
+
 part-requires : tie.Need-part-requires Inv-loop μ-loop
 part-requires c κs = search needs
-
-part-requires-2 : tie.Need-part-requires-2 Inv-loop μ-loop
-part-requires-2 c κs = search needs
 
 is-requires : tie.Need-is-requires Inv-loop μ-loop
 is-requires c κs = search needs
 
+-- its name is the one sought, or another
+same : (c : tie.After-is Inv-loop μ-loop) → let t = c .before .before .before in let A = t .before .before .before .before .before .before .args in
+    c .is .result ≡ sameBytes (slice (t .l2 .given .0 .1 .0) (t .l2 .given .0 .1 .1 .0) (A .file .now)) (A .name .now)
+same c = rw (c .before .part .ensures) at (c .is .ensures)
+
 returns-2 : tie.Need-returns-2 Inv-loop μ-loop
 returns-2 c =
-    let l = c .before .before .before .before .before .before .before .before .loop in
-    let e = sym (c .before .before .before .before .before .before .before .look-at .ensures) ∙ c .before .before .before .before .before .l2 .given .1 in
-    let same = sym (c .before .is .ensures ∙ (λ i. sameBytes (c .before .before .before .part .ensures i) (c .before .before .part2 .ensures i))) ∙ c .if1 .taken in
-    sym (first-here _ (l .at) _ (l .inv .0) e same) ∙ l .inv .1
+    let t = c .before .before .before .before in
+    let l = t .before .before .before .loop in
+    sym (first-here _ (l .at) _ (l .inv .0) (naming t) (among-one _ _ (sym (same (c .before)) ∙ c .if1 .taken))) ∙ l .inv .1
 
 loop-less-2 : tie.Need-loop-less-2 Inv-loop μ-loop
 loop-less-2 c =
-    let l = c .before .before .before .before .before .before .before .before .loop in
-    let e = sym (c .before .before .before .before .before .before .before .look-at .ensures) ∙ c .before .before .before .before .before .l2 .given .1 in
-    let o = naming-onward _ (l .at) (l .inv .0) e in
+    let t = c .before .before .before .before in
+    let l = t .before .before .before .loop in
+    let o = naming-onward _ (l .at) (l .inv .0) (naming t) in
     omega (arith, o .0, o .1, o .2)
 
 loop-again-2 : tie.Need-loop-again-2 Inv-loop μ-loop
 loop-again-2 c =
-    let l = c .before .before .before .before .before .before .before .before .loop in
-    let e = sym (c .before .before .before .before .before .before .before .look-at .ensures) ∙ c .before .before .before .before .before .l2 .given .1 in
-    let other = sym (c .before .is .ensures ∙ (λ i. sameBytes (c .before .before .before .part .ensures i) (c .before .before .part2 .ensures i))) ∙ c .if1 .left in
-    (naming-onward _ (l .at) (l .inv .0) e .2, sym (first-on _ (l .at) _ (l .inv .0) e other) ∙ l .inv .1)
+    let t = c .before .before .before .before in
+    let l = t .before .before .before .loop in
+    (naming-onward _ (l .at) (l .inv .0) (naming t) .2, sym (first-on _ (l .at) _ (l .inv .0) (naming t) (among-one _ _ (sym (same (c .before)) ∙ c .if1 .left))) ∙ l .inv .1)
 
 pub first-at-spec : {M : Type 1} → statement M
 first-at-spec =
@@ -97,7 +107,6 @@ first-at-spec =
     loop-again
     enum-known-l-2
     part-requires
-    part-requires-2
     is-requires
     returns-2
     loop-less-2

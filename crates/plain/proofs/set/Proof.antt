@@ -1,7 +1,6 @@
 -- `plain::set` meets its contract: by the fault that is found, or the graphics state behind the command.
-use mathlib.Core.Path.{sym, _∙_}
-use Rattle.plain.specs.Plain.{withGraphics}
 use Rattle.plain.proofs.Sets.{set-refuses, set-goes-on}
+use mathlib.Core.Path.{sym, _∙_}
 use borrow.Author.Needs.{needs}
 use Rattle.plain.proofs.set.Statement.{statement}
 use Rattle.plain.proofs.set.Tie as tie
@@ -13,18 +12,25 @@ fault-of-requires : tie.Need-fault-of-requires
 fault-of-requires c κs = search needs
 
 returns : tie.Need-returns
-returns c text place q b =
-    set-refuses (c .before .before .before .before .args .p) (c .before .before .before .before .args .c) text place q b _ (c .before .before .level-of .ensures) _ (c .before .fault-of .ensures) (c .if1 .taken)
+returns c = λ text place q b. set-refuses (c .before .before .before .before .args .p) (c .before .before .before .before .args .c) text place q b _ (c .before .before .level-of .ensures) _ (c .before .fault-of .ensures) (c .if1 .taken)
 
 after-requires : tie.Need-after-requires
 after-requires c κs = search needs
 
+with-graphics-requires : tie.Need-with-graphics-requires
+with-graphics-requires c κs = search needs
+
 returns-2 : tie.Need-returns-2
-unfolding withGraphics
-returns-2 c text place q b =
-    set-goes-on (c .before .before .before .before .before .before .args .p) (c .before .before .before .before .before .before .args .c) text place q b _ (c .before .before .before .before .level-of .ensures) _ (c .after .ensures)
-    (sym (c .before .before .before .fault-of .ensures) ∙ c .before .before .if1 .left)
+returns-2 c = λ text place q b. set-goes-on (c .before .before .before .before .before .before .args .p) (c .before .before .before .before .before .before .args .c) text place q b _ (c .before .before .before .before .level-of .ensures) _ (c .before .after .ensures)
+    (sym (c .before .before .before .fault-of .ensures) ∙ c .before .before .if1 .left) _ (c .with-graphics .ensures)
 
 pub set-spec : {M : Type 1} → statement M
 set-spec =
-    tie.close (tie.spec level-of-requires fault-of-requires returns after-requires returns-2)
+    tie.close
+    (tie.spec
+    level-of-requires
+    fault-of-requires
+    returns
+    after-requires
+    with-graphics-requires
+    returns-2)

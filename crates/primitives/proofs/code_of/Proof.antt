@@ -1,7 +1,7 @@
 -- `primitives::code_of` meets its contract: each test is that of a row of `codeOf`.
 -- Assumes nothing.
 use Rattle.primitives.specs.Rules.{codeOf}
-use Rattle.command.proofs.Choose.{row-holds, row-fails}
+use Rattle.base.proofs.Choose.{row-holds, row-fails}
 use mathlib.Core.Path.{refl, sym, _∙_}
 use borrow.Author.Needs.{needs}
 use Rattle.primitives.proofs.code_of.Statement.{statement}

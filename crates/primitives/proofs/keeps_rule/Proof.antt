@@ -1,7 +1,7 @@
 -- `primitives::keeps_rule` meets its contract: each test is that of a row of `keeps`.
 -- Assumes nothing.
 use Rattle.primitives.specs.Rules.{keeps}
-use Rattle.command.proofs.Choose.{row-holds, row-fails}
+use Rattle.base.proofs.Choose.{row-holds, row-fails}
 use borrow.Author.Tests.{eq-eqb, ne-eqb}
 use mathlib.Core.Path.{refl}
 use borrow.Author.Needs.{needs}

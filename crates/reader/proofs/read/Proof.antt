@@ -3,7 +3,7 @@
 use borrow.Author.Needs.{needs}
 use mathlib.Core.Path.{refl, sym, _∙_}
 use Rattle.progress.specs.Lent.{lentOf}
-use Rattle.reader.proofs.Outcome.{reads-fitting, reads-long}
+use Rattle.reader.proofs.Outcome.{reads-long}
 use Rattle.reader.proofs.read.Statement.{statement}
 use Rattle.reader.proofs.read.Tie as tie
 
@@ -11,7 +11,7 @@ file-fits-requires : tie.Need-file-fits-requires
 file-fits-requires c κs = search needs
 
 read-file-requires : tie.Need-read-file-requires
-read-file-requires c κs = search needs
+read-file-requires c κs = let t = c .before .before .before .before .before in (refl, sym (t .before .file-fits .ensures) ∙ t .if1 .taken)
 
 same-length : tie.Need-same-length
 same-length c = search needs
@@ -26,11 +26,13 @@ same-length-4 : tie.Need-same-length-4
 same-length-4 c = search needs
 
 returns : tie.Need-returns
-unfolding lentOf
-returns c = reads-fitting (lentOf _ _ _ _ _) (lentOf _ _ _ _ _) _ _ (sym (c .before .before .before .before .before .before .before .before .before .before .before .before .before .before .file-fits .ensures) ∙ c .before .before .before .before .before .before .before .before .before .before .before .before .before .if1 .taken) (c .before .before .before .before .before .before .before .read-file .ensures)
+returns c = c .before .before .before .before .before .before .before .read-file .ensures
 
 clear-requires : tie.Need-clear-requires
 clear-requires c κs = search needs
+
+abbrev was-cleared : tie.After-numbers2 → tie.After-clear
+was-cleared c = c .before .before .before .before .before .before .before
 
 same-length-5 : tie.Need-same-length-5
 same-length-5 c = search needs
@@ -46,8 +48,12 @@ same-length-8 c = search needs
 
 returns-2 : tie.Need-returns-2
 unfolding lentOf
-returns-2 c = reads-long (lentOf _ _ _ _ _) (lentOf _ _ _ _ _) _ (sym (c .before .before .before .before .before .before .before .before .before .before .before .before .before .file-fits .ensures) ∙ c .before .before .before .before .before .before .before .before .before .before .before .before .if1 .left)
-    (record { head-is = refl; entries-are = c .before .before .before .before .before .before .before .clear .ensures .0; apertures-are = c .before .before .before .before .before .before .before .clear .ensures .1; macros-are = c .before .before .before .before .before .before .before .clear .ensures .2; numbers-are = c .before .before .before .before .before .before .before .clear .ensures .3 })
+returns-2 c =
+    let k = was-cleared c in
+    let t = k .before .before .before .before .before in
+    let z = k .clear .ensures in
+    reads-long (lentOf _ _ _ _ _) (lentOf _ _ _ _ _) _ (sym (t .before .file-fits .ensures) ∙ t .if1 .left)
+    (record { head-is = refl; entries-are = z .0; apertures-are = z .1; macros-are = z .2; numbers-are = z .3 })
 
 pub read-spec : {M : Type 1} → statement M
 read-spec =

@@ -1,7 +1,7 @@
 -- `recognise::data_of` meets its contract: each test is that of a row of `dataOf`.
 -- Assumes nothing.
 use mathlib.Core.Path.{sym, _∙_}
-use Rattle.command.proofs.Choose.{row-holds, row-fails}
+use Rattle.base.proofs.Choose.{row-holds, row-fails}
 use Rattle.recognise.specs.Commands.{dataOf}
 use borrow.Author.Needs.{needs}
 use Rattle.recognise.proofs.data_of.Statement.{statement}

@@ -1,7 +1,7 @@
 -- `recognise::extended_of` meets its contract: whether the text is one data block picks the case of `extendedOf`.
 -- Assumes nothing.
 use mathlib.Core.Path.{refl, sym, _∙_, ap}
-use Rattle.command.proofs.Choose.{row-holds, row-fails}
+use Rattle.base.proofs.Choose.{row-holds, row-fails}
 use Rattle.recognise.specs.Commands.{extendedOf, dataOf}
 use borrow.Author.Needs.{needs}
 use Rattle.recognise.proofs.extended_of.Statement.{statement}

@@ -7,12 +7,12 @@ use Rattle.rules.proofs.closing_fault.Tie as tie
 either-requires : tie.Need-either-requires
 either-requires c κs = search needs
 
-fault-requires : tie.Need-fault-requires
-fault-requires c κs = search needs
+row-requires : tie.Need-row-requires
+row-requires c κs = search needs
 
 returns : tie.Need-returns
 unfolding closingFault
 returns c = cc
 
 pub closing-fault-spec : {M : Type 1} → statement M
-closing-fault-spec = tie.close (tie.spec either-requires fault-requires returns)
+closing-fault-spec = tie.close (tie.spec either-requires row-requires returns)

@@ -7,14 +7,14 @@ use Rattle.rules.proofs.end_fault.Tie as tie
 either-requires : tie.Need-either-requires
 either-requires c κs = search needs
 
-fault-requires : tie.Need-fault-requires
-fault-requires c κs = search needs
+row-requires : tie.Need-row-requires
+row-requires c κs = search needs
 
 is-unready-requires : tie.Need-is-unready-requires
 is-unready-requires c κs = search needs
 
-fault-requires-2 : tie.Need-fault-requires-2
-fault-requires-2 c κs = search needs
+row-requires-2 : tie.Need-row-requires-2
+row-requires-2 c κs = search needs
 
 returns : tie.Need-returns
 unfolding endFault
@@ -23,4 +23,4 @@ returns c = cc
 pub end-fault-spec : {M : Type 1} → statement M
 end-fault-spec =
     tie.close
-    (tie.spec either-requires fault-requires is-unready-requires fault-requires-2 returns)
+    (tie.spec either-requires row-requires is-unready-requires row-requires-2 returns)

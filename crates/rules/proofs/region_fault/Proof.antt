@@ -4,12 +4,12 @@ use borrow.Author.Needs.{needs}
 use Rattle.rules.proofs.region_fault.Statement.{statement}
 use Rattle.rules.proofs.region_fault.Tie as tie
 
-fault-requires : tie.Need-fault-requires
-fault-requires c κs = search needs
+row-requires : tie.Need-row-requires
+row-requires c κs = search needs
 
 returns : tie.Need-returns
 unfolding regionFault
 returns c = cc
 
 pub region-fault-spec : {M : Type 1} → statement M
-region-fault-spec = tie.close (tie.spec fault-requires returns)
+region-fault-spec = tie.close (tie.spec row-requires returns)

@@ -4,17 +4,17 @@ use borrow.Author.Needs.{needs}
 use Rattle.rules.proofs.repeat_start_fault.Statement.{statement}
 use Rattle.rules.proofs.repeat_start_fault.Tie as tie
 
-fault-requires : tie.Need-fault-requires
-fault-requires c κs = search needs
+row-requires : tie.Need-row-requires
+row-requires c κs = search needs
 
-fault-requires-2 : tie.Need-fault-requires-2
-fault-requires-2 c κs = search needs
+row-requires-2 : tie.Need-row-requires-2
+row-requires-2 c κs = search needs
 
 either-requires : tie.Need-either-requires
 either-requires c κs = search needs
 
-fault-requires-3 : tie.Need-fault-requires-3
-fault-requires-3 c κs = search needs
+row-requires-3 : tie.Need-row-requires-3
+row-requires-3 c κs = search needs
 
 returns : tie.Need-returns
 unfolding repeatStartFault
@@ -22,4 +22,4 @@ returns c = cc
 
 pub repeat-start-fault-spec : {M : Type 1} → statement M
 repeat-start-fault-spec =
-    tie.close (tie.spec fault-requires fault-requires-2 either-requires fault-requires-3 returns)
+    tie.close (tie.spec row-requires row-requires-2 either-requires row-requires-3 returns)

@@ -7,15 +7,15 @@ use Rattle.rules.proofs.scale_fault.Tie as tie
 above-zero-requires : tie.Need-above-zero-requires
 above-zero-requires c κs = search needs
 
-fault-requires : tie.Need-fault-requires
-fault-requires c κs = search needs
+row-requires : tie.Need-row-requires
+row-requires c κs = search needs
 
-fault-requires-2 : tie.Need-fault-requires-2
-fault-requires-2 c κs = search needs
+row-requires-2 : tie.Need-row-requires-2
+row-requires-2 c κs = search needs
 
 returns : tie.Need-returns
 unfolding scaleFault
 returns c = cc
 
 pub scale-fault-spec : {M : Type 1} → statement M
-scale-fault-spec = tie.close (tie.spec above-zero-requires fault-requires fault-requires-2 returns)
+scale-fault-spec = tie.close (tie.spec above-zero-requires row-requires row-requires-2 returns)

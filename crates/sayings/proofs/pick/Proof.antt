@@ -1,6 +1,6 @@
 -- `sayings::pick` meets its contract: the test picks the case.
 -- Assumes nothing.
-use Rattle.command.specs.Choose.{pick}
+use Rattle.base.specs.Choose.{pick}
 use Rattle.sayings.proofs.pick.Statement.{statement}
 use Rattle.sayings.proofs.pick.Tie as tie
 

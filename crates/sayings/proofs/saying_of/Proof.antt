@@ -1,123 +1,96 @@
--- `sayings::saying_of` meets its contract: what the command does picks the case of `saying`.
+-- `sayings::saying_of` meets its contract, role by role.
 -- Assumes nothing.
-use mathlib.Core.Path.{sym}
-use Rattle.sayings.specs.Sayings.{saying, sayingOf}
+use Rattle.sayings.specs.Sayings.{spoken, sayingOf}
 use borrow.Author.Needs.{needs}
 use Rattle.sayings.proofs.saying_of.Statement.{statement}
 use Rattle.sayings.proofs.saying_of.Tie as tie
 
-part-requires : tie.Need-part-requires
-part-requires c κs = search needs
+enum-known-command : tie.Need-enum-known-command
+enum-known-command c = search needs
 
-asks-ta-requires : tie.Need-asks-ta-requires
-asks-ta-requires c κs = search needs
-
-deed-of-requires : tie.Need-deed-of-requires
-deed-of-requires c κs = search needs
+deed-says-requires : tie.Need-deed-says-requires
+deed-says-requires c κs = search needs
 
 enum-told : tie.Need-enum-told
 enum-told c = search needs
 
-enum-known-deed : tie.Need-enum-known-deed
-enum-known-deed c = search needs
-
-up-to-requires : tie.Need-up-to-requires
-up-to-requires c κs = search needs
-
-value-in-requires : tie.Need-value-in-requires
-value-in-requires c κs = search needs
-
-is-named-requires : tie.Need-is-named-requires
-is-named-requires c κs = search needs
-
-both-requires : tie.Need-both-requires
-both-requires c κs = search needs
-
-pick-requires : tie.Need-pick-requires
-pick-requires c κs = search needs
-
-enum-known-deed-2 : tie.Need-enum-known-deed-2
-enum-known-deed-2 c = search needs
-
-up-to-requires-2 : tie.Need-up-to-requires-2
-up-to-requires-2 c κs = search needs
-
-value-in-requires-2 : tie.Need-value-in-requires-2
-value-in-requires-2 c κs = search needs
-
-is-named-requires-2 : tie.Need-is-named-requires-2
-is-named-requires-2 c κs = search needs
-
-both-requires-2 : tie.Need-both-requires-2
-both-requires-2 c κs = search needs
-
-pick-requires-2 : tie.Need-pick-requires-2
-pick-requires-2 c κs = search needs
-
-enum-known-deed-3 : tie.Need-enum-known-deed-3
-enum-known-deed-3 c = search needs
-
-is-named-requires-3 : tie.Need-is-named-requires-3
-is-named-requires-3 c κs = search needs
-
-pick-requires-3 : tie.Need-pick-requires-3
-pick-requires-3 c κs = search needs
-
 enum-told-2 : tie.Need-enum-told-2
 enum-told-2 c = search needs
 
+enum-told-3 : tie.Need-enum-told-3
+enum-told-3 c = search needs
+
+enum-told-4 : tie.Need-enum-told-4
+enum-told-4 c = search needs
+
+enum-told-5 : tie.Need-enum-told-5
+enum-told-5 c = search needs
+
+enum-told-6 : tie.Need-enum-told-6
+enum-told-6 c = search needs
+
+enum-told-7 : tie.Need-enum-told-7
+enum-told-7 c = search needs
+
+enum-told-8 : tie.Need-enum-told-8
+enum-told-8 c = search needs
+
 returns : tie.Need-returns
-unfolding sayingOf saying
-returns c = rw (sym (c .before .before .deed-of .ensures), c .enum-told .given .1)
+unfolding sayingOf spoken
+returns c = rw (c .before .before .command .given .1) (c .deed-says .ensures)
 
 returns-2 : tie.Need-returns-2
-unfolding sayingOf saying
-returns-2 c =
-    rw (sym (c .before .before .before .before .before .before .before .before .deed-of .ensures), c .before .before .before .before .before .before .deed .given .1)
-    (simp (c .pick .ensures, c .before .both .ensures, c .before .before .is-named .ensures, c .before .before .before .value-in .ensures, c .before .before .before .before .up-to .ensures, c .before .before .before .before .before .before .before .before .before .asks-ta .ensures, c .before .before .before .before .before .before .before .before .before .before .part .ensures))
+unfolding sayingOf spoken
+returns-2 c = rw (c .enum-told .given .1)
 
 returns-3 : tie.Need-returns-3
-unfolding sayingOf saying
-returns-3 c =
-    rw (sym (c .before .before .before .before .before .before .before .before .deed-of .ensures), c .before .before .before .before .before .before .deed2 .given .1)
-    (simp (c .pick2 .ensures, c .before .both2 .ensures, c .before .before .is-named2 .ensures, c .before .before .before .value-in2 .ensures, c .before .before .before .before .up-to2 .ensures, c .before .before .before .before .before .before .before .before .before .asks-ta .ensures, c .before .before .before .before .before .before .before .before .before .before .part .ensures))
+unfolding sayingOf spoken
+returns-3 c = rw (c .enum-told2 .given .1)
 
 returns-4 : tie.Need-returns-4
-unfolding sayingOf saying
-returns-4 c =
-    rw (sym (c .before .before .before .before .before .deed-of .ensures), c .before .before .before .deed3 .given .1)
-    (simp (c .pick3 .ensures, c .before .is-named3 .ensures, c .before .before .before .before .before .before .before .part .ensures))
+unfolding sayingOf spoken
+returns-4 c = rw (c .enum-told3 .given .1)
 
 returns-5 : tie.Need-returns-5
-unfolding sayingOf saying
-returns-5 c = rw (sym (c .before .before .deed-of .ensures), c .enum-told2 .given .1)
+unfolding sayingOf spoken
+returns-5 c = rw (c .enum-told4 .given .1)
+
+returns-6 : tie.Need-returns-6
+unfolding sayingOf spoken
+returns-6 c = rw (c .enum-told5 .given .1)
+
+returns-7 : tie.Need-returns-7
+unfolding sayingOf spoken
+returns-7 c = rw (c .enum-told6 .given .1)
+
+returns-8 : tie.Need-returns-8
+unfolding sayingOf spoken
+returns-8 c = rw (c .enum-told7 .given .1)
+
+returns-9 : tie.Need-returns-9
+unfolding sayingOf spoken
+returns-9 c = rw (c .enum-told8 .given .1)
 
 pub saying-of-spec : {M : Type 1} → statement M
 saying-of-spec =
     tie.close
     (tie.spec
-    part-requires
-    asks-ta-requires
-    deed-of-requires
+    enum-known-command
+    deed-says-requires
     enum-told
-    enum-known-deed
-    up-to-requires
-    value-in-requires
-    is-named-requires
-    both-requires
-    pick-requires
-    enum-known-deed-2
-    up-to-requires-2
-    value-in-requires-2
-    is-named-requires-2
-    both-requires-2
-    pick-requires-2
-    enum-known-deed-3
-    is-named-requires-3
-    pick-requires-3
     enum-told-2
+    enum-told-3
+    enum-told-4
+    enum-told-5
+    enum-told-6
+    enum-told-7
+    enum-told-8
     returns
     returns-2
     returns-3
     returns-4
-    returns-5)
+    returns-5
+    returns-6
+    returns-7
+    returns-8
+    returns-9)

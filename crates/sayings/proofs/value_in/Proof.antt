@@ -2,7 +2,7 @@
 -- Assumes nothing.
 use mathlib.Core.Path.{refl, sym}
 use borrow.Author.Tests.{lt-ltb, le-ltb}
-use Rattle.command.proofs.Choose.{row-holds, row-fails}
+use Rattle.base.proofs.Choose.{row-holds, row-fails}
 use Rattle.sayings.specs.Sayings.{valueIn}
 use borrow.Author.Needs.{needs}
 use Rattle.sayings.proofs.value_in.Statement.{statement}

@@ -1,7 +1,7 @@
 -- `settings::format_of` meets its contract: n is out of its range, or the text is compared with the one that has n twice.
 -- Assumes nothing.
 use Rattle.settings.specs.Header.{formatOf}
-use Rattle.command.specs.Choose.{pick}
+use Rattle.base.specs.Choose.{pick}
 use Rattle.base.proofs.Tests.{tests}
 use Rattle.base.proofs.And.{ands}
 use mathlib.Core.Path.{sym}
@@ -27,17 +27,17 @@ returns-2 c =
     let k = c .if2 .taken in
     simp (tests, ands, e)
 
+sub-digits : tie.Need-sub-digits
+sub-digits c = search needs
+
+cast-digits : tie.Need-cast-digits
+cast-digits c = search needs
+
 slice-aggregate-is : tie.Need-slice-aggregate-is
 slice-aggregate-is c = search needs
 
 is-requires : tie.Need-is-requires
 is-requires c κs = search needs
-
-sub-t7 : tie.Need-sub-t7
-sub-t7 c = search needs
-
-cast-t8 : tie.Need-cast-t8
-cast-t8 c = search needs
 
 pick-requires : tie.Need-pick-requires
 pick-requires c κs = search needs
@@ -57,9 +57,9 @@ format-of-spec =
     byte-at-requires
     returns
     returns-2
+    sub-digits
+    cast-digits
     slice-aggregate-is
     is-requires
-    sub-t7
-    cast-t8
     pick-requires
     returns-3)

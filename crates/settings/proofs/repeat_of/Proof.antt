@@ -1,7 +1,7 @@
 -- `settings::repeat_of` meets its contract: each test is that of a row of `repeatOf`.
 -- Assumes nothing.
 use Rattle.settings.specs.Repeats.{repeatStart, repeatOf}
-use Rattle.command.proofs.Choose.{row-holds, row-fails}
+use Rattle.base.proofs.Choose.{row-holds, row-fails}
 use mathlib.Core.Path.{refl, sym, _∙_, ap}
 use borrow.Author.Needs.{needs}
 use Rattle.settings.proofs.repeat_of.Statement.{statement}

@@ -1,6 +1,8 @@
 -- `settings::repeated` meets its contract: it is judged as `repeats` says.
 -- Assumes nothing.
+use native.Mathlib.Omega.{arith}
 use Rattle.settings.specs.Repeats.{repeats}
+use Rattle.command.proofs.Rounded.{counted-within}
 use borrow.Author.Needs.{needs}
 use Rattle.settings.proofs.repeated.Statement.{statement}
 use Rattle.settings.proofs.repeated.Tie as tie
@@ -14,6 +16,15 @@ either-requires-2 c κs = search needs
 either-requires-3 : tie.Need-either-requires-3
 either-requires-3 c κs = search needs
 
+counted-requires : tie.Need-counted-requires
+counted-requires c κs = search needs
+
+counted-requires-2 : tie.Need-counted-requires-2
+counted-requires-2 c κs = search needs
+
+add-rounded : tie.Need-add-rounded
+add-rounded c = omega (arith, counted-within (c .before .before .before .before .before .before .before .args .dx .rounded), counted-within (c .before .before .before .before .before .before .before .args .dy .rounded))
+
 either-requires-4 : tie.Need-either-requires-4
 either-requires-4 c κs = search needs
 
@@ -22,7 +33,16 @@ judged-requires c κs = search needs
 
 returns : tie.Need-returns
 unfolding repeats
-returns c = cc
+returns c =
+    simp (
+      c .judged .ensures,
+      c .before .either4 .ensures,
+      c .before .before .counted2 .ensures,
+      c .before .before .before .counted .ensures,
+      c .before .before .before .before .before .before .either3 .ensures,
+      c .before .before .before .before .before .before .before .either2 .ensures,
+      c .before .before .before .before .before .before .before .before .either .ensures,
+    )
 
 pub repeated-spec : {M : Type 1} → statement M
 repeated-spec =
@@ -31,6 +51,9 @@ repeated-spec =
     either-requires
     either-requires-2
     either-requires-3
+    counted-requires
+    counted-requires-2
+    add-rounded
     either-requires-4
     judged-requires
     returns)

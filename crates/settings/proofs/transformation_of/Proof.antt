@@ -1,7 +1,7 @@
 -- `settings::transformation_of` meets its contract: each test is that of a row of `transformationOf`.
 -- Assumes nothing.
 use Rattle.settings.specs.Transformations.{transformationOf}
-use Rattle.command.proofs.Choose.{row-holds, row-fails}
+use Rattle.base.proofs.Choose.{row-holds, row-fails}
 use mathlib.Core.Path.{refl, sym, _∙_}
 use borrow.Author.Needs.{needs}
 use Rattle.settings.proofs.transformation_of.Statement.{statement}

@@ -1,4 +1,5 @@
 -- `stack::has_room` meets its contract: no sum is made that could wrap.
+use Rattle.sheet.specs.Records.{entryWidth}
 use Rattle.stack.specs.Stack.{hasRoom}
 use Rattle.base.proofs.Tests.{ltb-agree}
 use borrow.Author.Tests.{le-ltb}
@@ -16,11 +17,11 @@ sub-result c = search needs
 returns : tie.Need-returns
 unfolding hasRoom
 returns c = let A = c .before .args in
-    ltb-agree (A .closed) (length (A .e .now) / 15 - A .high) (A .closed + A .high) (length (A .e .now) / 15) (λ l. omega arith) (λ l. omega arith)
+    ltb-agree (A .closed) (length (A .e .now) / entryWidth - A .high) (A .closed + A .high) (length (A .e .now) / entryWidth) (λ l. omega arith) (λ l. omega arith)
 
 returns-2 : tie.Need-returns-2
 unfolding hasRoom
-returns-2 c = let A = c .before .args in sym (le-ltb (A .closed + A .high) (length (A .e .now) / 15) (omega arith))
+returns-2 c = let A = c .before .args in sym (le-ltb (A .closed + A .high) (length (A .e .now) / entryWidth) (omega arith))
 
 pub has-room-spec : {M : Type 1} → statement M
 has-room-spec = tie.close (tie.spec sub-result returns returns-2)

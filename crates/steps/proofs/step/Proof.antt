@@ -1,106 +1,91 @@
--- `steps::step` meets its contract: each arm by its function's promise, the last because its command is a plain one.
+-- `steps::step` meets its contract: each role by its function's promise.
 -- Assumes nothing.
-use borrow.Author.Needs.{needs}
-use mathlib.Core.Path.{_≡_, refl, ap}
-use Rattle.progress.specs.Lent.{Lent, lentOf}
+use mathlib.Core.Path.{_≡_, refl, ap, subst}
+use Rattle.bounds.specs.Bounded.{Bounded}
+use Rattle.reading.specs.Steps.{stepOf}
+use Rattle.progress.specs.Lent.{Lent, lentOf, withEntries, withApertures, withMacros, withNumbers}
 use Rattle.definitions.specs.Lends.{Lends}
-use Rattle.steps.proofs.Plain.{plain}
-use Rattle.steps.proofs.Arms.{known-of, draws-arm, flash-arm, select-arm, define-arm, macro-arm, block-arm, block-end-arm, repeat-arm, repeat-end-arm, name-arm, plain-arm, draws-bound, flash-bound, define-bound, macro-bound, repeat-bound}
+use Rattle.plain.specs.Plain.{isPlain}
+use Rattle.steps.specs.Steps.{Again}
+use Rattle.steps.proofs.Arms.{known-of}
+use borrow.Author.Needs.{needs}
 use Rattle.steps.proofs.step.Statement.{statement}
 use Rattle.steps.proofs.step.Tie as tie
 
 enum-known-command : tie.Need-enum-known-command
 enum-known-command c = search needs
 
-draw-requires : tie.Need-draw-requires
-unfolding lentOf
-draw-requires c κs = (known-of (λ w. w ≡ lentOf _ _ _ _ _) (λ w. w .entries ≡ _) _ (λ w q. ap (λ (x : Lent). x .entries) q) (c .before .before .before .before .before .before .before .before .pre .0), draws-bound _ _ (c .before .before .before .before .before .before .before .before .pre .1) (c .before .before .command .given .1))
+operate-requires : tie.Need-operate-requires
+unfolding lentOf Bounded
+operate-requires c κs = (known-of (λ w. w ≡ lentOf _ _ _ _ _) (λ w. w .entries ≡ _) _ (λ w q. ap (λ (x : Lent). x .entries) q) (c .before .before .before .before .before .before .before .before .pre .0), subst (Bounded _) (c .before .before .command .given .1) (c .before .before .before .before .before .before .before .before .pre .1 .bounded))
 
 enum-known-command-2 : tie.Need-enum-known-command-2
 enum-known-command-2 c = search needs
-
-flash-requires : tie.Need-flash-requires
-unfolding lentOf
-flash-requires c κs = (known-of (λ w. w ≡ lentOf _ _ _ _ _) (λ w. w .entries ≡ _) _ (λ w q. ap (λ (x : Lent). x .entries) q) (c .before .before .before .before .before .before .before .before .pre .0), flash-bound _ _ (c .before .before .before .before .before .before .before .before .pre .1) (c .before .before .command2 .given .1))
-
-enum-known-command-3 : tie.Need-enum-known-command-3
-enum-known-command-3 c = search needs
 
 select-requires : tie.Need-select-requires
 unfolding lentOf
 select-requires c κs = known-of (λ w. w ≡ lentOf _ _ _ _ _) (λ w. w .apertures ≡ _) _ (λ w q. ap (λ (x : Lent). x .apertures) q) (c .before .before .before .before .before .before .before .before .pre .0)
 
+enum-known-command-3 : tie.Need-enum-known-command-3
+enum-known-command-3 c = search needs
+
+define-requires : tie.Need-define-requires
+unfolding lentOf Bounded
+define-requires c κs = (known-of (λ w. w ≡ lentOf _ _ _ _ _) (Lends _ _ _ _) _ (λ w q. record { file-is = ap (λ (x : Lent). x .file) q; apertures-are = ap (λ (x : Lent). x .apertures) q; macros-are = ap (λ (x : Lent). x .macros) q; numbers-are = ap (λ (x : Lent). x .numbers) q }) (c .before .before .before .before .before .before .before .before .before .before .pre .0), c .before .before .before .before .before .before .before .before .before .before .pre .1 .ordered, c .before .before .before .before .before .before .before .before .before .before .pre .1 .inside, subst (Bounded _) (c .before .before .before .before .command3 .given .1) (c .before .before .before .before .before .before .before .before .before .before .pre .1 .bounded))
+
 enum-known-command-4 : tie.Need-enum-known-command-4
 enum-known-command-4 c = search needs
 
-define-requires : tie.Need-define-requires
-unfolding lentOf
-define-requires c κs = (known-of (λ w. w ≡ lentOf _ _ _ _ _) (Lends _ _ _ _) _ (λ w q. record { file-is = ap (λ (x : Lent). x .file) q; apertures-are = ap (λ (x : Lent). x .apertures) q; macros-are = ap (λ (x : Lent). x .macros) q; numbers-are = ap (λ (x : Lent). x .numbers) q }) (c .before .before .before .before .before .before .before .before .before .before .pre .0), c .before .before .before .before .before .before .before .before .before .before .pre .1 .ordered, c .before .before .before .before .before .before .before .before .before .before .pre .1 .inside, define-bound _ _ (c .before .before .before .before .before .before .before .before .before .before .pre .1) (c .before .before .before .before .command4 .given .1))
+contain-requires : tie.Need-contain-requires
+unfolding lentOf Bounded
+contain-requires c κs = (known-of (λ w. w ≡ lentOf _ _ _ _ _) (λ w. (w .entries ≡ _) × (w .apertures ≡ _)) _ (λ w q. (ap (λ (x : Lent). x .entries) q, ap (λ (x : Lent). x .apertures) q)) (c .before .before .before .before .before .before .before .before .before .pre .0), subst (Bounded _) (c .before .before .before .command4 .given .1) (c .before .before .before .before .before .before .before .before .before .pre .1 .bounded))
 
 enum-known-command-5 : tie.Need-enum-known-command-5
 enum-known-command-5 c = search needs
 
-add-macro-requires : tie.Need-add-macro-requires
-unfolding lentOf
-add-macro-requires c κs = (known-of (λ w. w ≡ lentOf _ _ _ _ _) (λ w. (w .file ≡ _) × (w .macros ≡ _)) _ (λ w q. (ap (λ (x : Lent). x .file) q, ap (λ (x : Lent). x .macros) q)) (c .before .before .before .before .before .before .before .before .pre .0), c .before .before .before .before .before .before .before .before .pre .1 .ordered, c .before .before .before .before .before .before .before .before .pre .1 .inside, macro-bound _ _ (c .before .before .before .before .before .before .before .before .pre .1) (c .before .before .command5 .given .1))
-
-enum-known-command-6 : tie.Need-enum-known-command-6
-enum-known-command-6 c = search needs
-
-block-start-requires : tie.Need-block-start-requires
-unfolding lentOf
-block-start-requires c κs = known-of (λ w. w ≡ lentOf _ _ _ _ _) (λ w. (w .entries ≡ _) × (w .apertures ≡ _)) _ (λ w q. (ap (λ (x : Lent). x .entries) q, ap (λ (x : Lent). x .apertures) q)) (c .before .before .before .before .before .before .before .before .before .pre .0)
+attribute-requires : tie.Need-attribute-requires
+attribute-requires c κs = search needs
 
 enum-told : tie.Need-enum-told
 enum-told c = search needs
 
-block-end-requires : tie.Need-block-end-requires
-unfolding lentOf
-block-end-requires c κs = known-of (λ w. w ≡ lentOf _ _ _ _ _) (λ w. (w .entries ≡ _) × (w .apertures ≡ _)) _ (λ w q. (ap (λ (x : Lent). x .entries) q, ap (λ (x : Lent). x .apertures) q)) (c .before .before .before .before .before .before .before .before .pre .0)
-
-enum-known-command-7 : tie.Need-enum-known-command-7
-enum-known-command-7 c = search needs
-
-repeat-start-requires : tie.Need-repeat-start-requires
-unfolding lentOf
-repeat-start-requires c κs = (known-of (λ w. w ≡ lentOf _ _ _ _ _) (λ w. w .entries ≡ _) _ (λ w q. ap (λ (x : Lent). x .entries) q) (c .before .before .before .before .before .before .before .before .pre .0), repeat-bound _ _ (c .before .before .before .before .before .before .before .before .pre .1) (c .before .before .command7 .given .1))
+set-requires : tie.Need-set-requires
+set-requires c κs = search needs
 
 enum-told-2 : tie.Need-enum-told-2
 enum-told-2 c = search needs
 
-repeat-end-requires : tie.Need-repeat-end-requires
-unfolding lentOf
-repeat-end-requires c κs = known-of (λ w. w ≡ lentOf _ _ _ _ _) (λ w. w .entries ≡ _) _ (λ w q. ap (λ (x : Lent). x .entries) q) (c .before .before .before .before .before .before .before .pre .0)
+set-requires-2 : tie.Need-set-requires-2
+set-requires-2 c κs = search needs
 
 enum-told-3 : tie.Need-enum-told-3
 enum-told-3 c = search needs
 
-set-name-requires : tie.Need-set-name-requires
-set-name-requires c κs = search needs
+set-requires-3 : tie.Need-set-requires-3
+set-requires-3 c κs = search needs
 
-set-requires : tie.Need-set-requires
-set-requires c κs = search needs
+enum-told-4 : tie.Need-enum-told-4
+enum-told-4 c = search needs
+
+set-requires-4 : tie.Need-set-requires-4
+set-requires-4 c κs = search needs
 
 same-length : tie.Need-same-length
 same-length c = search needs
 
 returns : tie.Need-returns
-unfolding lentOf
-returns c = (c .before .before .draw .ensures .0, refl, refl, refl, draws-arm _ _ _ _ _ _ _ _ _ _ (c .before .before .before .before .before .command .given .1) (c .before .before .draw .ensures .1))
+unfolding lentOf withEntries stepOf
+returns c = (c .before .before .operate .ensures .0, refl, refl, refl, λ s k told. rw (c .before .before .before .before .before .command .given .1) (c .before .before .operate .ensures .1 (lentOf _ _ _ _ _) s refl k))
 
 same-length-2 : tie.Need-same-length-2
 same-length-2 c = search needs
 
 returns-2 : tie.Need-returns-2
-unfolding lentOf
-returns-2 c = (c .before .before .flash .ensures .0, refl, refl, refl, flash-arm _ _ _ _ _ _ _ _ _ _ (c .before .before .before .before .before .command2 .given .1) (c .before .before .flash .ensures .1))
+unfolding lentOf stepOf
+returns-2 c = (refl, refl, refl, refl, λ s k told. rw (c .before .before .before .command2 .given .1) (c .select .ensures (lentOf _ _ _ _ _) s refl k))
 
 same-length-3 : tie.Need-same-length-3
 same-length-3 c = search needs
-
-returns-3 : tie.Need-returns-3
-unfolding lentOf
-returns-3 c = (refl, refl, refl, refl, select-arm _ _ _ _ _ _ _ _ _ (c .before .before .before .command3 .given .1) (c .select .ensures))
 
 same-length-4 : tie.Need-same-length-4
 same-length-4 c = search needs
@@ -108,108 +93,75 @@ same-length-4 c = search needs
 same-length-5 : tie.Need-same-length-5
 same-length-5 c = search needs
 
+returns-3 : tie.Need-returns-3
+unfolding lentOf withApertures withMacros withNumbers stepOf
+returns-3 c = (refl, c .before .before .before .before .before .define .ensures .0, c .before .before .before .before .before .define .ensures .1, c .before .before .before .before .before .define .ensures .2, λ s k told. rw (c .before .before .before .before .before .before .before .before .before .before .command3 .given .1) (c .before .before .before .before .before .define .ensures .3 (lentOf _ _ _ _ _) s (record { file-is = refl; apertures-are = refl; macros-are = refl; numbers-are = refl }) k))
+
 same-length-6 : tie.Need-same-length-6
 same-length-6 c = search needs
-
-returns-4 : tie.Need-returns-4
-unfolding lentOf
-returns-4 c = (refl, c .before .before .before .define .ensures .0, refl, c .before .before .before .define .ensures .1, define-arm _ _ _ _ _ _ _ _ _ _ _ (c .before .before .before .before .before .before .before .before .command4 .given .1) (c .before .before .before .define .ensures .2))
 
 same-length-7 : tie.Need-same-length-7
 same-length-7 c = search needs
 
+returns-4 : tie.Need-returns-4
+unfolding lentOf withEntries withApertures stepOf
+returns-4 c = (c .before .before .before .before .contain .ensures .0, c .before .before .before .before .contain .ensures .1, refl, refl, λ s k told. rw (c .before .before .before .before .before .before .before .before .command4 .given .1) (c .before .before .before .before .contain .ensures .2 (lentOf _ _ _ _ _) s (refl, refl) k))
+
 returns-5 : tie.Need-returns-5
-unfolding lentOf
-returns-5 c = (refl, refl, c .before .before .add-macro .ensures .0, refl, macro-arm _ _ _ _ _ _ _ _ _ _ (c .before .before .before .before .before .command5 .given .1) (c .before .before .add-macro .ensures .1))
-
-same-length-8 : tie.Need-same-length-8
-same-length-8 c = search needs
-
-same-length-9 : tie.Need-same-length-9
-same-length-9 c = search needs
+unfolding lentOf Again Bounded stepOf
+returns-5 c = (refl, refl, refl, refl, λ s k again. rw (c .before .before .command5 .given .1) (c .attribute .ensures _ (lentOf _ _ _ _ _) s (subst (Bounded _) (c .before .before .command5 .given .1) (c .before .before .before .before .before .before .before .before .pre .1 .bounded)) (again _ (c .before .before .command5 .given .1)) k))
 
 returns-6 : tie.Need-returns-6
-unfolding lentOf
-returns-6 c = (c .before .before .before .before .block-start .ensures .0, c .before .before .before .before .block-start .ensures .1, refl, refl, block-arm _ _ _ _ _ _ _ _ _ _ _ (c .before .before .before .before .before .before .before .before .command6 .given .1) (c .before .before .before .before .block-start .ensures .2))
-
-same-length-10 : tie.Need-same-length-10
-same-length-10 c = search needs
-
-same-length-11 : tie.Need-same-length-11
-same-length-11 c = search needs
+unfolding lentOf isPlain
+returns-6 c = (refl, refl, refl, refl, λ s k again. c .set .ensures _ _ (ap isPlain (c .before .enum-told .given .1)) (c .before .before .before .before .before .before .before .pre .1 .bounded) (lentOf _ _ _ _ _) s tt k)
 
 returns-7 : tie.Need-returns-7
-unfolding lentOf
-returns-7 c = (c .before .before .before .before .block-end .ensures .0, c .before .before .before .before .block-end .ensures .1, refl, refl, block-end-arm _ _ _ _ _ _ _ _ _ _ _ (c .before .before .before .before .before .before .before .enum-told .given .1) (c .before .before .before .before .block-end .ensures .2 _))
-
-same-length-12 : tie.Need-same-length-12
-same-length-12 c = search needs
+unfolding lentOf isPlain
+returns-7 c = (refl, refl, refl, refl, λ s k again. c .set2 .ensures _ _ (ap isPlain (c .before .enum-told2 .given .1)) (c .before .before .before .before .before .before .before .pre .1 .bounded) (lentOf _ _ _ _ _) s tt k)
 
 returns-8 : tie.Need-returns-8
-unfolding lentOf
-returns-8 c = (c .before .before .repeat-start .ensures .0, refl, refl, refl, repeat-arm _ _ _ _ _ _ _ _ _ _ (c .before .before .before .before .before .command7 .given .1) (c .before .before .repeat-start .ensures .1))
-
-same-length-13 : tie.Need-same-length-13
-same-length-13 c = search needs
+unfolding lentOf isPlain
+returns-8 c = (refl, refl, refl, refl, λ s k again. c .set3 .ensures _ _ (ap isPlain (c .before .enum-told3 .given .1)) (c .before .before .before .before .before .before .before .pre .1 .bounded) (lentOf _ _ _ _ _) s tt k)
 
 returns-9 : tie.Need-returns-9
-unfolding lentOf
-returns-9 c = (c .before .before .repeat-end .ensures .0, refl, refl, refl, repeat-end-arm _ _ _ _ _ _ _ _ _ _ (c .before .before .before .before .enum-told2 .given .1) (c .before .before .repeat-end .ensures .1 _))
-
-returns-10 : tie.Need-returns-10
-unfolding lentOf
-returns-10 c = (refl, refl, refl, refl, name-arm _ _ _ _ _ _ _ _ _ (c .before .enum-told3 .given .1) (c .set-name .ensures))
-
-returns-11 : tie.Need-returns-11
-unfolding lentOf
-returns-11 c = (refl, refl, refl, refl, plain-arm _ _ _ _ _ _ _ _ _ (plain _ (c .before .match .keys11)) (c .before .before .before .before .before .before .pre .1) (c .set .ensures))
+unfolding lentOf isPlain
+returns-9 c = (refl, refl, refl, refl, λ s k again. c .set4 .ensures _ _ (ap isPlain (c .before .enum-told4 .given .1)) (c .before .before .before .before .before .before .before .pre .1 .bounded) (lentOf _ _ _ _ _) s tt k)
 
 pub step-spec : {M : Type 1} → statement M
 step-spec =
     tie.close
     (tie.spec
     enum-known-command
-    draw-requires
+    operate-requires
     enum-known-command-2
-    flash-requires
-    enum-known-command-3
     select-requires
-    enum-known-command-4
+    enum-known-command-3
     define-requires
+    enum-known-command-4
+    contain-requires
     enum-known-command-5
-    add-macro-requires
-    enum-known-command-6
-    block-start-requires
+    attribute-requires
     enum-told
-    block-end-requires
-    enum-known-command-7
-    repeat-start-requires
-    enum-told-2
-    repeat-end-requires
-    enum-told-3
-    set-name-requires
     set-requires
+    enum-told-2
+    set-requires-2
+    enum-told-3
+    set-requires-3
+    enum-told-4
+    set-requires-4
     same-length
     returns
     same-length-2
     returns-2
     same-length-3
-    returns-3
     same-length-4
     same-length-5
+    returns-3
     same-length-6
-    returns-4
     same-length-7
+    returns-4
     returns-5
-    same-length-8
-    same-length-9
     returns-6
-    same-length-10
-    same-length-11
     returns-7
-    same-length-12
     returns-8
-    same-length-13
-    returns-9
-    returns-10
-    returns-11)
+    returns-9)

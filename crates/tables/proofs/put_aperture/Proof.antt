@@ -1,4 +1,4 @@
--- `tables::put_aperture` meets its contract: the eight words are `apertureWords`.
+-- `tables::put_aperture` meets its contract: the words are `apertureWords`.
 use Rattle.tables.specs.Apertures.{apertureWords}
 use borrow.Author.Needs.{needs}
 use Rattle.tables.proofs.put_aperture.Statement.{statement}

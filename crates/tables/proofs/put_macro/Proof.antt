@@ -1,4 +1,4 @@
--- `tables::put_macro` meets its contract: the eight words are `macroWords`.
+-- `tables::put_macro` meets its contract: the words are `macroWords`.
 use Rattle.tables.specs.Macros.{macroWords}
 use borrow.Author.Needs.{needs}
 use Rattle.tables.proofs.put_macro.Statement.{statement}

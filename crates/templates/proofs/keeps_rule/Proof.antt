@@ -1,6 +1,6 @@
 -- `templates::keeps_rule` meets its contract: each test is that of a row of `keeps`.
 use Rattle.templates.specs.Templates.{keeps}
-use Rattle.command.proofs.Choose.{row-holds, row-fails}
+use Rattle.base.proofs.Choose.{row-holds, row-fails}
 use borrow.Author.Tests.{eq-eqb, ne-eqb}
 use mathlib.Core.Path.{refl}
 use borrow.Author.Needs.{needs}

@@ -10,8 +10,8 @@ slice-aggregate-is c = search needs
 is-requires : tie.Need-is-requires
 is-requires c κs = search needs
 
-fault-requires : tie.Need-fault-requires
-fault-requires c κs = search needs
+row-requires : tie.Need-row-requires
+row-requires c κs = search needs
 
 slice-aggregate-is-2 : tie.Need-slice-aggregate-is-2
 slice-aggregate-is-2 c = search needs
@@ -19,8 +19,8 @@ slice-aggregate-is-2 c = search needs
 is-requires-2 : tie.Need-is-requires-2
 is-requires-2 c κs = search needs
 
-fault-requires-2 : tie.Need-fault-requires-2
-fault-requires-2 c κs = search needs
+row-requires-2 : tie.Need-row-requires-2
+row-requires-2 c κs = search needs
 
 slice-aggregate-is-3 : tie.Need-slice-aggregate-is-3
 slice-aggregate-is-3 c = search needs
@@ -28,8 +28,8 @@ slice-aggregate-is-3 c = search needs
 is-requires-3 : tie.Need-is-requires-3
 is-requires-3 c κs = search needs
 
-fault-requires-3 : tie.Need-fault-requires-3
-fault-requires-3 c κs = search needs
+row-requires-3 : tie.Need-row-requires-3
+row-requires-3 c κs = search needs
 
 slice-aggregate-is-4 : tie.Need-slice-aggregate-is-4
 slice-aggregate-is-4 c = search needs
@@ -37,20 +37,20 @@ slice-aggregate-is-4 c = search needs
 is-requires-4 : tie.Need-is-requires-4
 is-requires-4 c κs = search needs
 
-fault-requires-4 : tie.Need-fault-requires-4
-fault-requires-4 c κs = search needs
+row-requires-4 : tie.Need-row-requires-4
+row-requires-4 c κs = search needs
 
 returns : tie.Need-returns
 unfolding kindOf
 returns c =
     simp (
-      c .fault4 .ensures,
+      c .row4 .ensures,
       c .before .is4 .ensures,
-      c .before .before .before .fault3 .ensures,
+      c .before .before .before .row3 .ensures,
       c .before .before .before .before .is3 .ensures,
-      c .before .before .before .before .before .before .fault2 .ensures,
+      c .before .before .before .before .before .before .row2 .ensures,
       c .before .before .before .before .before .before .before .is2 .ensures,
-      c .before .before .before .before .before .before .before .before .before .fault .ensures,
+      c .before .before .before .before .before .before .before .before .before .row .ensures,
       c .before .before .before .before .before .before .before .before .before .before .is .ensures,
     )
 
@@ -60,14 +60,14 @@ kind-of-spec =
     (tie.spec
     slice-aggregate-is
     is-requires
-    fault-requires
+    row-requires
     slice-aggregate-is-2
     is-requires-2
-    fault-requires-2
+    row-requires-2
     slice-aggregate-is-3
     is-requires-3
-    fault-requires-3
+    row-requires-3
     slice-aggregate-is-4
     is-requires-4
-    fault-requires-4
+    row-requires-4
     returns)

@@ -2,7 +2,7 @@
 -- Assumes nothing.
 use Rattle.tokens.specs.Tokens.{tokenOf, variableNumber}
 use Rattle.tokens.specs.declared.Token.the-variants.{Number as Numeral, Variable}
-use Rattle.command.proofs.Choose.{row-holds, row-fails}
+use Rattle.base.proofs.Choose.{row-holds, row-fails}
 use mathlib.Core.Path.{refl, sym, ap, _∙_}
 use borrow.Author.Needs.{needs}
 use borrow.Author.Tests.{eq-eqb, ne-eqb}

@@ -33,20 +33,11 @@ tell-requires c κs = tt
 returns : tie.Need-returns Inv-loop μ-loop
 returns c = tt
 
-is-more-requires : tie.Need-is-more-requires Inv-loop μ-loop
-is-more-requires c κs = tt
-
-refuse-requires : tie.Need-refuse-requires Inv-loop μ-loop
-refuse-requires c κs = tt
-
-returns-2 : tie.Need-returns-2 Inv-loop μ-loop
-returns-2 c = tt
-
 tell-requires-2 : tie.Need-tell-requires-2 Inv-loop μ-loop
 tell-requires-2 c κs = tt
 
-returns-3 : tie.Need-returns-3 Inv-loop μ-loop
-returns-3 c = tt
+returns-2 : tie.Need-returns-2 Inv-loop μ-loop
+returns-2 c = tt
 
 pub answer-spec : {M : Type 1} → statement M
 answer-spec =
@@ -62,8 +53,5 @@ answer-spec =
     loop-again
     tell-requires
     returns
-    is-more-requires
-    refuse-requires
-    returns-2
     tell-requires-2
-    returns-3)
+    returns-2)

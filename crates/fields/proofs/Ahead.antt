@@ -1,0 +1,168 @@
+-- The part of a command that the walk is in says where the field ahead is: what `fieldFrom` and `fieldTo` say of the bytes themselves.
+-- Assumes nothing.
+use Prim.Native.Nat.{ℕ, _+_, _<_, _≤_}
+use mathlib.Core.Path.{_≡_, refl, ap, sym, _∙_}
+use mathlib.Core.Bool.{Bool, true, false, not}
+use mathlib.Core.List.{List, [], _∷_}
+use native.Mathlib.Omega.{arith}
+use lib.Dec.{leb, ltb, eqb}
+use borrow.Author.Tests.{leb-true, eqb-true, eqb-false, le-leb, lt-leb, lt-ltb, le-ltb}
+use Rattle.base.specs.And.{_and_}
+use Rattle.base.proofs.And.{and-false}
+use Rattle.base.proofs.Tests.{leb-agree}
+use Rattle.text.specs.First.{firstIn}
+use Rattle.text.specs.Text.{byte}
+use Rattle.text.proofs.First.{in-from}
+use Rattle.fields.specs.Parts.{isField, partAfter}
+use Rattle.fields.specs.declared.Part.{Part}
+use Rattle.fields.specs.declared.Part.the-variants.{Named, Field, Plain}
+
+-- place i holds one of these bytes, which stand from `at` on, and is in the field, as the walk sees it from this part on
+unfoldable pub reaches : Part → List ℕ → ℕ → ℕ → Bool
+reaches part [] at i = false
+reaches part (b ∷ s) at i = elim (eqb i at) [ true ↦ isField part and not (byte "*" b) | false ↦ reaches (partAfter part b) s (at + 1) i ]
+
+abbrev pub star : List ℕ → ℕ → ℕ
+star = firstIn (byte "*")
+
+abbrev pub comma : List ℕ → ℕ → ℕ
+comma = firstIn (byte ",")
+
+-- place i is from a up to e
+abbrev pub range : ℕ → ℕ → ℕ → Bool
+range a i e = leb a i and ltb i e
+
+module _ (a i e : ℕ) where
+  range-in : a ≤ i → i < e → range a i e ≡ true
+  unfolding _and_
+  range-in h k = rw (le-leb a i h, lt-ltb i e k)
+
+  range-before : i < a → range a i e ≡ false
+  unfolding _and_
+  range-before h = rw (lt-leb a i h)
+
+  pub range-none : e ≤ a → range a i e ≡ false
+  unfolding _and_
+  range-none h = go (leb a i) refl
+    where
+      go : (t : Bool) → leb a i ≡ t → range a i e ≡ false
+      go false f = rw f
+      go true f = let l = leb-true a i f in let m : e ≤ i = omega arith in rw (f, le-ltb i e m)
+
+  range-next : (i ≡ a → ⊥) → range a i e ≡ range (a + 1) i e
+  range-next h = ap (λ (t : Bool). t and ltb i e) (leb-agree a i (a + 1) i (λ l. omega arith) (λ l. omega arith))
+
+-- the first byte of a test, and past one that fails
+module _ (test : ℕ → Bool) (b : ℕ) (s : List ℕ) (at : ℕ) where
+  pub first-here : test b ≡ true → firstIn test (b ∷ s) at ≡ at
+  unfolding firstIn
+  first-here e = rw (firstIn, e)
+
+  pub first-later : test b ≡ false → firstIn test (b ∷ s) at ≡ firstIn test s (at + 1)
+  unfolding firstIn
+  first-later e = rw (firstIn, e)
+
+-- one byte of the walk
+module _ (part : Part) (b : ℕ) (s : List ℕ) (at i : ℕ) where
+  pub reach-here : eqb i at ≡ true → reaches part (b ∷ s) at i ≡ (isField part and not (byte "*" b))
+  unfolding reaches
+  reach-here e = rw (reaches, e)
+
+  pub reach-next : eqb i at ≡ false → reaches part (b ∷ s) at i ≡ reaches (partAfter part b) s (at + 1) i
+  unfolding reaches
+  reach-next e = rw (reaches, e)
+
+-- no field ahead
+pub plain-ahead : (s : List ℕ) (at i : ℕ) → reaches Plain s at i ≡ false
+unfolding reaches isField partAfter _and_
+plain-ahead [] at i = refl
+plain-ahead (b ∷ s) at i = go (eqb i at) refl (plain-ahead s (at + 1) i)
+  where
+    go : (t : Bool) → eqb i at ≡ t → reaches Plain s (at + 1) i ≡ false → reaches Plain (b ∷ s) at i ≡ false
+    go true e rest = reach-here Plain b s at i e
+    go false e rest = reach-next Plain b s at i e ∙ rest
+
+-- a byte that leads from a part, which is none of the field, to another
+module _ (part : Part) (out : isField part ≡ false) (b : ℕ) (s : List ℕ) (at i : ℕ) where
+  here-none : eqb i at ≡ true → reaches part (b ∷ s) at i ≡ false
+  unfolding _and_
+  here-none e = reach-here part b s at i e ∙ rw out
+
+  pub to-plain : partAfter part b ≡ Plain → reaches part (b ∷ s) at i ≡ false
+  to-plain p = go (eqb i at) refl
+    where
+      go : (t : Bool) → eqb i at ≡ t → reaches part (b ∷ s) at i ≡ false
+      go true e = here-none e
+      go false e = reach-next part b s at i e ∙ rw p (plain-ahead s (at + 1) i)
+
+  pub to-part : (may : Bool) (a e : ℕ) {next : Part} → partAfter part b ≡ next → at < a → reaches next s (at + 1) i ≡ (may and range a i e) → reaches part (b ∷ s) at i ≡ (may and range a i e)
+  to-part may a e p l rest = go (eqb i at) refl
+    where
+      go : (t : Bool) → eqb i at ≡ t → reaches part (b ∷ s) at i ≡ (may and range a i e)
+      go true q = let h = eqb-true i at q in here-none q ∙ sym (ap (λ (t : Bool). may and t) (range-before a i e (omega arith)) ∙ and-false may)
+      go false q = reach-next part b s at i q ∙ rw p rest
+
+-- inside the field: up to the first `*`
+pub field-ahead : (s : List ℕ) (at i : ℕ) → reaches Field s at i ≡ range at i (star s at)
+unfolding reaches firstIn isField partAfter _and_
+field-ahead [] at i = sym (range-none at i at (omega arith))
+field-ahead (b ∷ s) at i = go (byte "*" b) refl (field-ahead s (at + 1) i)
+  where
+    starred : byte "*" b ≡ true → (t : Bool) → eqb i at ≡ t → reaches Field (b ∷ s) at i ≡ false
+    starred f true e = reach-here Field b s at i e ∙ rw f
+    starred f false e = reach-next Field b s at i e ∙ rw f (plain-ahead s (at + 1) i)
+
+    more : byte "*" b ≡ false → (t : Bool) → eqb i at ≡ t → reaches Field s (at + 1) i ≡ range (at + 1) i (star s (at + 1)) → reaches Field (b ∷ s) at i ≡ range at i (star s (at + 1))
+    more f true e rest =
+        let h = eqb-true i at e in
+        let k = in-from (byte "*") s (at + 1) .0 in
+        (reach-here Field b s at i e ∙ rw f) ∙ sym (range-in at i (star s (at + 1)) (omega arith) (omega arith))
+    more f false e rest = (reach-next Field b s at i e ∙ rw f rest) ∙ sym (range-next at i (star s (at + 1)) (eqb-false i at e))
+
+    go : (t : Bool) → byte "*" b ≡ t → reaches Field s (at + 1) i ≡ range (at + 1) i (star s (at + 1)) → reaches Field (b ∷ s) at i ≡ range at i (star (b ∷ s) at)
+    go true f rest = starred f (eqb i at) refl ∙ sym (ap (range at i) (first-here (byte "*") b s at f) ∙ range-none at i at (omega arith))
+    go false f rest = more f (eqb i at) refl rest ∙ sym (ap (range at i) (first-later (byte "*") b s at f))
+
+-- `true and` makes no difference: what is known of a part that surely leads to the field
+pub holds : {t : Bool} {x : Bool} → t ≡ x → t ≡ (true and x)
+unfolding _and_
+holds e = e
+
+pub bare : {t : Bool} {x : Bool} → t ≡ (true and x) → t ≡ x
+unfolding _and_
+bare e = e
+
+-- before the comma: from the byte behind it up to the first `*`
+pub named-ahead : (s : List ℕ) (at i : ℕ) → reaches Named s at i ≡ range (comma s at + 1) i (star s at)
+unfolding reaches firstIn isField partAfter
+named-ahead [] at i = sym (range-none (at + 1) i at (omega arith))
+named-ahead (b ∷ s) at i = go (byte "*" b) refl (byte "," b) refl (named-ahead s (at + 1) i)
+  where
+    out : isField Named ≡ false
+    out = refl
+
+    starred : byte "*" b ≡ true → partAfter Named b ≡ Plain
+    starred f = rw f
+
+    behind : byte "*" b ≡ false → byte "," b ≡ true → partAfter Named b ≡ Field
+    behind f g = rw (f, g)
+
+    before : byte "*" b ≡ false → byte "," b ≡ false → partAfter Named b ≡ Named
+    before f g = rw (f, g)
+
+    ends : byte "*" b ≡ false → star (b ∷ s) at ≡ star s (at + 1)
+    ends f = first-later (byte "*") b s at f
+
+    go : (t : Bool) → byte "*" b ≡ t → (u : Bool) → byte "," b ≡ u → reaches Named s (at + 1) i ≡ range (comma s (at + 1) + 1) i (star s (at + 1)) →
+        reaches Named (b ∷ s) at i ≡ range (comma (b ∷ s) at + 1) i (star (b ∷ s) at)
+    go true f u g rest =
+        let k = in-from (byte ",") (b ∷ s) at .0 in
+        to-plain Named out b s at i (starred f)
+        ∙ sym (ap (range (comma (b ∷ s) at + 1) i) (first-here (byte "*") b s at f) ∙ range-none (comma (b ∷ s) at + 1) i at (omega arith))
+    go false f true g rest =
+        bare (to-part Named out b s at i true (at + 1) (star s (at + 1)) (behind f g) (omega arith) (holds (field-ahead s (at + 1) i)))
+        ∙ sym (λ j. range (first-here (byte ",") b s at g j + 1) i (ends f j))
+    go false f false g rest =
+        let k = in-from (byte ",") s (at + 1) .0 in
+        bare (to-part Named out b s at i true (comma s (at + 1) + 1) (star s (at + 1)) (before f g) (omega arith) (holds rest))
+        ∙ sym (λ j. range (first-later (byte ",") b s at g j + 1) i (ends f j))

@@ -1,0 +1,5 @@
+pub mod CodePoints
+pub mod Examples
+pub mod Letter
+pub mod Points
+pub mod Table

@@ -1,0 +1,53 @@
+-- `operations::field_at` meets its contract: the byte at the place says whether the field is there, and what stands behind it what it is.
+-- Assumes nothing.
+use Prim.Native.Nat.{_<_}
+use mathlib.Core.Path.{sym}
+use lib.ListN.{length}
+use native.Mathlib.Omega.{arith}
+use Rattle.base.proofs.Tests.{tests}
+use Rattle.operations.specs.Coordinates.{missing, fieldAt}
+use Rattle.operations.proofs.Ends.{inside}
+use borrow.Author.Needs.{needs}
+use Rattle.operations.proofs.field_at.Statement.{statement}
+use Rattle.operations.proofs.field_at.Tie as tie
+
+-- the letter stands inside the text
+stands : (c : tie.Then1) → c .before .before .before .args .at < length (c .before .before .before .args .s .now)
+stands c = inside (c .before .before .before .args .s .now) (c .before .before .before .args .at) (omega (arith, c .before .byte-at .ensures))
+
+byte-at-requires : tie.Need-byte-at-requires
+byte-at-requires c κs = search needs
+
+add-coordinate-at : tie.Need-add-coordinate-at
+add-coordinate-at c = omega (arith, stands c)
+
+coordinate-at-requires : tie.Need-coordinate-at-requires
+coordinate-at-requires c κs = (omega (arith, stands c), c .before .before .before .pre .0)
+
+as-given-requires : tie.Need-as-given-requires
+as-given-requires c κs = search needs
+
+returns : tie.Need-returns
+unfolding fieldAt
+returns c =
+    let e = sym (c .before .before .before .byte-at .ensures) in
+    let h = c .before .before .if1 .taken in
+    simp (tests, e) (cc)
+
+returns-2 : tie.Need-returns-2
+unfolding fieldAt missing
+returns-2 c =
+    let e = sym (c .before .byte-at .ensures) in
+    let h = c .if1 .left in
+    simp (tests, e)
+
+pub field-at-spec : {M : Type 1} → statement M
+field-at-spec =
+    tie.close
+    (tie.spec
+    byte-at-requires
+    add-coordinate-at
+    coordinate-at-requires
+    as-given-requires
+    returns
+    returns-2)

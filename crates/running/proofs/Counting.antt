@@ -1,0 +1,42 @@
+-- The rounded decimals counted so far: with those of the commands to come they are the file's, and they are no more than the bytes before.
+-- Assumes nothing.
+use Prim.Native.Nat.{ℕ, _+_, _≤_}
+use mathlib.Core.Path.{_≡_, refl, ap}
+use mathlib.Core.List.{List}
+use native.Mathlib.Omega.{arith}
+use lib.ListN.{length}
+use Rattle.command.specs.Rounded.{roundedOf}
+use Rattle.command.specs.declared.Command.the-variants.{End}
+use Rattle.commands.specs.Rounded.{roundedAmong}
+use Rattle.commands.specs.Turns.{turnOf}
+use Rattle.commands.specs.declared.Placed.{Placed}
+use Rattle.commands.specs.declared.Turn.the-variants as turn
+use Rattle.commands.proofs.Walk.{walk, walk-last, walk-more}
+use Rattle.running.specs.Ends.{walked}
+
+-- those of a file
+abbrev pub allOf : List ℕ → ℕ
+allOf file = roundedAmong (walked file .commands)
+
+pub record Counted (file : List ℕ) (n at rounded : ℕ) : Type 0 where
+  pub sum : rounded + roundedAmong (walk n file at .commands) ≡ allOf file
+  pub few : rounded ≤ at
+
+pub counted-start : (file : List ℕ) → Counted file 0 0 0
+counted-start file = record { sum = omega arith; few = omega arith }
+
+module _ (file : List ℕ) (n at rounded : ℕ) (k : Counted file n at rounded) where
+  -- M02 has no decimals
+  pub counted-last : {c : Placed} {next : ℕ} → turnOf n file at ≡ turn.Last c next → c .command ≡ End → rounded ≡ allOf file
+  unfolding roundedAmong roundedOf
+  counted-last {c} e q =
+      let s : rounded + (roundedOf (c .command) + 0) ≡ allOf file = rw (walk-last n file at e) at (k .sum) in
+      let z : roundedOf (c .command) ≡ 0 = ap roundedOf q in
+      omega (arith, s, z)
+
+  pub counted-more : {c : Placed} {m next : ℕ} → at ≤ length file → turnOf n file at ≡ turn.More c m next → at + roundedOf (c .command) ≤ next →
+      Counted file m next (rounded + roundedOf (c .command))
+  unfolding roundedAmong
+  counted-more {c} {m} {next} h e l =
+      let s : rounded + (roundedOf (c .command) + roundedAmong (walk m file next .commands)) ≡ allOf file = rw (walk-more n file at h e) at (k .sum) in
+      record { sum = omega (arith, s); few = omega (arith, k .few, l) }

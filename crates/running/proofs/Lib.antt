@@ -1,0 +1,9 @@
+pub mod Turns
+pub mod After
+pub mod Judging
+pub mod Naming
+pub mod Counting
+pub mod Running
+pub mod Settling
+pub mod Begun
+pub mod Runs

@@ -1,0 +1,15 @@
+-- `running::start` meets its contract.
+-- Assumes nothing.
+use borrow.Author.Needs.{needs}
+use Rattle.running.proofs.start.Statement.{statement}
+use Rattle.running.proofs.start.Tie as tie
+
+start-requires : tie.Need-start-requires
+start-requires c κs = search needs
+
+returns : tie.Need-returns
+unfolding Rattle.running.specs.Ends.start
+returns c = rw (c .start .ensures)
+
+pub start-spec : {M : Type 1} → statement M
+start-spec = tie.close (tie.spec start-requires returns)

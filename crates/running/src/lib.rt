@@ -1,0 +1,187 @@
+// The commands of a file in order, each read with what is known before it: up to M02, to a fault, or to a name of which the reading cannot tell
+// whether it was set before.
+ghost use mathlib.Core.Path.{_≡_};
+ghost use Prim.Native.Nat.{_<_};
+ghost use lib.ListN.{length};
+ghost use Rattle.progress.specs.Lent.{lentOf};
+ghost use Rattle.running.specs.Ends.{start, Empty, AsLong, answerOf, settled, Looked, Comes};
+ghost use Rattle.running.specs.Judged.{judgedName, judgedOf};
+use build::Builder;
+use commands::Placed;
+use commands::Refusal;
+use commands::Turn;
+use names::Sets;
+use progress::Progress;
+use progress::Stepped;
+
+// Where a name of TF is set twice first, the length of the file where none is, once that was looked for.
+pub enum Repeat {
+    Unknown,
+    At(usize),
+}
+
+// Whether a command sets a name again, and how many names are set with it; or that has to be looked for.
+pub enum Judged {
+    Told { again: bool, set: usize },
+    Asks,
+}
+
+// How the commands of a file end: at M02 with all rules kept, and so many decimals rounded, or at a fault.
+pub enum End {
+    Sheet { progress: Progress, rounded: usize },
+    Fault(Refusal),
+}
+
+// What a run over the commands comes to: their end, or it asks where a name is set twice.
+pub enum Outcome {
+    Ends(End),
+    Asks,
+}
+
+// Nothing is read yet.
+fn start() -> Progress
+    ensures { λ r. ⌜ r ≡ start ⌝ }
+{
+    Progress {
+        graphics: graphics::start(),
+        builder: Builder {
+            closed: 0,
+            high: 0,
+            start: 0,
+            height: 10,
+            items: 0,
+        },
+        contour: 0,
+        depth: 0,
+        copies: 1,
+        sheet: 0,
+        apertures: 0,
+        macros: 0,
+        numbers: 0,
+    }
+}
+
+// Whether the TF at a place sets its name again, so many being set before it. The first of a file is new; of the next few, and near the
+// file's start, a walk tells which TF sets the name first.
+fn judge_name(file: &[u8], place: usize, name: &[u8], set: usize, repeat: Repeat) -> Judged
+    requires { ⌜ set < length (now file) ⌝ }
+    ensures { λ r. ⌜ r ≡ judgedName (now (file .entry)) place (now (name .entry)) set repeat ⌝ }
+{
+    if set == 0 {
+        return Judged::Told {
+            again: false,
+            set: 1,
+        };
+    }
+    if base::either(set < 16, place < 4096) {
+        return Judged::Told {
+            again: names::first_at(file, name) != place,
+            set: set + 1,
+        };
+    }
+    match repeat {
+        Repeat::Unknown => Judged::Asks,
+        Repeat::At(twice) => Judged::Told {
+            again: place == twice,
+            set: set + 1,
+        },
+    }
+}
+
+// The same of any command: one that is no TF sets no name.
+fn judge(file: &[u8], c: Placed, set: usize, repeat: Repeat) -> Judged
+    requires { ⌜ set < length (now file) ⌝ }
+    ensures { λ r. ⌜ r ≡ judgedOf (now (file .entry)) c set repeat ⌝ }
+{
+    let command = c.command;
+    let sets = names::sets_of(command);
+    match sets {
+        Sets::Nothing => Judged::Told { again: false, set },
+        Sets::Name(n) => {
+            let text = base::part(file, c.from, c.end);
+            judge_name(file, c.place, base::part(text, n.from, n.to), set, repeat)
+        }
+    }
+}
+
+// How the commands end at M02, what it came to being r and the fault of what follows it f.
+fn settled(r: Stepped, place: usize, f: Refusal, rounded: usize) -> End
+    ensures { λ x. ⌜ x ≡ settled r place f rounded ⌝ }
+{
+    match r {
+        Stepped::Fault(number) => End::Fault(Refusal { number, place }),
+        Stepped::Next(p) => {
+            if f.number == 0 {
+                return End::Sheet {
+                    progress: p,
+                    rounded,
+                };
+            }
+            End::Fault(f)
+        }
+    }
+}
+
+// The commands of a file in order, over rooms of zeros.
+pub fn run(
+    file: &[u8],
+    e: &mut [u64],
+    a: &mut [u64],
+    m: &mut [u64],
+    numbers: &mut [i64],
+    repeat: Repeat,
+) -> Outcome
+    requires { ⌜ Empty (lentOf (now file) (now e) (now a) (now m) (now numbers)) ⌝ }
+    requires { ⌜ Looked (now file) repeat ⌝ }
+    ensures { λ r. ⌜ AsLong (lentOf (now (file .entry)) (now (e .entry)) (now (a .entry)) (now (m .entry)) (now (numbers .entry)))
+        (lentOf (now (file .entry)) (now (e .exit)) (now (a .exit)) (now (m .exit)) (now (numbers .exit)))
+        × Comes (answerOf (lentOf (now (file .entry)) (now (e .entry)) (now (a .entry)) (now (m .entry)) (now (numbers .entry))))
+        (lentOf (now (file .entry)) (now (e .exit)) (now (a .exit)) (now (m .exit)) (now (numbers .exit))) repeat r ⌝ }
+{
+    let mut p = start();
+    let mut n: usize = 0;
+    let mut at: usize = 0;
+    let mut set: usize = 0;
+    let mut rounded: usize = 0;
+    loop {
+        let t = commands::turn_at(n, file, at);
+        match t {
+            Turn::Fault(f) => {
+                return Outcome::Ends(End::Fault(f));
+            }
+            Turn::Last { command, next } => {
+                let place = command.place;
+                let r = steps::step(file, e, a, m, numbers, p, command, false);
+                return Outcome::Ends(settled(r, place, commands::tail_fault(file, next), rounded));
+            }
+            Turn::More {
+                command,
+                n: digits,
+                next,
+            } => {
+                let said = command.command;
+                let counted = rounded + command::rounded_of(said);
+                let j = judge(file, command, set, repeat);
+                let Judged::Told { again, set: more } = j else {
+                    return Outcome::Asks;
+                };
+                let r = steps::step(file, e, a, m, numbers, p, command, again);
+                match r {
+                    Stepped::Fault(number) => {
+                        return Outcome::Ends(End::Fault(Refusal {
+                            number,
+                            place: command.place,
+                        }));
+                    }
+                    Stepped::Next(q) => {
+                        p = q;
+                        n = digits;
+                        at = next;
+                        set = more;
+                        rounded = counted;
+                    }
+                }
+            }
+        }
+    }
+}

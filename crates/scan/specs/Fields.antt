@@ -1,0 +1,17 @@
+-- Where letters beyond ASCII may stand, by the rule: nowhere, or in a command's field (02, request [8]; decision 401).
+use Prim.Native.Nat.{ℕ}
+use mathlib.Core.Bool.{Bool, true, false}
+use mathlib.Core.List.{List}
+use Rattle.base.specs.And.{_and_}
+use Rattle.fields.specs.Fields.{fieldHas}
+use Rattle.scan.specs.declared.Letters.{Letters}
+use Rattle.scan.specs.declared.Letters.the-variants.{Old, New}
+
+-- the rule lets letters in
+abbrev pub isNew : Letters → Bool
+isNew Old = false
+isNew New = true
+
+-- and place i is in the field of the command that these bytes begin with, the first of them at `at`
+unfoldable pub inField : Letters → List ℕ → ℕ → ℕ → Bool
+inField letters s at i = isNew letters and fieldHas s at i
