@@ -157,7 +157,7 @@ static void items(const char *name, struct text t, int singles)
     for (int j = 0; j < ROUNDS; j++) {
         double from = now();
         for (int i = 0; i < singles; i++)
-            sink += sheet_item(s.head, s.entries, s.entries_words, s.apertures, s.apertures_words, seed % total, one, SHEET_ITEM_WORDS) + (uint64_t)chance(2);
+            sink += sheet_item(s.head, s.entries, s.entries_words, s.apertures, s.apertures_words, seed % total, one) + (uint64_t)chance(2);
         double took = (now() - from) / singles;
         best_single = took < best_single ? took : best_single;
     }

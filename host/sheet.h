@@ -17,7 +17,7 @@
  *   size_t m = sheet_macros_for(n) * SHEET_MACRO_WORDS, v = numbers;
  *   .. lend entries of e words, apertures of a, macros of m, numbers of v ..
  *   if (sheet_read(file, n, head, entries, e, apertures, a, macros, m, values, v, &place, &unit, &rounded) == SHEET_ACCEPTED)
- *       sheet_item(head, entries, e, apertures, a, 40000, item, SHEET_ITEM_WORDS);
+ *       sheet_item(head, entries, e, apertures, a, 40000, item);
  */
 #ifndef SHEET_H
 #define SHEET_H
@@ -29,7 +29,7 @@
 extern "C" {
 #endif
 
-/* Document 01, "Numbers the reader answers", and document 02; the last is the host calls' own. */
+/* Document 01, "Numbers the reader answers", and document 02. */
 enum sheet_number {
     SHEET_ACCEPTED = 0,         /* accepted */
     SHEET_TOO_LONG = 1,         /* file longer than 16,777,216 bytes; place 0 */
@@ -56,8 +56,7 @@ enum sheet_number {
     SHEET_NO_COMMAND = 22,      /* no command begins at the place asked */
     SHEET_NOT_HELD = 23,        /* attribute name not held there */
     SHEET_OWN_MOVE = 29,        /* in a region, a first D01 without a D02 since its G36; after 11 and before 12 (document 02, [7]) */
-    SHEET_NO_ADDRESS = 32,      /* an address that names nothing (document 02, [12]) */
-    SHEET_SHORT = 100           /* the words lent for items do not hold one item; before all else (decision 281) */
+    SHEET_NO_ADDRESS = 32       /* an address that names nothing (document 02, [12]) */
 };
 
 enum sheet_unit { SHEET_NO_UNIT = 0, SHEET_MM = 1, SHEET_INCH = 2 };
@@ -165,14 +164,15 @@ uint64_t sheet_total(const uint64_t *head, const uint64_t *entries, size_t entri
                      size_t apertures_words, uint64_t *total);
 
 /* Item k of a sheet, counted from 0.
- *   item, item_words    SHEET_ITEM_WORDS words; more are set to 0
- * Answers 0; or 100, 21, 20, in this order, and zeros. */
+ *   item    SHEET_ITEM_WORDS words
+ * Answers 0; or 21, 20, in this order, and zeros. */
 uint64_t sheet_item(const uint64_t *head, const uint64_t *entries, size_t entries_words, const uint64_t *apertures,
-                    size_t apertures_words, uint64_t k, uint64_t *item, size_t item_words);
+                    size_t apertures_words, uint64_t k, uint64_t *item);
 
 /* Items k, k + 1, .. of a sheet: the cheap way to take many, since the store is looked at once.
  *   items, items_words    room for items_words / SHEET_ITEM_WORDS items, slot after slot
- * Answers 0 (slots past the total, and words behind the last whole slot, are 0); or 100, 21, 20, in this order, and zeros. */
+ * Answers 0 (slots past the total, and words behind the last whole slot, are 0); or 21, 20, in this order, and zeros. Words that hold
+ * no item are answered like any others, and are 0 (decision 281). */
 uint64_t sheet_items(const uint64_t *head, const uint64_t *entries, size_t entries_words, const uint64_t *apertures,
                      size_t apertures_words, uint64_t k, uint64_t *items, size_t items_words);
 

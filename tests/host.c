@@ -108,9 +108,9 @@ static uint64_t items_at(const struct lent *l, uint64_t k, uint64_t *out, size_t
     return sheet_items(l->head, l->entries, l->e, l->apertures, l->a, k, out, words);
 }
 
-static uint64_t item_at(const struct lent *l, uint64_t k, uint64_t *out, size_t words)
+static uint64_t item_at(const struct lent *l, uint64_t k, uint64_t *out)
 {
-    return sheet_item(l->head, l->entries, l->e, l->apertures, l->a, k, out, words);
+    return sheet_item(l->head, l->entries, l->e, l->apertures, l->a, k, out);
 }
 
 static uint64_t total_of(const struct lent *l, uint64_t *total)
@@ -253,7 +253,7 @@ static void any_order(const struct lent *l)
         state ^= state << 13, state ^= state >> 7, state ^= state << 17;
         uint64_t k = state % total, n = state / total % 90 + 1;
         soil(one, SHEET_ITEM_WORDS + 2);
-        expect(item_at(l, k, one, SHEET_ITEM_WORDS + 2) == 0 && zeros(one, 15, 17), "an item, and zeros behind it", k);
+        expect(item_at(l, k, one) == 0 && one[15] == garbage, "an item, and nothing behind it", k);
         expect(memcmp(one, all + k * 15, 120) == 0, "an item is that of the run", k);
         uint64_t here = n < total - k ? n : total - k;
         soil(some, 100 * SHEET_ITEM_WORDS);
@@ -261,13 +261,16 @@ static void any_order(const struct lent *l)
         expect(zeros(some, here * 15, n * 15 + 5) && some[n * 15 + 5] == garbage, "past the total a run is zeros", k);
     }
     soil(one, 17);
-    expect(item_at(l, total, one, 15) == SHEET_PAST && zeros(one, 0, 15) && one[15] == garbage, "an item past the total", total);
+    expect(item_at(l, total, one) == SHEET_PAST && zeros(one, 0, 15) && one[15] == garbage, "an item past the total", total);
     expect(items_at(l, UINT64_MAX, some, 30) == SHEET_PAST && zeros(some, 0, 30), "a run past the total", total);
     soil(one, 17);
-    expect(item_at(l, 0, one, 14) == SHEET_SHORT && zeros(one, 0, 14) && one[14] == garbage, "words too short for an item", 14);
-    expect(item_at(l, 0, one, 0) == SHEET_SHORT && one[14] == garbage, "no words for an item", 0);
+    expect(items_at(l, 0, one, 0) == 0 && one[0] == garbage, "no words for a run", 0);
+    expect(items_at(l, 0, one, 14) == 0 && zeros(one, 0, 14) && one[14] == garbage, "words too short for an item", 14);
     soil(one, 17);
-    expect(items_at(l, 0, one, 14) == SHEET_SHORT && zeros(one, 0, 14) && one[14] == garbage, "words too short for a run", 14);
+    expect(items_at(l, total, one, 14) == SHEET_PAST && zeros(one, 0, 14), "too short, and past the total", 14);
+    soil(one, 17);
+    expect(sheet_items(l->head, l->entries, 0, l->apertures, l->a, 0, one, 14) == SHEET_NOT_SHEET && zeros(one, 0, 14),
+           "too short, and no sheet", 14);
 }
 
 /* The items that a store's own words put out, as docs/SHEET.md has it: each container entry by entry, copies written out. */
@@ -354,7 +357,7 @@ static int answered(const struct lent *l, uint64_t *run, struct put *out)
     put_out(out, l, l->head[2] - l->head[6], l->head[6]);
     expect(out->count == (total < SLOTS ? total : SLOTS), "the total is that of the expansion", total);
     expect(memcmp(run, out->items, out->count * 120) == 0, "the items are those of the expansion", total);
-    expect(item_at(l, total, one, 15) == SHEET_PAST && zeros(one, 0, 15), "past the total", total);
+    expect(item_at(l, total, one) == SHEET_PAST && zeros(one, 0, 15), "past the total", total);
     if (total != 0)
         expect(item_at(l, total - 1, one, 15) == 0 && one[0] >= 1 && one[0] <= 8, "the last item", total);
     return 1;

@@ -1,4 +1,4 @@
--- The one item of `sheet_item`: item k's words, or a zero item's where it is refused.
+-- A run of one slot: item k's words, or a zero item's where it is refused; and its number.
 -- Assumes nothing.
 use Prim.Native.Nat.{ℕ}
 use mathlib.Core.Path.{_≡_, refl, _∙_, ap}
@@ -12,8 +12,8 @@ use Rattle.place.specs.declared.Item.{Item}
 use Rattle.place.specs.Item.{itemWidth, zeroItem}
 use Rattle.sheet.specs.Meaning.{sheetItems}
 use Rattle.sheet.specs.Valid.{valid}
-use Rattle.descend.specs.Answers.{answerOf, answerItem}
-use Rattle.descend.specs.Slots.{itemWords, slot, slots, fetched}
+use Rattle.descend.specs.Answers.{answerOf, answerNumber, answerItem}
+use Rattle.descend.specs.Slots.{itemWords, slot, slots, fetchOf, fetchNumber, fetched}
 
 -- one slot
 one-slot : (ts : List Item) (k : ℕ) → slots ts k itemWidth ≡ itemWords (getD ts k zeroItem)
@@ -31,3 +31,13 @@ item-answered head e a k false b p q = rw p
 pub one-item : (head e a : List ℕ) (k : ℕ) → fetched head e a k itemWidth ≡ itemWords (answerItem (answerOf head e a k))
 unfolding fetched
 one-item head e a k = one-slot _ k ∙ ap itemWords (item-answered head e a k _ _ refl refl)
+
+number-answered : (head e a : List ℕ) (k : ℕ) (v b : Bool) → valid head e a ≡ v → ltb k (length (sheetItems head e a)) ≡ b
+    → fetchNumber (fetchOf head e a k) ≡ answerNumber (answerOf head e a k)
+unfolding answerOf answerNumber fetchOf fetchNumber
+number-answered head e a k true true p q = rw (p, q)
+number-answered head e a k true false p q = rw (p, q)
+number-answered head e a k false b p q = rw p
+
+pub one-number : (head e a : List ℕ) (k : ℕ) → fetchNumber (fetchOf head e a k) ≡ answerNumber (answerOf head e a k)
+one-number head e a k = number-answered head e a k _ _ refl refl

@@ -10,11 +10,10 @@ ghost use Rattle.sayings.specs.declared.Kind.the-variants.{Aperture, Object};
 ghost use Rattle.reading.specs.Reading.{reading};
 ghost use Rattle.progress.specs.Lent.{lentOf, roomOf};
 ghost use Rattle.attribute.specs.Attribute.{attributeOf};
-ghost use Rattle.descend.specs.Answers.{totalOf, totalNumber, totalValue, answerOf, answerItem};
+ghost use Rattle.descend.specs.Answers.{totalOf, totalNumber, totalValue, answerOf, answerNumber, answerItem};
 ghost use Rattle.descend.specs.Slots.{itemWords, fetchOf, fetchNumber, fetched};
 ghost use Rattle.address.specs.Answers.{replyOf};
 ghost use Rattle.addressing.specs.Answers.{addressNumber, addressWords};
-ghost use Rattle.host.specs.Calls.{runNumber, itemIn};
 ghost use Rattle.host.specs.Reads.{ReadsInto};
 ghost use Rattle.host.specs.Widths.{ItemsAre, EntriesAre, AperturesAre, MacrosAre};
 
@@ -122,7 +121,7 @@ fn fetch_number(f: Fetch) -> u64
     }
 }
 
-// Items k, k + 1, .. of a sheet, in as many slots as there is room for; 100 where there is room for none.
+// Items k, k + 1, .. of a sheet, in as many slots as there is room for.
 #[no_mangle]
 pub extern "C" fn sheet_items(
     head: &[u64; 8],
@@ -131,34 +130,26 @@ pub extern "C" fn sheet_items(
     k: u64,
     items: &mut [u64],
 ) -> u64
-    ensures { λ r. ⌜ (r ≡ runNumber (fetchOf (now (head .entry)) (now (entries .entry)) (now (apertures .entry)) k) (length (now (items .entry))))
+    ensures { λ r. ⌜ (r ≡ fetchNumber (fetchOf (now (head .entry)) (now (entries .entry)) (now (apertures .entry)) k))
         × (now (items .exit) ≡ fetched (now (head .entry)) (now (entries .entry)) (now (apertures .entry)) k (length (now (items .entry)))) ⌝ }
 {
-    let short = items.len() < place::ITEM_WORDS;
     let f = descend::sheet_run(head, entries, apertures, k, items);
-    if short {
-        return 100;
-    }
     fetch_number(f)
 }
 
-// Item k of a sheet in the first of the lent words, the others 0; 100 where there are fewer.
+// Item k of a sheet, a zero item where there is none.
 #[no_mangle]
 pub extern "C" fn sheet_item(
     head: &[u64; 8],
     entries: &[u64],
     apertures: &[u64],
     k: u64,
-    item: &mut [u64],
+    item: &mut [u64; 15],
 ) -> u64
-    ensures { λ r. ⌜ (r ≡ runNumber (fetchOf (now (head .entry)) (now (entries .entry)) (now (apertures .entry)) k) (length (now (item .entry))))
-        × (now (item .exit) ≡ itemIn (itemWords (answerItem (answerOf (now (head .entry)) (now (entries .entry)) (now (apertures .entry)) k))) (length (now (item .entry)))) ⌝ }
+    ensures { λ r. ⌜ (r ≡ answerNumber (answerOf (now (head .entry)) (now (entries .entry)) (now (apertures .entry)) k))
+        × (now (item .exit) ≡ itemWords (answerItem (answerOf (now (head .entry)) (now (entries .entry)) (now (apertures .entry)) k))) ⌝ }
 {
-    base::clear(item);
-    if item.len() < place::ITEM_WORDS {
-        return 100;
-    }
-    let f = descend::sheet_run(head, entries, apertures, k, &mut item[..place::ITEM_WORDS]);
+    let f = descend::sheet_run(head, entries, apertures, k, item);
     fetch_number(f)
 }
 
