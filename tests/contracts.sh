@@ -1,6 +1,6 @@
 #!/usr/bin/env bash
-# What the prover does not ask for: every public function says what it ensures, every library has a wrong program that is refused
-# and one with a call for hosts two (decision 214), every crate's files are where the layout has them, and the repository names no
+# What the prover does not ask for: every public function says what it ensures, the calls of docs/CONTRACTS.md require nothing, every
+# library has a wrong program that is refused and one with a call for hosts two (decision 214), every crate's files are where the layout has them, and the repository names no
 # path of a machine.
 set -u
 cd "$(dirname "$0")/.." || exit 2
@@ -12,13 +12,22 @@ fault() {
 }
 
 # A head runs from `pub fn` to the line `{` that opens the body.
-for source in crates/*/src/*.rt; do
-    bare=$(awk '
+lacking() { # SOURCE PATTERN UNWANTED: the public functions whose head has none of the pattern, or, with 1, that have it
+    awk -v pattern="$2" -v unwanted="$3" '
         /^ *pub (extern "C" )?fn / { name = $0; sub(/^.*fn /, "", name); sub(/\(.*/, "", name); head = ""; inside = 1 }
         inside { head = head $0 }
-        inside && /\{ *$/ { if (head !~ /ensures/) print name; inside = 0
-        }' "$source")
-    for name in $bare; do fault "$source: $name ensures nothing"; done
+        inside && /\{ *$/ { if ((head ~ pattern) == unwanted) print name; inside = 0
+        }' "$1"
+}
+for source in crates/*/src/*.rt; do
+    for name in $(lacking "$source" ensures 0); do fault "$source: $name ensures nothing"; done
+done
+
+# The calls: all that these crates make public, and of descend those for a sheet.
+for crate in reader descend lists addressing address attribute signature intake digest hex lent lines host; do
+    for name in $(lacking "crates/$crate/src/lib.rt" requires 1); do
+        case $crate:$name in descend:find | descend:item_at) ;; *) fault "$crate: $name is a call, and requires something" ;; esac
+    done
 done
 
 while IFS= read -r line; do

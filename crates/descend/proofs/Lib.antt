@@ -1,3 +1,4 @@
+pub mod Searched
 pub mod Located
 pub mod Descent
 pub mod Slots

@@ -11,7 +11,7 @@ use Rattle.place.specs.Item.{zeroItem}
 use Rattle.place.specs.Placing.{placed, PoseWithin, ItemWithin}
 use Rattle.place.specs.Outer.{flashedBy}
 use Rattle.place.specs.Copies.{step}
-use Rattle.sheet.specs.Records.{entryOf}
+use Rattle.sheet.specs.Records.{entryOf, entryRoom}
 use Rattle.sheet.specs.Containers.{bodyOf}
 use Rattle.sheet.specs.Meaning.{repeatOf, items}
 use Rattle.sheet.specs.Valid.{most, far, valid}
@@ -21,7 +21,15 @@ use Rattle.sheet.proofs.Sound.{Sound}
 use Rattle.descend.specs.declared.Step.{Step}
 use Rattle.descend.specs.declared.Step.the-variants.{Here, Copied, Flashed}
 
--- where a search among a container's entries ends: the last that has at most n items before it
+-- a search among a container's entries: these are there, the first begins with item n or before it, and none begins before the one
+-- in front of it
+pub record Searched (e : List ℕ) (k : Container) (n : ℕ) : Type 0 where
+  pub inside : k .first + k .len ≤ entryRoom e
+  pub some : 0 < k .len
+  pub begins : entryOf e (k .first) .before ≤ n
+  pub rises : (q : ℕ) → k .first ≤ q → q + 1 < k .first + k .len → entryOf e q .before ≤ entryOf e (q + 1) .before
+
+-- where it ends: the last that has at most n items before it
 pub record Found (e : List ℕ) (k : Container) (n q : ℕ) : Type 0 where
   pub low : k .first ≤ q
   pub high : q < k .first + k .len

@@ -10,7 +10,7 @@ ghost use lib.ListN.{length, replicate};
 ghost use Rattle.place.specs.Item.{itemWidth};
 ghost use Rattle.sheet.specs.Records.{entryOf, entryRoom, stored};
 ghost use Rattle.sheet.specs.Meaning.{items};
-ghost use Rattle.descend.specs.Search.{Found, Held, Split, copyOf, Descends, Asked, Answered, Whole};
+ghost use Rattle.descend.specs.Search.{Searched, Found, Held, Split, copyOf, Descends, Asked, Answered, Whole};
 ghost use Rattle.descend.specs.Answers.{totalOf, answerOf};
 ghost use Rattle.descend.specs.Slots.{itemWords, slots, fetchOf, fetched};
 
@@ -22,9 +22,9 @@ fn before_at(e: &[u64], i: usize) -> u64
     base::word_at(e, i * sheet::ENTRY_WORDS + 1)
 }
 
-// The last entry of a container that has at most n items before it.
+// The last entry of a container that has at most n items before it; there is one such (`found-once`).
 pub fn find(e: &[u64], k: Container, n: u64) -> usize
-    requires { ⌜ (k .first + k .len ≤ entryRoom (now e)) × (0 < k .len) × (entryOf (now e) (k .first) .before ≤ n) ⌝ }
+    requires { ⌜ Searched (now e) k n ⌝ }
     ensures { λ q. ⌜ Found (now (e .entry)) k n q ⌝ }
 {
     let mut low = k.first;

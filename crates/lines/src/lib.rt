@@ -1,7 +1,8 @@
 // The listing's lines, as bytes in a lent room.
 ghost use mathlib.Core.Path.{_≡_};
 ghost use Prim.Native.Nat.{_+_, _≤_};
-ghost use lib.ListN.{length, take};
+ghost use mathlib.Core.List.{_++_};
+ghost use lib.ListN.{length, drop};
 ghost use Rattle.io.specs.Counts.{Counts};
 ghost use Rattle.lines.specs.Line.{Added, decimalOf, signedOf, kindOf, fieldOf, lineOf};
 
@@ -71,11 +72,10 @@ fn add_field(out: &mut [u8], at: usize, i: usize, w: u64) -> usize
     add_signed(out, from, w)
 }
 
-// The line of item k, whose words these are: how many bytes it takes.
-pub fn item_line(out: &mut [u8], k: u64, words: &[u64]) -> usize
-    requires { ⌜ 351 ≤ length (now out) ⌝ }
+// The line of item k, whose words these are, in a room for the longest line: how many bytes it takes. Those behind it stay.
+pub fn item_line(out: &mut [u8; 351], k: u64, words: &[u64]) -> usize
     ensures { λ r. ⌜ Counts r (now (out .exit)) ⌝ }
-    ensures { λ r. ⌜ take r (now (out .exit)) ≡ lineOf k (now (words .entry)) ⌝ }
+    ensures { λ r. ⌜ now (out .exit) ≡ lineOf k (now (words .entry)) ++ drop r (now (out .entry)) ⌝ }
 {
     let mut at = add_number(out, 0, k);
     let mut i: usize = 0;

@@ -20,7 +20,7 @@ fn refuse(number: u64, place: u64) {
 
 // The line of item k.
 fn print_item(k: u64, words: &[u64]) {
-    let mut text = [0u8; 512];
+    let mut text = [0u8; 351];
     let n = lines::item_line(&mut text, k, words);
     io::write_all(STDOUT_FILENO, &text[..n]);
 }

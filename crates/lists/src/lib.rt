@@ -1,7 +1,7 @@
 // Items of a sheet in a list that the caller lends. The functions that take the list are thin: what a slot holds is `slot`'s matter.
 use place::Item;
 ghost use mathlib.Core.Path.{_≡_};
-ghost use Prim.Native.Nat.{_+_, _≤_};
+ghost use Prim.Native.Nat.{_+_, _≤_, min};
 ghost use lib.ListN.{length, replicate};
 ghost use Rattle.place.specs.Item.{zeroItem};
 ghost use Rattle.lists.specs.Lists.{numberOf, held, slotOf, filled, batchOf};
@@ -62,8 +62,8 @@ fn blank() -> [Item; 8]
     [zero; 8]
 }
 
-// The first m slots of an array are lent, and the array is handed back by value: whoever calls this lends no list.
-pub fn run_of(head: &[u64; 8], e: &[u64], a: &[u64], k: u64, m: usize) -> Batch
+// The first m slots of an array are lent, and the array is handed back by value.
+fn eight(head: &[u64; 8], e: &[u64], a: &[u64], k: u64, m: usize) -> Batch
     requires { ⌜ m ≤ 8 ⌝ }
     ensures { λ r. ⌜ r ≡ batchOf (now (head .entry)) (now (e .entry)) (now (a .entry)) k m ⌝ }
 {
@@ -73,4 +73,14 @@ pub fn run_of(head: &[u64; 8], e: &[u64], a: &[u64], k: u64, m: usize) -> Batch
         number: n,
         items: items,
     }
+}
+
+// Eight slots by value, of which the first m are filled from item k on, all eight where m is more: whoever calls this lends no list.
+pub fn run_of(head: &[u64; 8], e: &[u64], a: &[u64], k: u64, m: usize) -> Batch
+    ensures { λ r. ⌜ r ≡ batchOf (now (head .entry)) (now (e .entry)) (now (a .entry)) k (min m 8) ⌝ }
+{
+    if m <= 8 {
+        return eight(head, e, a, k, m);
+    }
+    eight(head, e, a, k, 8)
 }

@@ -3,9 +3,10 @@ use Rattle.base.specs.Run.{sums}
 use Rattle.sheet.specs.Records.{entryOf, roleOf}
 use Rattle.sheet.specs.Containers.{topOf}
 use Rattle.sheet.specs.declared.Role.{Role}
-use Rattle.sheet.proofs.Expand.{opens}
 use Rattle.sheet.proofs.Sound.{rooms, top-sound}
 use Rattle.descend.specs.Search.{Found}
+use Rattle.descend.proofs.Searched.{searched}
+use Rattle.descend.proofs.Answers.{asked-top}
 use Rattle.addresses.specs.Positions.{spanAt}
 use Rattle.addressing.proofs.Begins.{begins, spans-to, alone, flash, known, copies, copy, defines-not, unknown-not}
 use native.Mathlib.Omega.{arith}
@@ -20,9 +21,7 @@ top-of-requires c κs = search needs
 
 find-requires : tie.Need-find-requires
 find-requires c κs = let A = c .before .before .before .args in let h = c .before .before .before .pre in
-    let t = top-sound (A .head .now) (A .e .now) (A .a .now) (h .ok) in
-    let o = opens (A .head .now) (A .e .now) (A .a .now) (h .ok) (topOf (A .head .now)) t (A .n) (h .inside) in
-    rw (c .top-of .ensures) (omega (arith, t .ok .inside, rooms _ _ _ (h .ok) .0), o .0, o .1)
+    rw (c .top-of .ensures) (searched _ _ _ _ (asked-top (A .head .now) (A .e .now) (A .a .now) (A .n) (h .ok) (h .inside) .held))
 
 -- the entry that is found is one of the top level
 found : (c : tie.After-find) → let A = c .before .before .before .before .args in Found (A .e .now) (topOf (A .head .now)) (A .n) (c .find .result)

@@ -1,6 +1,6 @@
 -- `descend::descend` meets its contract: the entry found holds the item, and its role says how.
 use Rattle.descend.proofs.Located.{Located, located, fine, use-is, splits, repeat-is, here-is, not-defines, not-unknown}
-use Rattle.sheet.proofs.Expand.{opens}
+use Rattle.descend.proofs.Searched.{searched}
 use Rattle.sheet.proofs.Sound.{rooms}
 use Rattle.sheet.proofs.Conditions.{entry-use}
 use Rattle.sheet.specs.declared.Role.{Role}
@@ -12,9 +12,7 @@ use Rattle.descend.proofs.descend.Statement.{statement}
 use Rattle.descend.proofs.descend.Tie as tie
 
 find-requires : tie.Need-find-requires
-find-requires c κs = let A = c .before .before .args in let h = c .before .before .pre in
-    let o = opens (h .head) (A .e .now) (A .a .now) (h .ok) (A .k) (h .sound) (A .n) (h .inside) in
-    (omega (arith, h .sound .ok .inside, rooms _ _ _ (h .ok) .0), o .0, o .1)
+find-requires c κs = searched _ _ _ _ (c .before .before .pre)
 
 entry-at-requires : tie.Need-entry-at-requires
 entry-at-requires c κs = let h = c .before .before .before .pre in let q = c .find .ensures in omega (arith, q .high, h .sound .ok .inside, rooms _ _ _ (h .ok) .0)

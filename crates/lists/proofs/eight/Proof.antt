@@ -1,4 +1,4 @@
--- `lists::run_of` meets its contract: a walk of its MIR, by hand. A local array is made, its first m elements are lent to `fill` as a slice for a lifetime that is made for the call and taken back, and the array is handed back by value beside the number.
+-- `lists::eight` meets its contract: a walk of its MIR, by hand. A local array is made, its first m elements are lent to `fill` as a slice for a lifetime that is made for the call and taken back, and the array is handed back by value beside the number.
 -- No field of an item, and no element of the array, is named. All that the proof knows of `blank` and of `fill` is that each meets its contract.
 -- Assumes nothing.
 use mathlib.Core.Path.{_≡_, refl, sym, _∙_, ap, subst}
@@ -69,10 +69,10 @@ use Rattle.lists.proofs.fill as fill
 use Rattle.lists.proofs.fill.Symbol as fill-def
 use Rattle.lists.proofs.fill.Symbol.{name as #lists·fill}
 use Rattle.lists.proofs.fill.Met as fill-thm
-use Rattle.lists.proofs.run_of.Key.{name as #lists·run-of}
-use Rattle.lists.proofs.run_of as run-of
-use Rattle.lists.proofs.run_of.Statement as stated
-use Rattle.lists.proofs.run_of.Code as code
+use Rattle.lists.proofs.eight.Key.{name as #lists·eight}
+use Rattle.lists.proofs.eight as eight
+use Rattle.lists.proofs.eight.Statement as stated
+use Rattle.lists.proofs.eight.Code as code
 
 abbrev R : RattleType
 R = T.the-row
@@ -110,7 +110,7 @@ made n l f g = ((vint w64 n ∷ [], (arr l ∷ [], tt)), (refl, ((refl, f), ((g 
 abbrev Arg : Type 0
 Arg = RefT (List ℕ) × (RefT (List ℕ) × (RefT (List ℕ) × (ℕ × (ℕ × Unit {0}))))
 
-abbrev stayed : Stays (run-of.ended .signature .params) (run-of.ended .kept)
+abbrev stayed : Stays (eight.ended .signature .params) (eight.ended .kept)
 stayed = (stay-none-ref (0 ∷ []) tt (plain (λ _. HR)) yes, (stay-none-slice (1 ∷ []) tt (plain (λ _. u64)) yes, (stay-none-slice (2 ∷ []) tt (plain (λ _. u64)) yes, (stay-none (λ _. u64) yes, (stay-none (λ _. usize) yes, tt)))))
 
 module _ {M : Type 1} (𝓤 : URA M) (H : Heap 𝓤) (A : Atoms 𝓤) (at-mem : Memory → SProp 𝓤) (run : Routine → Fun 𝓤) where
@@ -169,13 +169,13 @@ module _ {M : Type 1} (𝓤 : URA M) (H : Heap 𝓤) (A : Atoms 𝓤) (W : Given
   room = (m-fits, lt-of-le-of-lt (mul-le-mul-right (mem R .size) m≤8) (lit< tt))
 
   abbrev Post : Val → SProp 𝓤
-  Post = walkOf 𝓤 H A run-of.ended stayed (run-of.clauses 𝓤 H A at-mem run) .post (((κ₁, (κ₂, (κ₃, tt))), (q₁, (q₂, (q₃, tt))), tt, a, at), tt)
+  Post = walkOf 𝓤 H A eight.ended stayed (eight.clauses 𝓤 H A at-mem run) .post (((κ₁, (κ₂, (κ₃, tt))), (q₁, (q₂, (q₃, tt))), tt, a, at), tt)
 
   exits : (n : ℕ) (l r : List Item) → Is S.the-row (ans n (l ++ r)) (val n (l ++ r) ∷ []) → Says n l m → r ≡ replicate (8 - m) zeroItem → ent 𝓤 (⋆ 𝓤 H A (Toks ∷ ‵ Lent ∷ [])) (Post (val n (l ++ r)))
   unfolding batchOf
   exits n l r g e z =
       qed W (Toks ∷ ‵ Lent ∷ []) ∵
-      suffices ! _ (ends-at 𝓤 H A run-of.ended stayed (run-of.clauses 𝓤 H A at-mem run) W (((κ₁, (κ₂, (κ₃, tt))), (q₁, (q₂, (q₃, tt))), tt, a, at), tt) (val n (l ++ r)) (ans n (l ++ r)) (tt, (tt, (tt, (tt, (tt, tt))))) (tt, (tt, (tt, (tt, (tt, tt)))))) $ says ! (λ i. ans (e .0 i) (e .1 i ++ z i)) $
+      suffices ! _ (ends-at 𝓤 H A eight.ended stayed (eight.clauses 𝓤 H A at-mem run) W (((κ₁, (κ₂, (κ₃, tt))), (q₁, (q₂, (q₃, tt))), tt, a, at), tt) (val n (l ++ r)) (ans n (l ++ r)) (tt, (tt, (tt, (tt, (tt, tt))))) (tt, (tt, (tt, (tt, (tt, tt)))))) $ says ! (λ i. ans (e .0 i) (e .1 i ++ z i)) $
       frame ! $ fsplit ! $ move ! (1 ∷ []) $ fsplit ! $ nothing ! $ owned ! usize (Is usize) (uint-makes 𝓤 H A W w64) m _ (refl, m-fits) $ fjoin ! $ owned ! u64 (Is u64) (uint-makes 𝓤 H A W w64) k _ (refl, k-fits) $ fjoin ! $
       move ! (2 ∷ 0 ∷ []) $ fjoin ! $ move ! (1 ∷ 0 ∷ []) $ fjoin ! $ move ! (1 ∷ 0 ∷ []) $ fjoin ! $ frame ! $ owned ! S.the-row (Is S.the-row) (LL.makes S.the-type S′.the-plain 𝓤 H A) (ans n (l ++ r)) _ g $ done !
 
@@ -203,7 +203,7 @@ module _ {M : Type 1} (𝓤 : URA M) (H : Heap 𝓤) (A : Atoms 𝓤) (W : Given
       move ! (2 ∷ 0 ∷ []) $ fjoin ! $ move ! (1 ∷ 0 ∷ []) $ fjoin ! $ move ! (1 ∷ 0 ∷ []) $ fjoin ! $ move ! (2 ∷ 0 ∷ []) $ fjoin ! $ move ! (1 ∷ 0 ∷ []) $ join ! $ frame ! $ done !
 
   module _ (C : Calls 𝓤 H) (Λ : Loops 𝓤 H) (fm : FmC 𝓤 H (W .laws) C) (known-blank : Triple 𝓤 (C #lists·blank) (Blank 𝓤 H A at-mem run)) (known-fill : Triple 𝓤 (C #lists·fill) (Fill 𝓤 H A at-mem run)) where
-    walk : ent 𝓤 (onEntry 𝓤 H A run-of.signature (κ₁, (κ₂, (κ₃, tt))) (q₁, (q₂, (q₃, tt))) a at) (WpFn 𝓤 H C Λ code.function (head-val hd ∷ words-val en ∷ words-val apt ∷ vint w64 k ∷ vint w64 m ∷ []) Post)
+    walk : ent 𝓤 (onEntry 𝓤 H A eight.signature (κ₁, (κ₂, (κ₃, tt))) (q₁, (q₂, (q₃, tt))) a at) (WpFn 𝓤 H C Λ code.function (head-val hd ∷ words-val en ∷ words-val apt ∷ vint w64 k ∷ vint w64 m ∷ []) Post)
     walk =
         qed W (Toks ∷ ‵ (owns (ShrRef (named 0) κ₁ HR ∷ ShrSlice (named 1) κ₂ u64 ∷ ShrSlice (named 2) κ₃ u64 ∷ u64 ∷ usize ∷ []) a at) ∷ []) ∵ enter ! C Λ code.function (head-val hd ∷ words-val en ∷ words-val apt ∷ vint w64 k ∷ vint w64 m ∷ []) _ $
         alloc1 ! (λ l₀. alloc1 ! (λ l₁. alloc1 ! (λ l₂. alloc1 ! (λ l₃. alloc1 ! (λ l₄. alloc1 ! (λ l₅. alloc1 ! (λ l₆. alloc1 ! (λ l₇. alloc1 ! (λ l₈. alloc1 ! (λ l₉. alloc1 ! (λ m₀. alloc0 ! $ params1 ! $
@@ -264,24 +264,24 @@ module _ {M : Type 1} (𝓤 : URA M) (H : Heap 𝓤) (A : Atoms 𝓤) (W : Given
         keep ! (1 ∷ 4 ∷ []) $ by ! (exits n (ws .0) (behind m ys) (made n (ws .0 ++ behind m ys) (is .1) g′) (e .0, e .1 ∙ ap (filled (hd .now) (en .now) (apt .now) k) (fronts ys len)) (ap (behind m) z ∙ rest-zeros m m≤8)))))))))))))))))))))))))))
 
 module _ {M : Type 1} (𝓤 : URA M) (H : Heap 𝓤) (A : Atoms 𝓤) (W : Given 𝓤 H A) (at-mem : Memory → SProp 𝓤) (run : Routine → Fun 𝓤) where
-  run-of-walks : (C : Calls 𝓤 H) (Λ : Loops 𝓤 H) → FmC 𝓤 H (W .laws) C → Triple 𝓤 (C #lists·blank) (Blank 𝓤 H A at-mem run) → Triple 𝓤 (C #lists·fill) (Fill 𝓤 H A at-mem run) → Walks 𝓤 H A run-of.ended stayed (WpFn 𝓤 H C Λ code.function) (run-of.clauses 𝓤 H A at-mem run)
-  run-of-walks C Λ fm known-blank known-fill = walked 𝓤 H A run-of.ended stayed (run-of.clauses 𝓤 H A at-mem run) (WpFn 𝓤 H C Λ code.function) (λ κs. (ptr-vals, (slice-vals, (slice-vals, (uint-vals w64, (uint-vals w64, tt))))))
+  eight-walks : (C : Calls 𝓤 H) (Λ : Loops 𝓤 H) → FmC 𝓤 H (W .laws) C → Triple 𝓤 (C #lists·blank) (Blank 𝓤 H A at-mem run) → Triple 𝓤 (C #lists·fill) (Fill 𝓤 H A at-mem run) → Walks 𝓤 H A eight.ended stayed (WpFn 𝓤 H C Λ code.function) (eight.clauses 𝓤 H A at-mem run)
+  eight-walks C Λ fm known-blank known-fill = walked 𝓤 H A eight.ended stayed (eight.clauses 𝓤 H A at-mem run) (WpFn 𝓤 H C Λ code.function) (λ κs. (ptr-vals, (slice-vals, (slice-vals, (uint-vals w64, (uint-vals w64, tt))))))
       (λ κs. (shr-tells (named 0) (κs .0) HR, (shr-slice-tells (named 1) (κs .1 .0) u64, (shr-slice-tells (named 2) (κs .1 .1 .0) u64, (uint-tells w64, (uint-tells w64, tt))))))
       (λ κs qs bounds a g are. needs 𝓤 (a .1 .1 .1 .1 .0 ≤ 8) _ (λ le.
       walk 𝓤 H A W at-mem run (κs .0) (κs .1 .0) (κs .1 .1 .0) (qs .0) (qs .1 .0) (qs .1 .1 .0) (a .0) (a .1 .0) (a .1 .1 .0) (a .1 .1 .1 .0) (a .1 .1 .1 .1 .0) (are .1 .0 .0 .1) (are .1 .1 .0 .0 .1) (are .1 .1 .1 .0 .1) (are .1 .1 .1 .1 .0 .1) le C Λ fm known-blank known-fill))
 
-  goes : AllGo 𝓤 H A W 3 (run-of.signature .params) (run-of.ended .kept) stayed
+  goes : AllGo 𝓤 H A W 3 (eight.signature .params) (eight.ended .kept) stayed
   goes = (goes-none-ref 𝓤 H A W 3 (0 ∷ []) tt (plain (λ _. HR)) yes, (goes-none-slice 𝓤 H A W 3 (1 ∷ []) tt (plain (λ _. u64)) yes, (goes-none-slice 𝓤 H A W 3 (2 ∷ []) tt (plain (λ _. u64)) yes, (goes-none 𝓤 H A W 3 (λ _. u64) yes (λ κs x f. refl), (goes-none 𝓤 H A W 3 (λ _. usize) yes (λ κs x f. refl), tt)))))
 
-run-of-meets : {M : Type 1} (𝓤 : URA M) (H : Heap 𝓤) (A : Atoms 𝓤) → Given 𝓤 H A → (at-mem : Memory → SProp 𝓤) (run : Routine → Fun 𝓤) (𝓣 : Tables 𝓤 H) → Triple 𝓤 (𝓣 .C #lists·blank) (Blank 𝓤 H A at-mem run) → Triple 𝓤 (𝓣 .C #lists·fill) (Fill 𝓤 H A at-mem run)
-    → Meets 𝓤 H A run-of.signature (WpFn 𝓤 H (𝓣 .C) (𝓣 .Λ) code.function) (run-of.spec 𝓤 H A at-mem run)
-run-of-meets 𝓤 H A W at-mem run 𝓣 known-blank known-fill = walk-meets 𝓤 H A run-of.ended stayed W (goes 𝓤 H A W at-mem run) (run-of.clauses 𝓤 H A at-mem run) (WpFn 𝓤 H (𝓣 .C) (𝓣 .Λ) code.function) (WpFn-mono 𝓤 H (W .laws) 𝓣 code.function) (run-of-walks 𝓤 H A W at-mem run (𝓣 .C) (𝓣 .Λ) (fmOf 𝓤 H (W .laws) 𝓣) known-blank known-fill)
+eight-meets : {M : Type 1} (𝓤 : URA M) (H : Heap 𝓤) (A : Atoms 𝓤) → Given 𝓤 H A → (at-mem : Memory → SProp 𝓤) (run : Routine → Fun 𝓤) (𝓣 : Tables 𝓤 H) → Triple 𝓤 (𝓣 .C #lists·blank) (Blank 𝓤 H A at-mem run) → Triple 𝓤 (𝓣 .C #lists·fill) (Fill 𝓤 H A at-mem run)
+    → Meets 𝓤 H A eight.signature (WpFn 𝓤 H (𝓣 .C) (𝓣 .Λ) code.function) (eight.spec 𝓤 H A at-mem run)
+eight-meets 𝓤 H A W at-mem run 𝓣 known-blank known-fill = walk-meets 𝓤 H A eight.ended stayed W (goes 𝓤 H A W at-mem run) (eight.clauses 𝓤 H A at-mem run) (WpFn 𝓤 H (𝓣 .C) (𝓣 .Λ) code.function) (WpFn-mono 𝓤 H (W .laws) 𝓣 code.function) (eight-walks 𝓤 H A W at-mem run (𝓣 .C) (𝓣 .Λ) (fmOf 𝓤 H (W .laws) 𝓣) known-blank known-fill)
 
-pub run-of-spec : {M : Type 1} → stated.statement M
+pub eight-spec : {M : Type 1} → stated.statement M
 unfolding code.routine tablesOf
-run-of-spec 𝓤 H 𝓜 𝓖 𝓡 =
-    entered 𝓤 H (tripleOf 𝓤 H (𝓖 .A) run-of.signature (run-of.spec 𝓤 H (𝓖 .A) (𝓜 .mem) (𝓡 .run)))
-    (tables 𝓤 H 𝓜 𝓡 code.env .C) (tables 𝓤 H 𝓜 𝓡 code.env .Λ) #lists·run-of code.function (code.unfolded 𝓤 H 𝓜 𝓡)
-    (run-of-meets 𝓤 H (𝓖 .A) (givenOf 𝓤 H 𝓜 𝓖) (𝓜 .mem) (𝓡 .run) (tablesOf 𝓤 H 𝓜 (tables 𝓤 H 𝓜 𝓡 code.env))
+eight-spec 𝓤 H 𝓜 𝓖 𝓡 =
+    entered 𝓤 H (tripleOf 𝓤 H (𝓖 .A) eight.signature (eight.spec 𝓤 H (𝓖 .A) (𝓜 .mem) (𝓡 .run)))
+    (tables 𝓤 H 𝓜 𝓡 code.env .C) (tables 𝓤 H 𝓜 𝓡 code.env .Λ) #lists·eight code.function (code.unfolded 𝓤 H 𝓜 𝓡)
+    (eight-meets 𝓤 H (𝓖 .A) (givenOf 𝓤 H 𝓜 𝓖) (𝓜 .mem) (𝓡 .run) (tablesOf 𝓤 H 𝓜 (tables 𝓤 H 𝓜 𝓡 code.env))
     (cited 𝓤 H (Blank 𝓤 H (𝓖 .A) (𝓜 .mem) (𝓡 .run)) 𝓜 𝓡 code.env #lists·blank blank-def.routine code.calls-lists·blank (blank-thm.met 𝓤 H 𝓜 𝓖 𝓡))
     (cited 𝓤 H (Fill 𝓤 H (𝓖 .A) (𝓜 .mem) (𝓡 .run)) 𝓜 𝓡 code.env #lists·fill fill-def.routine code.calls-lists·fill (fill-thm.met 𝓤 H 𝓜 𝓖 𝓡)))

@@ -1,8 +1,8 @@
 -- `locate::stand_of` meets its contract: the entry found holds the item, and its role says how its chain goes on.
 use Rattle.sheet.specs.Records.{entryOf, roleOf}
 use Rattle.sheet.specs.declared.Role.{Role}
-use Rattle.sheet.proofs.Expand.{opens}
 use Rattle.sheet.proofs.Sound.{rooms}
+use Rattle.descend.proofs.Searched.{searched}
 use Rattle.locate.proofs.Stands.{begins, spans-to, draws-is, uses-is, uses-known, repeats-not, defines-not, unknown-not}
 use native.Mathlib.Omega.{arith}
 use mathlib.Core.Path.{_≡_, sym, _∙_}
@@ -11,9 +11,7 @@ use Rattle.locate.proofs.stand_of.Statement.{statement}
 use Rattle.locate.proofs.stand_of.Tie as tie
 
 find-requires : tie.Need-find-requires
-find-requires c κs = let A = c .before .before .args in let h = c .before .before .pre .0 in
-    let o = opens (h .head) (A .e .now) (A .a .now) (h .ok) (A .k) (h .sound) (A .n) (h .inside) in
-    (omega (arith, h .sound .ok .inside, rooms _ _ _ (h .ok) .0), o .0, o .1)
+find-requires c κs = searched _ _ _ _ (c .before .before .pre .0)
 
 entry-at-requires : tie.Need-entry-at-requires
 entry-at-requires c κs = let h = c .before .before .before .pre .0 in let q = c .find .ensures in omega (arith, q .high, h .sound .ok .inside, rooms _ _ _ (h .ok) .0)
