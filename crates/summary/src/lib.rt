@@ -1,0 +1,289 @@
+// The summary of a sheet, worked out from the store: for each aperture record, and for the regions, how many items of the expansion
+// there are and where their points lie. No copy is written out.
+use sheet::Container;
+use sheet::Entry;
+use sheet::Role;
+use spans::Rect;
+use spans::Span;
+use summaries::Asked;
+use summaries::Extent;
+use summaries::Row;
+ghost use mathlib.Core.Path.{_≡_};
+ghost use mathlib.Core.Bool.{true};
+ghost use Prim.Native.Nat.{_+_, _*_, _/_, _≤_, _<_};
+ghost use lib.ListN.{length, replicate};
+ghost use mir.Syntax.{w64};
+ghost use mir.Val.{ofZ};
+ghost use Rattle.sheet.specs.Records.{apertureRoom, stored};
+ghost use Rattle.sheet.specs.Containers.{aperturesUsed};
+ghost use Rattle.sheet.specs.Meaning.{sheetItems};
+ghost use Rattle.summaries.specs.Summed.{rowOf};
+ghost use Rattle.summary.specs.Kept.{hasPoints, corners, rowWords, keptWords, spanOf, extentIf, rowAt};
+ghost use Rattle.summary.specs.Walk.{entryRow, runRow, topEntryRow, topRow, EntryReady, RunReady, TopEntryReady, TopReady};
+ghost use Rattle.summary.specs.Blocks.{withBlock, BlockReady, Fits, Done};
+ghost use Rattle.summary.specs.Answers.{summaryWords, outcomeOf, summed};
+
+// What the call comes to.
+pub enum Outcome {
+    Done,
+    Short,
+    NotSheet,
+}
+
+// An end of a span as a word.
+fn low_word(s: Span) -> u64
+    ensures { λ r. ⌜ r ≡ ofZ w64 (s .low) ⌝ }
+{
+    ints::word(s.low)
+}
+
+fn high_word(s: Span) -> u64
+    ensures { λ r. ⌜ r ≡ ofZ w64 (s .high) ⌝ }
+{
+    ints::word(s.high)
+}
+
+// The span that two words hold.
+fn span_of(low: u64, high: u64) -> Span
+    ensures { λ s. ⌜ s ≡ spanOf low high ⌝ }
+{
+    Span {
+        low: ints::from_word(low),
+        high: ints::from_word(high),
+    }
+}
+
+fn has_points(x: Extent) -> bool
+    ensures { λ r. ⌜ r ≡ hasPoints x ⌝ }
+{
+    match x {
+        Extent::Nothing => false,
+        Extent::Over(_) => true,
+    }
+}
+
+// The rectangle of an extent, zeros where there is none.
+fn corners_of(x: Extent) -> Rect
+    ensures { λ r. ⌜ r ≡ corners x ⌝ }
+{
+    match x {
+        Extent::Nothing => {
+            let none = Span { low: 0, high: 0 };
+            Rect {
+                across: none,
+                up: none,
+            }
+        }
+        Extent::Over(b) => b,
+    }
+}
+
+fn extent_if(some: bool, b: Rect) -> Extent
+    ensures { λ r. ⌜ r ≡ extentIf some b ⌝ }
+{
+    if some {
+        return Extent::Over(b);
+    }
+    Extent::Nothing
+}
+
+// Stores a row's five words from a place on.
+fn put_row(out: &mut [u64], at: usize, r: Row)
+    requires { ⌜ at + 5 ≤ length (now out) ⌝ }
+    ensures { λ _. ⌜ now (out .exit) ≡ stored (now (out .entry)) at (rowWords r) ⌝ }
+{
+    let x = r.extent;
+    let c = corners_of(x);
+    let across = c.across;
+    let up = c.up;
+    let w = [
+        r.count,
+        low_word(across),
+        low_word(up),
+        high_word(across),
+        high_word(up),
+    ];
+    sheet::put_words(out, at, &w);
+}
+
+// Keeps the row of aperture record b, in six words.
+fn keep_row(s: &mut [u64], b: usize, r: Row)
+    requires { ⌜ b < length (now s) / 6 ⌝ }
+    ensures { λ _. ⌜ now (s .exit) ≡ stored (now (s .entry)) (b * 6) (keptWords r) ⌝ }
+{
+    let x = r.extent;
+    let c = corners_of(x);
+    let across = c.across;
+    let up = c.up;
+    let w = [
+        sheet::flag_word(has_points(x)),
+        r.count,
+        low_word(across),
+        low_word(up),
+        high_word(across),
+        high_word(up),
+    ];
+    sheet::put_words(s, b * 6, &w);
+}
+
+// The row kept of aperture record b.
+fn kept_row(s: &[u64], b: usize) -> Row
+    requires { ⌜ b < length (now s) / 6 ⌝ }
+    ensures { λ r. ⌜ r ≡ rowAt (now (s .entry)) b ⌝ }
+{
+    let at = b * 6;
+    let across = span_of(base::word_at(s, at + 2), base::word_at(s, at + 4));
+    let up = span_of(base::word_at(s, at + 3), base::word_at(s, at + 5));
+    let some = base::word_at(s, at) == 1;
+    let b = Rect { across, up };
+    Row {
+        count: base::word_at(s, at + 1),
+        extent: extent_if(some, b),
+    }
+}
+
+// The row of an entry of a block or a body.
+fn entry_row(s: &[u64], q: Asked, r: Entry) -> Row
+    requires { ⌜ EntryReady (now s) r ⌝ }
+    ensures { λ t. ⌜ t ≡ entryRow (now (s .entry)) q r ⌝ }
+{
+    match sheet::role_of(r.kind) {
+        Role::Draws => summaries::item_row(q, sheet::draw(r)),
+        Role::Uses => summaries::move_row(sheet::pose_of(r), kept_row(s, sheet::index(r.who))),
+        Role::Repeats => summaries::no_row(),
+        Role::Defines => summaries::no_row(),
+        Role::Unknown => summaries::no_row(),
+    }
+}
+
+// The row of a block or a body: its entries' rows, merged.
+fn run_row(e: &[u64], s: &[u64], q: Asked, k: Container) -> Row
+    requires { ⌜ RunReady (now e) (now s) q k ⌝ }
+    ensures { λ t. ⌜ t ≡ runRow (now (e .entry)) (now (s .entry)) q k ⌝ }
+{
+    let first = k.first;
+    let len = k.len;
+    let mut i: usize = 0;
+    let mut so_far = summaries::no_row();
+    while i < len {
+        let r = sheet::entry_at(e, first + i);
+        so_far = summaries::merge(so_far, entry_row(s, q, r));
+        i += 1;
+    }
+    so_far
+}
+
+// The row of an entry of the top level: a repeat's is its body's, copied.
+fn top_entry_row(e: &[u64], s: &[u64], q: Asked, r: Entry) -> Row
+    requires { ⌜ TopEntryReady (now e) (now s) q r ⌝ }
+    ensures { λ t. ⌜ t ≡ topEntryRow (now (e .entry)) (now (s .entry)) q r ⌝ }
+{
+    if r.kind == 10 {
+        return summaries::copy_row(sheet::repeat_of(r), run_row(e, s, q, sheet::body_of(r)));
+    }
+    entry_row(s, q, r)
+}
+
+// The row of the top level.
+fn top_row(e: &[u64], s: &[u64], q: Asked, k: Container) -> Row
+    requires { ⌜ TopReady (now e) (now s) q k ⌝ }
+    ensures { λ t. ⌜ t ≡ topRow (now (e .entry)) (now (s .entry)) q k ⌝ }
+{
+    let first = k.first;
+    let len = k.len;
+    let mut i: usize = 0;
+    let mut so_far = summaries::no_row();
+    while i < len {
+        let r = sheet::entry_at(e, first + i);
+        so_far = summaries::merge(so_far, top_entry_row(e, s, q, r));
+        i += 1;
+    }
+    so_far
+}
+
+// Keeps the row of aperture record b, where it is a block of height h.
+fn keep_block(e: &[u64], a: &[u64], q: Asked, h: u64, b: usize, s: &mut [u64])
+    requires { ⌜ (b < apertureRoom (now a)) × BlockReady (now e) (now a) q h b (now s) ⌝ }
+    ensures { λ _. ⌜ now (s .exit) ≡ withBlock (now (e .entry)) (now (a .entry)) q h b (now (s .entry)) ⌝ }
+{
+    let k = sheet::block_at(a, b);
+    if base::both(entry::is_block(a, b), k.height == h) {
+        let r = run_row(e, s, q, k);
+        keep_row(s, b, r);
+    }
+}
+
+// Keeps the rows of the blocks of height h, where those of lower ones are kept.
+fn keep_height(head: &[u64; 8], e: &[u64], a: &[u64], q: Asked, h: u64, s: &mut [u64])
+    requires { ⌜ Done (now head) (now e) (now a) q h 0 (now s) ⌝ }
+    ensures { λ _. ⌜ Done (now (head .entry)) (now (e .entry)) (now (a .entry)) q (h + 1) 0 (now (s .exit)) ⌝ }
+{
+    let n = sheet::index(head[3]);
+    let mut b: usize = 0;
+    while b < n {
+        keep_block(e, a, q, h, b, s);
+        b += 1;
+    }
+}
+
+// Keeps the rows of all blocks, heights from 1 up.
+fn keep_blocks(head: &[u64; 8], e: &[u64], a: &[u64], q: Asked, s: &mut [u64])
+    requires { ⌜ Fits (now head) (now e) (now a) (now s) ⌝ }
+    ensures { λ _. ⌜ Done (now (head .entry)) (now (e .entry)) (now (a .entry)) q 9 0 (now (s .exit)) ⌝ }
+{
+    let mut h: u64 = 1;
+    while h < 9 {
+        keep_height(head, e, a, q, h, s);
+        h += 1;
+    }
+}
+
+// The row of what is asked for, of all items of a sheet.
+pub fn row_of(head: &[u64; 8], e: &[u64], a: &[u64], q: Asked, s: &mut [u64]) -> Row
+    requires { ⌜ Fits (now head) (now e) (now a) (now s) ⌝ }
+    ensures { λ r. ⌜ r ≡ rowOf q (sheetItems (now (head .entry)) (now (e .entry)) (now (a .entry))) ⌝ }
+{
+    keep_blocks(head, e, a, q, s);
+    top_row(e, s, q, sheet::top_of(head))
+}
+
+// The rows of a sheet, into words that are all 0.
+fn fill(head: &[u64; 8], e: &[u64], a: &[u64], s: &mut [u64], out: &mut [u64])
+    requires { ⌜ Fits (now head) (now e) (now a) (now s) × (aperturesUsed (now head) < length (now out) / 5) × (now out ≡ replicate (length (now out)) 0) ⌝ }
+    ensures { λ _. ⌜ now (out .exit) ≡ summaryWords (sheetItems (now (head .entry)) (now (e .entry)) (now (a .entry))) (now (a .entry)) (aperturesUsed (now (head .entry))) (length (now (out .entry))) ⌝ }
+{
+    let n = sheet::index(head[3]);
+    let mut b: usize = 0;
+    while b < n {
+        let number = sheet::aperture_at(a, b).number;
+        let r = row_of(head, e, a, Asked::Aperture(number), s);
+        put_row(out, b * 5, r);
+        b += 1;
+    }
+    let r = row_of(head, e, a, Asked::Regions, s);
+    put_row(out, n * 5, r);
+}
+
+// The summary of a sheet: five words for each aperture record, in store order, and for the regions; what is behind them is 0. `scratch`
+// has six words for each aperture record.
+pub fn summary(
+    head: &[u64; 8],
+    e: &[u64],
+    a: &[u64],
+    scratch: &mut [u64],
+    rows: &mut [u64],
+) -> Outcome
+    ensures { λ r. ⌜ (r ≡ outcomeOf (now (head .entry)) (now (e .entry)) (now (a .entry)) (length (now (rows .entry))) (length (now (scratch .entry))))
+        × (now (rows .exit) ≡ summed (now (head .entry)) (now (e .entry)) (now (a .entry)) (length (now (rows .entry))) (length (now (scratch .entry)))) ⌝ }
+{
+    base::clear(rows);
+    if inspect::is_sheet(head, e, a) {
+        let n = sheet::index(head[3]);
+        if base::both(n < rows.len() / 5, n <= scratch.len() / 6) {
+            fill(head, e, a, scratch, rows);
+            return Outcome::Done;
+        }
+        return Outcome::Short;
+    }
+    Outcome::NotSheet
+}
