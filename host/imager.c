@@ -5,6 +5,8 @@
  *   imager items K COUNT                the listing's lines of those items
  *   imager address K                    address, the copy of item K and its positions
  *   imager number COPY [POSITION..]     number, that of the item with this address; positions not given are 0
+ *   imager summary [--rows N]           a line for each aperture, its number first, and one for the regions: count, least x and y,
+ *                                       greatest x and y
  *   imager numbers                      a line for each AD: its aperture, then the numbers kept
  *   imager attribute TA|TO PLACE NAME   attribute, place, length of the value (`attr` answers with attr)
  *   imager batch [--room E,A,M,N]       for each file named on standard input: name, sheet or refusal, hash of its first 2000 lines
@@ -208,6 +210,30 @@ static void item_number(const struct store *s, const uint64_t *words)
         printf("number\t%" PRIu64 "\n", k);
 }
 
+/* Room for rows as asked for, or for as many as there are. */
+static void summary(const struct store *s, const uint64_t *asked)
+{
+    if (refused(s))
+        return;
+    size_t apertures = (size_t)s->head[SHEET_HEAD_APERTURES], scratch_words = sheet_scratch_for(apertures);
+    size_t count = asked ? (size_t)*asked : sheet_rows_for(apertures);
+    uint64_t *scratch = lend(scratch_words, sizeof *scratch);
+    struct sheet_row *rows = lend(count, sizeof *rows);
+    if (answered(sheet_summary(s->head, s->entries, s->entries_words, s->apertures, s->apertures_words, scratch, scratch_words,
+                               &rows->count, count * SHEET_ROW_WORDS)))
+        for (size_t b = 0; b <= apertures; b++) {
+            const struct sheet_row *r = &rows[b];
+            if (b < apertures)
+                printf("%" PRIu64, s->apertures[b * SHEET_APERTURE_WORDS]);
+            else
+                printf("regions");
+            printf("\t%" PRIu64 "\t%" PRId64 "\t%" PRId64 "\t%" PRId64 "\t%" PRId64 "\n", r->count, r->least_x, r->least_y,
+                   r->greatest_x, r->greatest_y);
+        }
+    free(rows);
+    free(scratch);
+}
+
 static void numbers(const struct store *s)
 {
     if (refused(s))
@@ -275,8 +301,8 @@ static void batch(const struct room *room)
 
 static int usage(void)
 {
-    fputs("usage: imager list|sheet|batch [--room E,A,M,N], items K COUNT, address K, number COPY [POSITION..], numbers, "
-          "attribute TA|TO PLACE NAME\n", stderr);
+    fputs("usage: imager list|sheet|batch [--room E,A,M,N], items K COUNT, address K, number COPY [POSITION..], summary [--rows N], "
+          "numbers, attribute TA|TO PLACE NAME\n", stderr);
     return 2;
 }
 
@@ -337,7 +363,9 @@ int main(int argc, char **argv)
     for (int i = 2; asks_number && i < argc; i++)
         asks_number = whole(argv[i], &words[i - 2]);
     int asks_items = is(mode, "items") && argc == 4 && whole(argv[2], &k) && whole(argv[3], &count);
-    if (!asks_items && !asks_address && !asks_number && !(is(mode, "numbers") && argc == 2))
+    int some_rows = argc == 4 && is(argv[2], "--rows") && whole(argv[3], &count) && count < SHEET_FILE_LIMIT;
+    int asks_summary = is(mode, "summary") && (argc == 2 || some_rows);
+    if (!asks_items && !asks_address && !asks_number && !asks_summary && !(is(mode, "numbers") && argc == 2))
         return usage();
     struct bytes file = all_of(stdin);
     struct store s = read_sheet(file, NULL);
@@ -347,6 +375,8 @@ int main(int argc, char **argv)
         address(&s, k);
     else if (asks_number)
         item_number(&s, words);
+    else if (asks_summary)
+        summary(&s, some_rows ? &count : NULL);
     else
         numbers(&s);
     give_back(&s);

@@ -81,12 +81,16 @@ enum sheet_kind {
 #define SHEET_MACRO_WORDS 8
 #define SHEET_ITEM_WORDS 15
 #define SHEET_ADDRESS_WORDS 10
+#define SHEET_ROW_WORDS 5
+#define SHEET_SCRATCH_WORDS 8
 #define SHEET_FILE_LIMIT 16777216
 
 size_t sheet_entry_words(void);
 size_t sheet_aperture_words(void);
 size_t sheet_macro_words(void);
 size_t sheet_item_words(void);
+size_t sheet_row_words(void);
+size_t sheet_scratch_words(void);
 
 /* Words of the head, of use to a host after an accepted reading. */
 enum sheet_head_word {
@@ -154,8 +158,8 @@ uint64_t sheet_read(const uint8_t *file, size_t file_bytes, uint64_t *head, uint
                     uint64_t *apertures, size_t apertures_words, uint64_t *macros, size_t macros_words, int64_t *numbers,
                     size_t numbers_count, uint64_t *place, uint64_t *unit, uint64_t *rounded);
 
-/* The number of items of a sheet. The store may be any words: it is looked at first, in one pass over its records, here and in the two
- * calls below.
+/* The number of items of a sheet. The store may be any words: it is looked at first, in one pass over its records, here and in the calls
+ * below.
  *   head                                                    SHEET_HEAD_WORDS words
  *   entries, entries_words, apertures, apertures_words      as they were lent to sheet_read, or copies of them
  *   total                                                   one word
@@ -192,6 +196,36 @@ uint64_t sheet_address(const uint64_t *head, const uint64_t *entries, size_t ent
  * Answers 0; or 21, 32, in this order, and 0 in k. */
 uint64_t sheet_item_number(const uint64_t *head, const uint64_t *entries, size_t entries_words, const uint64_t *apertures,
                            size_t apertures_words, const uint64_t *address, uint64_t *k);
+
+/* A row of the summary, as its five words: how many items, and the least and greatest x and y of their start and end points, in millionths
+ * of the unit. The points of a flash are its end alone; a contour has none beside its edges', and no centre counts. Where there is no
+ * point all four are 0. */
+struct sheet_row {
+    uint64_t count;
+    int64_t least_x, least_y;
+    int64_t greatest_x, greatest_y;
+};
+
+#ifdef __cplusplus
+static_assert(sizeof(struct sheet_row) == SHEET_ROW_WORDS * sizeof(uint64_t), "a row is five words");
+#else
+_Static_assert(sizeof(struct sheet_row) == SHEET_ROW_WORDS * sizeof(uint64_t), "a row is five words");
+#endif
+
+/* How many rows, and how many words of scratch, to lend for the summary of a sheet with so many apertures
+ * (head[SHEET_HEAD_APERTURES]), blocks among them. */
+static inline size_t sheet_rows_for(size_t apertures) { return apertures + 1; }
+static inline size_t sheet_scratch_for(size_t apertures) { return apertures * SHEET_SCRATCH_WORDS; }
+
+/* The summary of a sheet: row b for the items of the whole expansion that have the number of aperture record b, zeros for a block and for
+ * an aperture that is not used; behind the rows of all records one for all contours and edges. It is worked out from the store: copies
+ * and blocks cost nothing for each item that they put out.
+ *   scratch, scratch_words    sheet_scratch_for(apertures) words, with anything in them, and nothing said of them afterwards
+ *   rows, rows_words          room for rows_words / SHEET_ROW_WORDS rows, sheet_rows_for(apertures) at least
+ * Answers 0 (words behind the last row are 0; of a sheet that a reading left the counts add up to the total); or 21, 17, in this order,
+ * and zeros in rows. 17 is for too few rows and for too little scratch. */
+uint64_t sheet_summary(const uint64_t *head, const uint64_t *entries, size_t entries_words, const uint64_t *apertures,
+                       size_t apertures_words, uint64_t *scratch, size_t scratch_words, uint64_t *rows, size_t rows_words);
 
 /* The value of an attribute at the command that begins at a place of the file: TA (taken at AD, at an AB opening and at a contour's
  * first D01) or TO.

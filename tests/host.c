@@ -338,6 +338,57 @@ static void put_out(struct put *out, const struct lent *l, uint64_t first, uint6
     }
 }
 
+/* The row of the items with an aperture's number, or of contours and edges, by a pass over the items. */
+static struct sheet_row pass(const struct put *out, int regions, uint64_t aperture)
+{
+    struct sheet_row r = {0, 0, 0, 0, 0};
+    int some = 0;
+    for (size_t i = 0; i < out->count; i++) {
+        const struct sheet_item *t = &out->items[i];
+        int64_t points[2][2] = {{t->start_x, t->start_y}, {t->end_x, t->end_y}};
+        if (regions ? t->kind <= 4 : t->kind > 4 || t->aperture != aperture)
+            continue;
+        r.count++;
+        for (int p = t->kind == 4 ? 1 : 0; p < (t->kind == 5 ? 0 : 2); p++, some = 1) {
+            int64_t x = points[p][0], y = points[p][1];
+            r.least_x = some && r.least_x < x ? r.least_x : x;
+            r.least_y = some && r.least_y < y ? r.least_y : y;
+            r.greatest_x = some && r.greatest_x > x ? r.greatest_x : x;
+            r.greatest_y = some && r.greatest_y > y ? r.greatest_y : y;
+        }
+    }
+    return r;
+}
+
+static uint64_t summary_of(const struct lent *l, uint64_t *scratch, size_t scratch_words, uint64_t *rows, size_t rows_words)
+{
+    soil(scratch, scratch_words);
+    soil(rows, rows_words);
+    return sheet_summary(l->head, l->entries, l->e, l->apertures, l->a, scratch, scratch_words, rows, rows_words);
+}
+
+enum { ROWS = (APERTURES + 2) * SHEET_ROW_WORDS + 2, SCRATCH = APERTURES * SHEET_SCRATCH_WORDS };
+
+/* The summary of a store: 21 and zeros, or the rows of a pass over its expansion, and zeros behind them. */
+static void summed(const struct lent *l, const struct put *out)
+{
+    static uint64_t *scratch, *rows;
+    if (!rows)
+        scratch = guarded(SCRATCH), rows = guarded(ROWS);
+    uint64_t number = summary_of(l, scratch, SCRATCH, rows, ROWS), n = l->head[3];
+    expect(guards_hold(scratch) && guards_hold(rows), "a guard word was written", number);
+    if (!out) {
+        expect(number == SHEET_NOT_SHEET && zeros(rows, 0, ROWS), "a summary of no sheet is zeros", number);
+        return;
+    }
+    expect(number == 0, "a sheet has its summary", number);
+    for (uint64_t b = 0; b <= n; b++) {
+        struct sheet_row r = pass(out, b == n, b < n ? l->apertures[b * 8] : 0);
+        expect(memcmp(rows + b * SHEET_ROW_WORDS, &r, sizeof r) == 0, "a row is that of a pass over the items", b);
+    }
+    expect(zeros(rows, (n + 1) * SHEET_ROW_WORDS, ROWS), "spare rows are zeros", n);
+}
+
 /* A store as it stands: 21 and zeros in all calls, or its own expansion in all. */
 static int answered(const struct lent *l, uint64_t *run, struct put *out)
 {
@@ -349,6 +400,7 @@ static int answered(const struct lent *l, uint64_t *run, struct put *out)
         expect(total == 0, "a total of no sheet is 0", total);
         expect(items_at(l, 0, run, words) == SHEET_NOT_SHEET && zeros(run, 0, words), "a run of no sheet is zeros", 0);
         expect(item_at(l, 0, one, 15) == SHEET_NOT_SHEET && zeros(one, 0, 15), "an item of no sheet is zeros", 0);
+        summed(l, NULL);
         return 0;
     }
     expect(number == 0, "a store is a sheet or is 21", number);
@@ -360,6 +412,8 @@ static int answered(const struct lent *l, uint64_t *run, struct put *out)
     expect(item_at(l, total, one) == SHEET_PAST && zeros(one, 0, 15), "past the total", total);
     if (total != 0)
         expect(item_at(l, total - 1, one, 15) == 0 && one[0] >= 1 && one[0] <= 8, "the last item", total);
+    if (total < SLOTS)
+        summed(l, out);
     return 1;
 }
 
@@ -428,6 +482,24 @@ static void addresses(const struct lent *l)
     expect(w[SHEET_ADDRESS_WORDS] == garbage, "nothing is written behind an address", 0);
 }
 
+/* The layer's summary with exactly the room that it asks for, and with each room one word too small: 17, and zeros. */
+static void summaries(const struct lent *l)
+{
+    size_t n = (size_t)l->head[3], room = sheet_rows_for(n) * SHEET_ROW_WORDS, words = sheet_scratch_for(n);
+    uint64_t *scratch = guarded(words), *rows = guarded(room), *less = guarded(room - 1), count = 0;
+    expect(summary_of(l, scratch, words, rows, room) == 0, "the room that is asked for is enough", n);
+    for (size_t b = 0; b <= n; b++) {
+        count += rows[b * SHEET_ROW_WORDS];
+        expect(b == n || l->apertures[b * 8 + 1] != 6 || zeros(rows, b * SHEET_ROW_WORDS, (b + 1) * SHEET_ROW_WORDS),
+               "a block's row is zeros", b);
+    }
+    expect(count == l->head[7], "the counts add up to the total", count);
+    expect(summary_of(l, scratch, words, less, room - 1) == SHEET_ROOM && zeros(less, 0, room - 1), "rows one word too few are 17", n);
+    expect(summary_of(l, scratch + 1, words - 1, rows, room) == SHEET_ROOM && zeros(rows, 0, room), "scratch one word too small is 17", n);
+    expect(summary_of(l, scratch, words, rows, 0) == SHEET_ROOM && summary_of(l, scratch, 0, rows, room) == SHEET_ROOM, "no room is 17", n);
+    expect(sheet_summary(l->head, l->entries, 0, l->apertures, l->a, scratch, 0, rows, 0) == SHEET_NOT_SHEET, "21 comes before 17", n);
+}
+
 static void ask(int of_aperture, const char *file, size_t place, const char *name, uint64_t number, uint64_t at, uint64_t bytes)
 {
     uint64_t a = garbage, b = garbage, n;
@@ -462,6 +534,8 @@ int main(void)
     expect(sheet_aperture_words() == SHEET_APERTURE_WORDS, "the width of an aperture", sheet_aperture_words());
     expect(sheet_macro_words() == SHEET_MACRO_WORDS, "the width of a macro", sheet_macro_words());
     expect(sheet_item_words() == SHEET_ITEM_WORDS, "the width of an item", sheet_item_words());
+    expect(sheet_row_words() == SHEET_ROW_WORDS, "the width of a row", sheet_row_words());
+    expect(sheet_scratch_words() == SHEET_SCRATCH_WORDS, "the width of scratch", sheet_scratch_words());
     every_refusal();
     too_many_items();
     rounded_decimals();
@@ -469,6 +543,7 @@ int main(void)
     exact_rooms(&l);
     any_order(&l);
     addresses(&l);
+    summaries(&l);
     damaged(&l);
     attributes();
     printf("host: %u tried, %u faults\n", tried, faults);

@@ -9,7 +9,10 @@ cargo test --release --quiet --manifest-path second/Cargo.toml --target-dir "$ma
 
 room=$(mktemp -d)
 trap 'rm -rf "$room"' EXIT
-tests/unpack "$room"
+# what one reader answers and the other may not yet
+also=()
+! grep -q '"summary"' second/src/question.rs || also=(summary --rows)
+tests/unpack "$room" "${also[@]}"
 for folder in cases cases-02; do
     told=$("$made/release/second" check-cases "$room/$folder")
     echo "second: $folder: $told"

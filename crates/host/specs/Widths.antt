@@ -1,6 +1,7 @@
 -- How wide the records are that a host lends room for (docs/SHEET.md): the constants of host/sheet.h are held to these.
-use Prim.Native.Nat.{ℕ, _/_}
+use Prim.Native.Nat.{ℕ, _≤_, _<_, _/_}
 use mathlib.Core.Path.{_≡_}
+use mathlib.Core.Bool.{true}
 use mathlib.Core.List.{List}
 use lib.ListN.{length}
 use Rattle.place.specs.declared.Item.{Item}
@@ -11,6 +12,9 @@ use Rattle.tables.specs.Apertures.{apertureWords}
 use Rattle.tables.specs.declared.Macro.{Macro}
 use Rattle.tables.specs.Macros.{macroRoom, macroWords}
 use Rattle.descend.specs.Slots.{itemWords}
+use Rattle.summaries.specs.declared.Row.{Row}
+use Rattle.summary.specs.Kept.{rowWords}
+use Rattle.summary.specs.Answers.{roomy}
 
 pub record ItemsAre (r : ℕ) : Type 0 where
   pub words : (t : Item) → length (itemWords t) ≡ r
@@ -26,3 +30,10 @@ pub record AperturesAre (r : ℕ) : Type 0 where
 pub record MacrosAre (r : ℕ) : Type 0 where
   pub words : (t : Macro) → length (macroWords t) ≡ r
   pub room : (m : List ℕ) → macroRoom m ≡ length m / r
+
+pub record RowsAre (r : ℕ) : Type 0 where
+  pub words : (t : Row) → length (rowWords t) ≡ r
+  pub room : (n words scratch : ℕ) → roomy n words scratch ≡ true → n < words / r
+
+pub record ScratchIs (r : ℕ) : Type 0 where
+  pub room : (n words scratch : ℕ) → roomy n words scratch ≡ true → n ≤ scratch / r

@@ -4,6 +4,7 @@ use descend::Fetch;
 use descend::Total;
 use reader::Answer;
 use sayings::Kind;
+use summary::Outcome;
 ghost use mathlib.Core.Path.{_≡_};
 ghost use lib.ListN.{length};
 ghost use Rattle.sayings.specs.declared.Kind.the-variants.{Aperture, Object};
@@ -14,8 +15,9 @@ ghost use Rattle.descend.specs.Answers.{totalOf, totalNumber, totalValue, answe
 ghost use Rattle.descend.specs.Slots.{itemWords, fetchOf, fetchNumber, fetched};
 ghost use Rattle.address.specs.Answers.{replyOf};
 ghost use Rattle.addressing.specs.Answers.{addressNumber, addressWords};
+ghost use Rattle.summary.specs.Answers.{outcomeOf, outcomeNumber, summed};
 ghost use Rattle.host.specs.Reads.{ReadsInto};
-ghost use Rattle.host.specs.Widths.{ItemsAre, EntriesAre, AperturesAre, MacrosAre};
+ghost use Rattle.host.specs.Widths.{ItemsAre, EntriesAre, AperturesAre, MacrosAre, RowsAre, ScratchIs};
 
 // Reads a file into the lent words: a sheet, with its unit and how many decimals were rounded; or document 01's number and the place, and zeros in every word.
 #[no_mangle]
@@ -108,6 +110,33 @@ pub extern "C" fn sheet_item_number(
     let r = address::item_of(head, entries, apertures, address);
     *k = r.item;
     r.number
+}
+
+// Document 01's number of a call for a summary.
+fn summary_number(r: Outcome) -> u64
+    ensures { λ n. ⌜ n ≡ outcomeNumber r ⌝ }
+{
+    match r {
+        Outcome::Done => 0,
+        Outcome::Short => 17,
+        Outcome::NotSheet => 21,
+    }
+}
+
+// The rows of a sheet's summary, zeros where there is no answer.
+#[no_mangle]
+pub extern "C" fn sheet_summary(
+    head: &[u64; 8],
+    entries: &[u64],
+    apertures: &[u64],
+    scratch: &mut [u64],
+    rows: &mut [u64],
+) -> u64
+    ensures { λ r. ⌜ (r ≡ outcomeNumber (outcomeOf (now (head .entry)) (now (entries .entry)) (now (apertures .entry)) (length (now (rows .entry))) (length (now (scratch .entry)))))
+        × (now (rows .exit) ≡ summed (now (head .entry)) (now (entries .entry)) (now (apertures .entry)) (length (now (rows .entry))) (length (now (scratch .entry)))) ⌝ }
+{
+    let r = summary::summary(head, entries, apertures, scratch, rows);
+    summary_number(r)
 }
 
 // Document 01's number of a call for a run.
@@ -221,4 +250,20 @@ pub extern "C" fn sheet_macro_words() -> usize
     ensures { λ r. ⌜ MacrosAre r ⌝ }
 {
     tables::MACRO_WORDS
+}
+
+// The words of a row of the summary.
+#[no_mangle]
+pub extern "C" fn sheet_row_words() -> usize
+    ensures { λ r. ⌜ RowsAre r ⌝ }
+{
+    summary::ROW_WORDS
+}
+
+// The words of scratch that a summary asks for each aperture.
+#[no_mangle]
+pub extern "C" fn sheet_scratch_words() -> usize
+    ensures { λ r. ⌜ ScratchIs r ⌝ }
+{
+    summary::SCRATCH_WORDS
 }

@@ -58,7 +58,7 @@ swapped-same P true k a b = go (eqb k 2) (eqb k 3) (eqb k 7) (eqb k 8) refl refl
     go false false false false e f g h = refl
 
 module _ (m : Pose) (t : Item) where
-  oriented-same : isOriented (swapped (m .flip) (t .kind)) ≡ isOriented (t .kind)
+  pub oriented-same : isOriented (swapped (m .flip) (t .kind)) ≡ isOriented (t .kind)
   unfolding isOriented
   oriented-same = swapped-same isOriented (m .flip) (t .kind) refl refl
 

@@ -16,6 +16,13 @@ use Rattle.summaries.specs.declared.Extent.{Extent}
 use Rattle.summaries.specs.declared.Extent.the-variants.{Nothing, Over}
 use Rattle.summaries.specs.declared.Row.{Row}
 
+-- the words of a row, answered and kept
+abbrev pub rowWidth : ℕ
+rowWidth = 5
+
+abbrev pub keptWidth : ℕ
+keptWidth = 6
+
 unfoldable pub hasPoints : Extent → Bool
 hasPoints Nothing = false
 hasPoints (Over b) = true
@@ -45,6 +52,6 @@ extentIf some b = cond some (Over b) Nothing
 
 unfoldable pub rowAt : List ℕ → ℕ → Row
 rowAt s b = row
-    (getD s (b * 6 + 1) 0)
-    (extentIf (eqb (getD s (b * 6) 0) 1)
-    (rect (spanOf (getD s (b * 6 + 2) 0) (getD s (b * 6 + 4) 0)) (spanOf (getD s (b * 6 + 3) 0) (getD s (b * 6 + 5) 0))))
+    (getD s (b * keptWidth + 1) 0)
+    (extentIf (eqb (getD s (b * keptWidth) 0) 1)
+    (rect (spanOf (getD s (b * keptWidth + 2) 0) (getD s (b * keptWidth + 4) 0)) (spanOf (getD s (b * keptWidth + 3) 0) (getD s (b * keptWidth + 5) 0))))

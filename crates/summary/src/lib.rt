@@ -23,6 +23,13 @@ ghost use Rattle.summary.specs.Walk.{entryRow, runRow, topEntryRow, topR
 ghost use Rattle.summary.specs.Blocks.{withBlock, BlockReady, Fits, Done};
 ghost use Rattle.summary.specs.Answers.{summaryWords, outcomeOf, summed};
 
+// The words of a row, of a row that is kept meanwhile, and of scratch for each aperture record.
+pub const ROW_WORDS: usize = 5;
+
+const KEPT_WORDS: usize = 6;
+
+pub const SCRATCH_WORDS: usize = 8;
+
 // What the call comes to.
 pub enum Outcome {
     Done,
@@ -123,7 +130,7 @@ fn keep_row(s: &mut [u64], b: usize, r: Row)
         high_word(across),
         high_word(up),
     ];
-    sheet::put_words(s, b * 6, &w);
+    sheet::put_words(s, b * KEPT_WORDS, &w);
 }
 
 // The row kept of aperture record b.
@@ -131,7 +138,7 @@ fn kept_row(s: &[u64], b: usize) -> Row
     requires { ⌜ b < length (now s) / 6 ⌝ }
     ensures { λ r. ⌜ r ≡ rowAt (now (s .entry)) b ⌝ }
 {
-    let at = b * 6;
+    let at = b * KEPT_WORDS;
     let across = span_of(base::word_at(s, at + 2), base::word_at(s, at + 4));
     let up = span_of(base::word_at(s, at + 3), base::word_at(s, at + 5));
     let some = base::word_at(s, at) == 1;
@@ -257,15 +264,15 @@ fn fill(head: &[u64; 8], e: &[u64], a: &[u64], s: &mut [u64], out: &mut [u64])
     while b < n {
         let number = sheet::aperture_at(a, b).number;
         let r = row_of(head, e, a, Asked::Aperture(number), s);
-        put_row(out, b * 5, r);
+        put_row(out, b * ROW_WORDS, r);
         b += 1;
     }
     let r = row_of(head, e, a, Asked::Regions, s);
-    put_row(out, n * 5, r);
+    put_row(out, n * ROW_WORDS, r);
 }
 
 // The summary of a sheet: five words for each aperture record, in store order, and for the regions; what is behind them is 0. `scratch`
-// has six words for each aperture record.
+// has eight words for each aperture record.
 pub fn summary(
     head: &[u64; 8],
     e: &[u64],
@@ -279,7 +286,10 @@ pub fn summary(
     base::clear(rows);
     if inspect::is_sheet(head, e, a) {
         let n = sheet::index(head[3]);
-        if base::both(n < rows.len() / 5, n <= scratch.len() / 6) {
+        if base::both(
+            n < rows.len() / ROW_WORDS,
+            n <= scratch.len() / SCRATCH_WORDS,
+        ) {
             fill(head, e, a, scratch, rows);
             return Outcome::Done;
         }

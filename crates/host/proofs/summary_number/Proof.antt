@@ -1,0 +1,30 @@
+-- `host::summary_number` meets its contract, case by case.
+use Rattle.summary.specs.Answers.{outcomeNumber}
+use borrow.Author.Needs.{needs}
+use Rattle.host.proofs.summary_number.Statement.{statement}
+use Rattle.host.proofs.summary_number.Tie as tie
+
+enum-told : tie.Need-enum-told
+enum-told c = search needs
+
+enum-told-2 : tie.Need-enum-told-2
+enum-told-2 c = search needs
+
+enum-told-3 : tie.Need-enum-told-3
+enum-told-3 c = search needs
+
+returns : tie.Need-returns
+unfolding outcomeNumber
+returns c = rw (c .enum-told .given .1)
+
+returns-2 : tie.Need-returns-2
+unfolding outcomeNumber
+returns-2 c = rw (c .enum-told2 .given .1)
+
+returns-3 : tie.Need-returns-3
+unfolding outcomeNumber
+returns-3 c = rw (c .enum-told3 .given .1)
+
+pub summary-number-spec : {M : Type 1} → statement M
+summary-number-spec =
+    tie.close (tie.spec enum-told enum-told-2 enum-told-3 returns returns-2 returns-3)

@@ -1,0 +1,6 @@
+pub mod Tools
+pub mod Knowing
+pub mod Steps
+pub mod Plain
+pub mod Records
+pub mod Summarised
