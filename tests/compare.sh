@@ -54,15 +54,20 @@ by_batch() { # WHAT LIST [--room E,A,M,N]
     tell "$what${*:+, $*}" "$(tail -n 1 "$room/told")"
 }
 
-# What the second reader asks about each file named on standard input, answered by both.
+# What the second reader asks about each file named on standard input, answered by both; the sample host ends with 2 where it does not know
+# the question.
 by_question() { # WHAT
-    local file words program agree=0 differ=0
+    local file words program status agree=0 differ=0 unknown=0
     while read -r file; do
         while read -r -a words; do
             program=("${imager[@]}" "${words[@]}")
             [ "${words[0]}" != verify ] || program=("${verify[@]}")
             "$second" "${words[@]}" <"$file" >"$room/want"
-            if "${program[@]}" <"$file" | cmp -s - "$room/want"; then
+            status=0
+            "${program[@]}" <"$file" >"$room/given" 2>/dev/null || status=$?
+            if [ "$status" -eq 2 ]; then
+                unknown=$((unknown + 1))
+            elif cmp -s "$room/given" "$room/want"; then
                 agree=$((agree + 1))
             else
                 differ=$((differ + 1))
@@ -70,6 +75,7 @@ by_question() { # WHAT
             fi
         done < <("$second" questions 7 <"$file")
     done
+    [ "$unknown" -eq 0 ] || echo "compare: $1: the sample host does not know $unknown questions"
     tell "$1, asked" "$agree agree, $differ differ"
 }
 

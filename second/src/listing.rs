@@ -6,6 +6,7 @@ use crate::address::Address;
 use crate::command::Unit;
 use crate::scan::Refusal;
 use crate::sheet::{Item, Sheet};
+use crate::summary::REGIONS;
 
 /// "past 65,536 bytes it prints refusal 1" (decision 16).
 pub const LISTING_LIMIT: usize = 65_536;
@@ -113,6 +114,26 @@ pub fn write_numbers(out: &mut dyn Write, sheet: &Sheet) -> io::Result<()> {
             write!(out, "\t{number}")?;
         }
         writeln!(out)?;
+    }
+    Ok(())
+}
+
+/// A line per aperture in store order, then the regions'; 17 with fewer rows than that.
+pub fn write_summary(out: &mut dyn Write, sheet: &Sheet, rows: u64) -> io::Result<()> {
+    if rows <= sheet.apertures.len() as u64 {
+        return writeln!(out, "{}", refusal_line(Refusal::new(17, 0)));
+    }
+    let summary = sheet.summary();
+    for aperture in sheet.apertures.iter().chain([&REGIONS]) {
+        let row = summary.get(aperture).copied().unwrap_or_default();
+        let name =
+            if *aperture == REGIONS { String::from("regions") } else { aperture.to_string() };
+        let (least, greatest) = row.bounds.map_or_else(Default::default, |b| (b.least, b.greatest));
+        writeln!(
+            out,
+            "{name}\t{}\t{}\t{}\t{}\t{}",
+            row.count, least.x, least.y, greatest.x, greatest.y
+        )?;
     }
     Ok(())
 }

@@ -17,6 +17,7 @@ mod sheet;
 mod short;
 mod signature;
 mod state;
+mod summary;
 mod templates;
 
 use std::env;
@@ -35,6 +36,7 @@ second MODE, with the file on standard input:
   numbers                                      the numbers kept, a line per AD
   attribute TA|TO PLACE NAME                   place and length of a value (also: attr)
   verify                                       the digest, if the file bears it
+  summary [--rows N]                           per aperture, then for all regions: how many items, and their bounds
   questions SEED                               some questions about the file, a line each
 with a list of file names on standard input:
   batch [--room E,A,M,N]                       a line per file: name, sheet or refusal, hash

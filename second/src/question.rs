@@ -20,6 +20,7 @@ pub enum Question {
     Numbers,
     Attribute { word: String, held: Held, place: usize, name: String },
     Verify,
+    Summary { rows: u64 },
 }
 
 /// The question that the words ask, or nothing.
@@ -48,6 +49,13 @@ pub fn question(words: &[String]) -> Option<Question> {
             _ => None,
         },
         "verify" if rest.is_empty() => Some(Question::Verify),
+        "summary" => match rest {
+            [] => Some(Question::Summary { rows: u64::MAX }),
+            [word, rows] if word == "--rows" => {
+                Some(Question::Summary { rows: rows.parse().ok()? })
+            }
+            _ => None,
+        },
         _ => None,
     }
 }
@@ -139,6 +147,10 @@ pub fn answer(question: &Question, file: &[u8], out: &mut dyn Write) -> io::Resu
                 Err(number) => writeln!(out, "refused\t{number}"),
             }
         }
+        Question::Summary { rows } => match read(file, Room::UNLIMITED) {
+            Ok(sheet) => listing::write_summary(out, &sheet, *rows),
+            Err(refusal) => writeln!(out, "{}", listing::refusal_line(refusal)),
+        },
         Question::Verify => match signature(file) {
             Ok(digest) => writeln!(out, "signed\t{}", md5::hex(&digest)),
             Err(refusal) => writeln!(out, "{}", listing::refusal_line(refusal)),

@@ -58,6 +58,7 @@ struct Reading {
     apertures: HashMap<i64, Aperture>,
     macros: HashMap<Vec<u8>, Macro>,
     definitions: Vec<Definition>,
+    aperture_numbers: Vec<i64>,
     rounded: u64,
     file_attributes: HashSet<Vec<u8>>,
 }
@@ -87,6 +88,7 @@ impl Reading {
             apertures: HashMap::new(),
             macros: HashMap::new(),
             definitions: Vec::new(),
+            aperture_numbers: Vec::new(),
             rounded: 0,
             file_attributes: HashSet::new(),
         }
@@ -99,6 +101,7 @@ impl Reading {
             body: self.top,
             blocks: self.blocks,
             definitions: self.definitions,
+            apertures: self.aperture_numbers,
             used: self.used,
             rounded: self.rounded,
         }
@@ -252,6 +255,7 @@ impl Reading {
         let is_pen = templates::can_draw(name, &parameters);
         self.apertures.insert(number, if is_pen { Aperture::Pen } else { Aperture::Shape });
         self.definitions.push(Definition { aperture: number, numbers });
+        self.aperture_numbers.push(number);
         Ok(())
     }
 
@@ -460,6 +464,7 @@ impl Reading {
         require(self.open.iter().filter(is_block).count() < MOST_OPEN_BLOCKS, 15)?;
         self.use_room(Room { entries: 1, apertures: 1, ..Room::NONE })?;
         self.apertures.insert(number, Aperture::OpenBlock);
+        self.aperture_numbers.push(number);
         self.open.push(Open::Block { number, body: Body::default(), height: 1 });
         self.graphics.point = None;
         Ok(())

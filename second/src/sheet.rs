@@ -154,7 +154,7 @@ pub struct Placing {
 
 impl Placing {
     /// "each used point is flipped if f, turned q, shifted to the flash point".
-    fn moved(&self, point: Point) -> Point {
+    pub fn moved(&self, point: Point) -> Point {
         let mut point = if self.flip { point.flipped() } else { point };
         for _ in 0..self.angle / (TURN / 4) {
             point = point.turned();
@@ -178,7 +178,7 @@ impl Grid {
     }
 
     /// The shift of a copy: "stepping Y first, then X" (decision 103).
-    fn shift(&self, copy: u64) -> Point {
+    pub fn shift(&self, copy: u64) -> Point {
         let (column, row) = (copy / self.ny, copy % self.ny);
         Point::new(self.dx * column as i64, self.dy * row as i64)
     }
@@ -259,6 +259,8 @@ pub struct Sheet {
     pub body: Body,
     pub blocks: Vec<Block>,
     pub definitions: Vec<Definition>,
+    /// The numbers of AD and AB, in the order of the store.
+    pub apertures: Vec<i64>,
     pub used: Room,
     /// "how many decimals were rounded, each written one counted once" (document 02, [1]).
     pub rounded: u64,

@@ -14,6 +14,7 @@ pub fn questions(seed: u64, file: &[u8]) -> Vec<String> {
         rooms(&mut random, &sheet.used, &mut questions);
         items(&mut random, &sheet, &mut questions);
         addresses(&mut random, &sheet, &mut questions);
+        summaries(&sheet, &mut questions);
     }
     attributes(&mut random, file, &mut questions);
     questions.push(String::from("verify"));
@@ -68,6 +69,14 @@ fn addresses(random: &mut Random, sheet: &Sheet, questions: &mut Vec<String>) {
         *word = random.pick(&[*word + 1, word.saturating_sub(1), 0]);
         ask(&words);
     }
+}
+
+/// In room enough, in just enough, and with a row too few.
+fn summaries(sheet: &Sheet, questions: &mut Vec<String>) {
+    let apertures = sheet.apertures.len();
+    questions.push(String::from("summary"));
+    questions.push(format!("summary --rows {}", apertures + 1));
+    questions.push(format!("summary --rows {apertures}"));
 }
 
 /// Places and names as they stand in the file, and some that do not.
