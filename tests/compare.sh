@@ -1,7 +1,7 @@
 #!/usr/bin/env bash
 # The proved reader against the second one. Through the listing: the cases and the real layers that stand beside the repository, where they
 # do, and generated files. Through the C host's batch: all of these whatever their size, more generated files, and small rooms. Through its
-# other modes, and the program verify: questions about some generated files.
+# other modes, and the program verify: questions about some generated files. Then again under the other rule of letters.
 set -u
 cd "$(dirname "$0")/.." || exit 2
 export CARGO_NET_OFFLINE=true
@@ -43,7 +43,7 @@ by_listing() { # WHAT
 }
 
 # Both batches of the files named in LIST.
-by_batch() { # WHAT LIST [--room E,A,M,N]
+by_batch() { # WHAT LIST [--room E,A,M,N] [--letters new]
     local what=$1 list=$2
     shift 2
     "${imager[@]}" batch "$@" <"$list" >"$room/imager"
@@ -56,16 +56,17 @@ by_batch() { # WHAT LIST [--room E,A,M,N]
 
 # What the second reader asks about each file named on standard input, answered by both; the sample host ends with 2 where it does not know
 # the question.
-by_question() { # WHAT
-    local file words program status agree=0 differ=0 unknown=0
+by_question() { # WHAT [--letters new]
+    local what=$1 file words program status agree=0 differ=0 unknown=0
+    shift
     while read -r file; do
         while read -r -a words; do
             program=("${imager[@]}" "${words[@]}")
-            [ "${words[0]}" != verify ] || program=("${verify[@]}")
+            [ "${words[0]}" != verify ] || program=("${verify[@]}" "${words[@]:1}")
             "$second" "${words[@]}" <"$file" >"$room/want"
             status=0
             "${program[@]}" <"$file" >"$room/given" 2>/dev/null || status=$?
-            if [ "$status" -eq 2 ]; then
+            if [ "$status" -eq 2 ] || { [ "${words[0]}" = verify ] && ! verify_knows "$@"; }; then
                 unknown=$((unknown + 1))
             elif cmp -s "$room/given" "$room/want"; then
                 agree=$((agree + 1))
@@ -73,11 +74,24 @@ by_question() { # WHAT
                 differ=$((differ + 1))
                 echo "compare: ${words[*]} of $(basename "$file") is not what the second reader answers"
             fi
-        done < <("$second" questions 7 <"$file")
+        done < <("$second" questions 7 "$@" <"$file")
     done
-    [ "$unknown" -eq 0 ] || echo "compare: $1: the sample host does not know $unknown questions"
-    tell "$1, asked" "$agree agree, $differ differ"
+    [ "$unknown" -eq 0 ] || echo "compare: $what: $unknown questions are of requests that have not landed"
+    tell "$what${*:+, $*}, asked" "$agree agree, $differ differ"
 }
+
+# Whether the sample host takes these words.
+knows() { # WORDS
+    local status=0
+    "${imager[@]}" sheet "$@" </dev/null >/dev/null 2>&1 || status=$?
+    [ "$status" -ne 2 ]
+}
+
+# Whether the program verify goes by them.
+verify_knows() { # WORDS
+    [ "$("${verify[@]}" "$@" <"$room/letters")" = "$("$second" verify "$@" <"$room/letters")" ]
+}
+printf 'G04 \303\251*M02*' >"$room/letters"
 
 tell "tests/listing, by the second reader" "$("$second" check-cases tests/listing | tail -n 1)"
 
@@ -109,6 +123,19 @@ by_batch "generated" "$room/all_generated"
 by_batch "generated" "$room/all_generated" --room 3,2,1,4
 by_batch "generated" "$room/all_generated" --room 8,3,1,10
 awk 'NR % 80 == 0' "$room/all_generated" | by_question "generated"
+for terms in "--letters new"; do
+    read -r -a terms <<<"$terms"
+    if ! knows "${terms[@]}"; then
+        echo "compare: the sample host does not know ${terms[*]} yet"
+        continue
+    fi
+    rm -r "$room/generated"
+    "$second" make 7 4000 "$room/generated" "${terms[@]}"
+    find "$room/generated" -name '*.gbr' | sort >"$room/all_generated"
+    by_batch "generated" "$room/all_generated" "${terms[@]}"
+    by_batch "generated" "$room/all_generated" --room 3,2,1,4 "${terms[@]}"
+    awk 'NR % 80 == 0' "$room/all_generated" | by_question "generated" "${terms[@]}"
+done
 # Files of 16,777,217 bytes are tried elsewhere (1).
 for number in 2 3 4 5 6 7 8 9 10 11 12 13 14 15 16 17 18 19 29; do
     grep -q "^refused $number " "$room/answers" || tell "refused with $number" "no file, 1 differ"

@@ -94,6 +94,7 @@ impl Sheet {
 mod tests {
     use crate::rules::read;
     use crate::sheet::Room;
+    use crate::terms::Terms;
 
     /// A block of three items; a line, then 300 copies of a line and a flash of the block, then
     /// that flash once more.
@@ -103,7 +104,7 @@ mod tests {
 
     #[test]
     fn copies_and_positions_count_from_one() {
-        let sheet = read(PANEL.as_bytes(), Room::UNLIMITED).expect("accepted");
+        let sheet = read(PANEL.as_bytes(), Terms::PLAIN, Room::UNLIMITED).expect("accepted");
         assert_eq!(sheet.total(), 1 + 300 * 4 + 3);
         assert_eq!(sheet.address(0), Some([0, 1, 0, 0, 0, 0, 0, 0, 0, 0]));
         assert_eq!(sheet.address(1 + 211 * 4 + 3), Some([212, 3, 3, 0, 0, 0, 0, 0, 0, 0]));
@@ -113,7 +114,7 @@ mod tests {
 
     #[test]
     fn each_undoes_the_other() {
-        let sheet = read(PANEL.as_bytes(), Room::UNLIMITED).expect("accepted");
+        let sheet = read(PANEL.as_bytes(), Terms::PLAIN, Room::UNLIMITED).expect("accepted");
         for k in 0..sheet.total() {
             let address = sheet.address(k).expect("below the total");
             assert_eq!(sheet.number(&address), Some(k));

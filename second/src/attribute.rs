@@ -2,6 +2,7 @@
 
 use crate::command::{self, Action, Attribute, Command};
 use crate::scan::{Raw, Refusal, Scanner};
+use crate::terms::Terms;
 
 /// "The two kinds are held apart (house)."
 #[derive(Clone, Copy, PartialEq, Eq, Debug)]
@@ -30,9 +31,15 @@ struct Region {
 /// The attribute of that name held at the command that begins at the place, or a number: "1 to 4
 /// and 18 as reading does, then 22, then 23". The other rules of the reading are passed over, and
 /// the first M02 ends the walk (decision 108).
-pub fn attribute(file: &[u8], held: Held, place: usize, name: &[u8]) -> Result<Answer, u32> {
+pub fn attribute(
+    file: &[u8],
+    terms: Terms,
+    held: Held,
+    place: usize,
+    name: &[u8],
+) -> Result<Answer, u32> {
     let number_of = |refusal: Refusal| refusal.number;
-    let mut scanner = Scanner::new(file).map_err(number_of)?;
+    let mut scanner = Scanner::new(file, terms).map_err(number_of)?;
     let mut current = None;
     let mut region: Option<Region> = None;
     let mut asked = None;

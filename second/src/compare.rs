@@ -6,9 +6,10 @@ use std::io::{self, Write};
 use std::path::{Path, PathBuf};
 
 use crate::listing;
-use crate::question::{answer, question};
+use crate::question::{answer, asked};
 use crate::rules::read;
 use crate::sheet::{Room, Sheet};
+use crate::terms::Terms;
 
 /// Items whose lines a batch's hash covers.
 const HASHED_ITEMS: u64 = 2000;
@@ -17,16 +18,16 @@ const HASHED_ITEMS: u64 = 2000;
 
 /// Per file named in the list: its name, the `sheet` or `refused` line with spaces for tabs, and
 /// the hash of its first item lines, or `-`.
-pub fn batch(list: &str, room: Room, out: &mut dyn Write) -> io::Result<()> {
+pub fn batch(list: &str, terms: Terms, room: Room, out: &mut dyn Write) -> io::Result<()> {
     for name in list.lines().filter(|name| !name.is_empty()) {
         let file = fs::read(name)?;
-        writeln!(out, "{}", batch_line(name, &file, room))?;
+        writeln!(out, "{}", batch_line(name, &file, terms, room))?;
     }
     Ok(())
 }
 
-fn batch_line(name: &str, file: &[u8], room: Room) -> String {
-    let (line, hash) = match read(file, room) {
+fn batch_line(name: &str, file: &[u8], terms: Terms, room: Room) -> String {
+    let (line, hash) = match read(file, terms, room) {
         Ok(sheet) => (listing::sheet_line(&sheet), format!("{:016x}", hash_of_items(&sheet))),
         Err(refusal) => (listing::refusal_line(refusal), String::from("-")),
     };
@@ -82,11 +83,11 @@ pub fn compare(first: &str, second: &str, out: &mut dyn Write) -> io::Result<()>
 // ---------------------------------------------------------------- census
 
 /// How many files of a folder are accepted and how many refused with each number.
-pub fn census(folder: &Path, room: Room, out: &mut dyn Write) -> io::Result<()> {
+pub fn census(folder: &Path, terms: Terms, room: Room, out: &mut dyn Write) -> io::Result<()> {
     let mut counts = BTreeMap::new();
     let files = files_of(folder, "gbr")?;
     for path in &files {
-        let number = match read(&fs::read(path)?, room) {
+        let number = match read(&fs::read(path)?, terms, room) {
             Ok(_) => 0,
             Err(refusal) => refusal.number,
         };
@@ -161,8 +162,8 @@ fn check(
 ) -> io::Result<bool> {
     let words: Vec<String> = words.split_whitespace().map(String::from).collect();
     let mut given = Vec::new();
-    match question(&words) {
-        Some(question) => answer(&question, file, &mut given)?,
+    match asked(&words) {
+        Some(asked) => answer(&asked, file, &mut given)?,
         None => given.extend_from_slice(b"no such question\n"),
     }
     if given == expected {

@@ -143,6 +143,7 @@ mod tests {
     use super::*;
     use crate::rules::read;
     use crate::sheet::Room;
+    use crate::terms::Terms;
 
     /// P10: the input and output of document 01, its lines longer by [6]'s field.
     #[test]
@@ -155,7 +156,7 @@ mod tests {
             1|flash|10|dark|0|90000000|1000000|0|0|8000000|5000000|0|0|0|79|132\n\
             2|line|10|dark|0|90000000|1000000|3010000000|5000000|3010000000|6000000|0|0|0|64|132\n\
             3|flash|10|dark|0|90000000|1000000|0|0|3008000000|5000000|0|0|0|79|132\n";
-        let sheet = read(file.as_bytes(), Room::UNLIMITED).expect("accepted");
+        let sheet = read(file.as_bytes(), Terms::PLAIN, Room::UNLIMITED).expect("accepted");
         let mut given = Vec::new();
         write_listing(&mut given, &sheet, u64::MAX).expect("room for all bytes");
         assert_eq!(String::from_utf8_lossy(&given).replace('\t', "|"), listing);

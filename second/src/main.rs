@@ -19,12 +19,15 @@ mod signature;
 mod state;
 mod summary;
 mod templates;
+mod terms;
 
 use std::env;
 use std::fs;
 use std::io::{self, BufWriter, Read, Write};
 use std::path::Path;
 use std::process::ExitCode;
+
+use terms::Terms;
 
 const USAGE: &str = "\
 second MODE, with the file on standard input:
@@ -45,7 +48,9 @@ on folders and files:
   census DIR [--room E,A,M,N]                  how many files are answered with each number
   check-cases DIR                              runs the cases of the folder
   short N                                      every string of up to N bytes: how many, and a hash of the answers
-  compare FILE FILE                            two outputs of batch, line by line";
+  letters N                                    the same of every field of up to N bytes from 128 up, a line per length
+  compare FILE FILE                            two outputs of batch, line by line
+Whatever reads, asks about or makes files takes --letters old|new too; old where not said.";
 
 fn main() -> ExitCode {
     let words: Vec<String> = env::args().skip(1).collect();
@@ -74,10 +79,13 @@ fn input() -> io::Result<Vec<u8>> {
 
 /// False when the words are no mode.
 fn run(words: &[String], out: &mut dyn Write) -> io::Result<bool> {
-    if let Some(question) = question::question(words) {
-        question::answer(&question, &input()?, out)?;
+    if let Some(asked) = question::asked(words) {
+        question::answer(&asked, &input()?, out)?;
         return Ok(true);
     }
+    let Some((terms, words)) = Terms::taken(words) else {
+        return Ok(false);
+    };
     let Some((mode, rest)) = words.split_first() else {
         return Ok(false);
     };
@@ -87,19 +95,19 @@ fn run(words: &[String], out: &mut dyn Write) -> io::Result<bool> {
                 return Ok(false);
             };
             let list = io::read_to_string(io::stdin().lock())?;
-            compare::batch(&list, room, out)?;
+            compare::batch(&list, terms, room, out)?;
         }
         ("census", [folder, rest @ ..]) => {
             let Some(room) = question::only_room(rest) else {
                 return Ok(false);
             };
-            compare::census(Path::new(folder), room, out)?;
+            compare::census(Path::new(folder), terms, room, out)?;
         }
         ("questions", [seed]) => {
             let Ok(seed) = seed.parse() else {
                 return Ok(false);
             };
-            for question in generator::questions(seed, &input()?) {
+            for question in generator::questions(seed, &input()?, terms) {
                 writeln!(out, "{question}")?;
             }
         }
@@ -107,13 +115,19 @@ fn run(words: &[String], out: &mut dyn Write) -> io::Result<bool> {
             let (Ok(seed), Ok(count)) = (seed.parse(), count.parse()) else {
                 return Ok(false);
             };
-            generator::make(seed, count, Path::new(folder))?;
+            generator::make(seed, count, Path::new(folder), terms)?;
         }
         ("short", [longest]) => {
             let Ok(longest) = longest.parse() else {
                 return Ok(false);
             };
-            short::short(longest, out)?;
+            short::short(longest, terms, out)?;
+        }
+        ("letters", [longest]) => {
+            let Ok(longest) = longest.parse() else {
+                return Ok(false);
+            };
+            short::letters(longest, terms, out)?;
         }
         ("check-cases", [folder]) => compare::check_cases(Path::new(folder), out)?,
         ("compare", [first, second]) => {

@@ -10,6 +10,7 @@ use crate::rules::read;
 use crate::scan::Refusal;
 use crate::sheet::{Room, Sheet};
 use crate::signature::signature;
+use crate::terms::Terms;
 
 pub enum Question {
     List { room: Room, limit: u64, longest: usize },
@@ -23,8 +24,19 @@ pub enum Question {
     Summary { rows: u64 },
 }
 
-/// The question that the words ask, or nothing.
-pub fn question(words: &[String]) -> Option<Question> {
+/// A question, and the edition and letters that it names.
+pub struct Asked {
+    pub terms: Terms,
+    pub question: Question,
+}
+
+/// What the words ask, or nothing.
+pub fn asked(words: &[String]) -> Option<Asked> {
+    let (terms, words) = Terms::taken(words)?;
+    Some(Asked { terms, question: question(&words)? })
+}
+
+fn question(words: &[String]) -> Option<Question> {
     let (mode, rest) = words.split_first()?;
     match mode.as_str() {
         "list" => list(rest),
@@ -113,55 +125,47 @@ fn held_of(text: &str) -> Option<Held> {
 }
 
 /// Writes the answer for the file.
-pub fn answer(question: &Question, file: &[u8], out: &mut dyn Write) -> io::Result<()> {
-    match question {
+pub fn answer(asked: &Asked, file: &[u8], out: &mut dyn Write) -> io::Result<()> {
+    let terms = asked.terms;
+    let mut of_sheet =
+        |room: Room, write: &dyn Fn(&mut dyn Write, &Sheet) -> io::Result<()>| match read(
+            file, terms, room,
+        ) {
+            Ok(sheet) => write(out, &sheet),
+            Err(refusal) => writeln!(out, "{}", listing::refusal_line(refusal)),
+        };
+    match &asked.question {
         Question::List { longest, .. } if file.len() > *longest => {
             writeln!(out, "{}", listing::refusal_line(Refusal::new(1, 0)))
         }
-        Question::List { room, limit, .. } => match read(file, *room) {
-            Ok(sheet) => listing::write_listing(out, &sheet, *limit),
-            Err(refusal) => writeln!(out, "{}", listing::refusal_line(refusal)),
-        },
+        Question::List { room, limit, .. } => {
+            of_sheet(*room, &|out, sheet| listing::write_listing(out, sheet, *limit))
+        }
         Question::Sheet { room } => {
-            writeln!(out, "{}", line_or_refusal(file, *room, listing::sheet_line))
+            of_sheet(*room, &|out, sheet| writeln!(out, "{}", listing::sheet_line(sheet)))
         }
-        Question::Items { k, count } => match read(file, Room::UNLIMITED) {
-            Ok(sheet) => listing::write_items(out, &sheet, *k, *count),
-            Err(refusal) => writeln!(out, "{}", listing::refusal_line(refusal)),
-        },
-        Question::Address { k } => {
-            let line = |sheet: &Sheet| listing::address_line(sheet, *k);
-            writeln!(out, "{}", line_or_refusal(file, Room::UNLIMITED, line))
+        Question::Items { k, count } => {
+            of_sheet(Room::UNLIMITED, &|out, sheet| listing::write_items(out, sheet, *k, *count))
         }
-        Question::Number { address } => {
-            let line = |sheet: &Sheet| listing::number_line(sheet, address);
-            writeln!(out, "{}", line_or_refusal(file, Room::UNLIMITED, line))
+        Question::Address { k } => of_sheet(Room::UNLIMITED, &|out, sheet| {
+            writeln!(out, "{}", listing::address_line(sheet, *k))
+        }),
+        Question::Number { address } => of_sheet(Room::UNLIMITED, &|out, sheet| {
+            writeln!(out, "{}", listing::number_line(sheet, address))
+        }),
+        Question::Numbers => of_sheet(Room::UNLIMITED, &listing::write_numbers),
+        Question::Summary { rows } => {
+            of_sheet(Room::UNLIMITED, &|out, sheet| listing::write_summary(out, sheet, *rows))
         }
-        Question::Numbers => match read(file, Room::UNLIMITED) {
-            Ok(sheet) => listing::write_numbers(out, &sheet),
-            Err(refusal) => writeln!(out, "{}", listing::refusal_line(refusal)),
-        },
         Question::Attribute { word, held, place, name } => {
-            match attribute(file, *held, *place, name.as_bytes()) {
+            match attribute(file, terms, *held, *place, name.as_bytes()) {
                 Ok(answer) => writeln!(out, "{word}\t{}\t{}", answer.place, answer.length),
                 Err(number) => writeln!(out, "refused\t{number}"),
             }
         }
-        Question::Summary { rows } => match read(file, Room::UNLIMITED) {
-            Ok(sheet) => listing::write_summary(out, &sheet, *rows),
-            Err(refusal) => writeln!(out, "{}", listing::refusal_line(refusal)),
-        },
-        Question::Verify => match signature(file) {
+        Question::Verify => match signature(file, terms) {
             Ok(digest) => writeln!(out, "signed\t{}", md5::hex(&digest)),
             Err(refusal) => writeln!(out, "{}", listing::refusal_line(refusal)),
         },
-    }
-}
-
-/// What is said of an accepted file, or the refusal.
-fn line_or_refusal(file: &[u8], room: Room, line: impl Fn(&Sheet) -> String) -> String {
-    match read(file, room) {
-        Ok(sheet) => line(&sheet),
-        Err(refusal) => listing::refusal_line(refusal),
     }
 }

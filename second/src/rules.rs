@@ -15,6 +15,7 @@ use crate::sheet::{
 };
 use crate::state::{Aperture, Contour, Graphics, Open, Region};
 use crate::templates;
+use crate::terms::Terms;
 
 /// 16: "past 10^12 items".
 const MOST_ITEMS: u128 = 1_000_000_000_000;
@@ -27,8 +28,8 @@ const MOST_OPEN_BLOCKS: usize = 8;
 const MOST_STEPS: u64 = 9_999;
 
 /// The reading of a file with the room lent: a sheet, or the first fault.
-pub fn read(file: &[u8], room: Room) -> Result<Sheet, Refusal> {
-    let mut scanner = Scanner::new(file)?;
+pub fn read(file: &[u8], terms: Terms, room: Room) -> Result<Sheet, Refusal> {
+    let mut scanner = Scanner::new(file, terms)?;
     let mut reading = Reading::new(room);
     loop {
         let raw = scanner.next()?;
@@ -557,13 +558,13 @@ mod tests {
     fn refused(text: &str, number: u32) {
         let place = HEAD.len() + text.find('|').expect("a mark");
         let file = format!("{HEAD}{}M02*", text.replace('|', ""));
-        let refusal = read(file.as_bytes(), Room::UNLIMITED).err();
+        let refusal = read(file.as_bytes(), Terms::PLAIN, Room::UNLIMITED).err();
         assert_eq!(refusal, Some(Refusal::new(number, place)), "{text}");
     }
 
     fn accepted(text: &str) {
         let file = format!("{HEAD}{text}M02*");
-        assert_eq!(read(file.as_bytes(), Room::UNLIMITED).err(), None, "{text}");
+        assert_eq!(read(file.as_bytes(), Terms::PLAIN, Room::UNLIMITED).err(), None, "{text}");
     }
 
     #[test]
@@ -623,8 +624,11 @@ mod tests {
         let file = format!("{HEAD}G36*X0Y0D02*D01*G37*M02*");
         let room = |entries| Room { entries, ..Room::UNLIMITED };
         let first = HEAD.len() + "G36*X0Y0D02*".len();
-        assert_eq!(read(file.as_bytes(), room(1)).err(), Some(Refusal::new(17, first)));
-        let sheet = read(file.as_bytes(), room(2)).expect("room enough");
+        assert_eq!(
+            read(file.as_bytes(), Terms::PLAIN, room(1)).err(),
+            Some(Refusal::new(17, first))
+        );
+        let sheet = read(file.as_bytes(), Terms::PLAIN, room(2)).expect("room enough");
         assert_eq!((sheet.used.entries, sheet.total()), (2, 2));
     }
 }

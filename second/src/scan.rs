@@ -3,6 +3,8 @@
 //! The extent of a command is found first, so 2 and 3 are given before its text is judged
 //! (decision 1).
 
+use crate::terms::{letter_length, Letters, Terms};
+
 /// "file longer than 16,777,216 bytes" (decision 15).
 pub const LONGEST_FILE: usize = 16_777_216;
 
@@ -40,21 +42,22 @@ fn is_printable(byte: u8) -> bool {
 /// Steps through a file, a command at a time.
 pub struct Scanner<'a> {
     file: &'a [u8],
+    terms: Terms,
     at: usize,
 }
 
 impl<'a> Scanner<'a> {
     /// 1: "file longer than 16,777,216 bytes; place 0".
-    pub fn new(file: &'a [u8]) -> Result<Scanner<'a>, Refusal> {
+    pub fn new(file: &'a [u8], terms: Terms) -> Result<Scanner<'a>, Refusal> {
         if file.len() > LONGEST_FILE {
             return Err(Refusal::new(1, 0));
         }
-        Ok(Scanner::without_limit(file))
+        Ok(Scanner::without_limit(file, terms))
     }
 
     /// The same, for a call that does not give 1 (decision 116).
-    pub fn without_limit(file: &'a [u8]) -> Scanner<'a> {
-        Scanner { file, at: 0 }
+    pub fn without_limit(file: &'a [u8], terms: Terms) -> Scanner<'a> {
+        Scanner { file, terms, at: 0 }
     }
 
     /// The next command, or 2 or 3. Without a further command it is 3 at the length (decision 14).
@@ -92,27 +95,42 @@ impl<'a> Scanner<'a> {
     /// A word command runs to the first `*` (decision 4).
     fn word(&mut self) -> Result<Raw<'a>, Refusal> {
         let place = self.at;
-        for at in place..self.file.len() {
-            let byte = self.file[at];
-            if byte == b'*' {
+        let is_comment = self.file[place..].starts_with(b"G04");
+        let mut at = place;
+        while at < self.file.len() {
+            if self.file[at] == b'*' {
                 self.at = at + 1;
                 let text = &self.file[place..at];
                 return Ok(Raw { place, extended: false, text });
             }
-            if !is_printable(byte) {
-                return Err(Refusal::new(2, at));
-            }
+            at += self.length_at(at, is_comment)?;
         }
         Err(self.ended())
     }
 
+    /// The bytes of what stands there: one from 32 to 126, or a letter where the rule lets one
+    /// stand; else 2 at its first byte (decision 404).
+    fn length_at(&self, at: usize, may_be_letter: bool) -> Result<usize, Refusal> {
+        let letter = match self.terms.letters {
+            Letters::New if may_be_letter => letter_length(&self.file[at..]),
+            _ => None,
+        };
+        let length = letter.or_else(|| is_printable(self.file[at]).then_some(1));
+        length.ok_or(Refusal::new(2, at))
+    }
+
     /// An extended command runs to the very next `%` (decision 2). CR and LF may stand in it after
-    /// `*`, and in AM after a comma, in any number (decisions 6 to 9).
+    /// `*`, and in AM after a comma, in any number (decisions 6 to 9). The fields of an attribute
+    /// stand between its first comma and its first `*` (decision 401).
     fn extended(&mut self) -> Result<Raw<'a>, Refusal> {
         let place = self.at;
-        let in_macro = self.file[place + 1..].starts_with(b"AM");
+        let code = self.file.get(place + 1..place + 3).unwrap_or_default();
+        let in_macro = code == b"AM";
+        let mut before_fields = matches!(code, b"TF" | b"TA" | b"TO");
+        let mut in_fields = false;
         let mut line_end_permitted = false;
-        for at in place + 1..self.file.len() {
+        let mut at = place + 1;
+        while at < self.file.len() {
             let byte = self.file[at];
             if byte == b'%' {
                 self.at = at + 1;
@@ -120,11 +138,12 @@ impl<'a> Scanner<'a> {
                 return Ok(Raw { place, extended: true, text });
             }
             if is_line_end(byte) && line_end_permitted {
+                at += 1;
                 continue;
             }
-            if !is_printable(byte) {
-                return Err(Refusal::new(2, at));
-            }
+            at += self.length_at(at, in_fields)?;
+            in_fields = byte != b'*' && (in_fields || (before_fields && byte == b','));
+            before_fields = before_fields && byte != b'*';
             line_end_permitted = byte == b'*' || (byte == b',' && in_macro);
         }
         Err(self.ended())
@@ -137,7 +156,7 @@ mod tests {
 
     /// The commands before the first refusal, and that refusal.
     fn scanned(file: &[u8]) -> (usize, Refusal) {
-        let mut scanner = Scanner::without_limit(file);
+        let mut scanner = Scanner::without_limit(file, Terms::PLAIN);
         let mut commands = 0;
         loop {
             match scanner.next() {
@@ -167,9 +186,33 @@ mod tests {
     }
 
     #[test]
+    fn letters_stand_in_fields_and_comments() {
+        let terms = Terms { letters: Letters::New, ..Terms::PLAIN };
+        let refused = |file: &[u8]| {
+            let mut scanner = Scanner::without_limit(file, terms);
+            loop {
+                if let Err(refusal) = scanner.next() {
+                    return (refusal.number, refusal.place);
+                }
+            }
+        };
+        assert_eq!(refused("%TOa,é,é*%G04é*G04 é*".as_bytes()), (3, 25));
+        assert_eq!(refused("%TOé,é*%".as_bytes()), (2, 3));
+        assert_eq!(refused("%TOa,b*é%".as_bytes()), (2, 7));
+        assert_eq!(refused("%TO*,é%".as_bytes()), (2, 5));
+        assert_eq!(refused("%TDa,é%".as_bytes()), (2, 5));
+        assert_eq!(refused("%AMa*0,é*%".as_bytes()), (2, 7));
+        assert_eq!(refused("G01é*".as_bytes()), (2, 3));
+        assert_eq!(refused(b"G04 \xc3*"), (2, 4));
+        assert_eq!(refused(b"%TFa,\xc3\xa9\xa9*%"), (2, 7));
+        assert_eq!(refused(b"G04 \xc3\xa9\x7f*"), (2, 6));
+        assert_eq!(refused(b"G04 \xc3"), (2, 4));
+    }
+
+    #[test]
     fn the_first_byte_after_m02_decides() {
         let tail = |file| {
-            let mut scanner = Scanner::without_limit(file);
+            let mut scanner = Scanner::without_limit(file, Terms::PLAIN);
             scanner.next().expect("M02");
             scanner.tail()
         };

@@ -2,11 +2,12 @@
 
 use crate::md5;
 use crate::scan::{is_line_end, Raw, Refusal, Scanner};
+use crate::terms::Terms;
 
 /// The digest, or 2 and 3 as in the reading, then 25, then 24, "both at M02". No other number is
 /// given (decisions 116 and 117).
-pub fn signature(file: &[u8]) -> Result<[u8; 16], Refusal> {
-    let mut scanner = Scanner::without_limit(file);
+pub fn signature(file: &[u8], terms: Terms) -> Result<[u8; 16], Refusal> {
+    let mut scanner = Scanner::without_limit(file, terms);
     let mut before = None;
     let end = loop {
         let raw = scanner.next()?;
@@ -53,6 +54,10 @@ pub fn digest_before(file: &[u8], place: usize) -> [u8; 16] {
 mod tests {
     use super::*;
 
+    fn verified(file: &[u8]) -> Result<[u8; 16], Refusal> {
+        signature(file, Terms::PLAIN)
+    }
+
     fn signed(text: &str, md5: &str) -> Vec<u8> {
         format!("{text}%TF.MD5,{md5}*\r\n%\nM02*\n").into_bytes()
     }
@@ -61,21 +66,21 @@ mod tests {
     fn line_ends_do_not_count() {
         let text = "G04 one*\r\n%MOMM*%\n";
         let digest = md5::hex(&md5::digest(b"G04 one*%MOMM*%"));
-        assert!(signature(&signed(text, &digest)).is_ok());
-        assert!(signature(&signed(text, &digest.to_uppercase())).is_ok());
+        assert!(verified(&signed(text, &digest)).is_ok());
+        assert!(verified(&signed(text, &digest.to_uppercase())).is_ok());
         let wrong = signed(text, &"0".repeat(32));
-        assert_eq!(signature(&wrong).err(), Some(Refusal::new(24, wrong.len() - 5)));
+        assert_eq!(verified(&wrong).err(), Some(Refusal::new(24, wrong.len() - 5)));
         for digits in [&digest[1..], "", &(digest.clone() + "0"), &(digest.clone() + ",1")] {
             let file = signed(text, digits);
-            assert_eq!(signature(&file).err(), Some(Refusal::new(25, file.len() - 5)));
+            assert_eq!(verified(&file).err(), Some(Refusal::new(25, file.len() - 5)));
         }
     }
 
     #[test]
     fn unknown_commands_are_stepped_over() {
-        assert_eq!(signature(b"M02*").err(), Some(Refusal::new(25, 0)));
-        assert_eq!(signature(b"Q*M02*x").err(), Some(Refusal::new(25, 2)));
-        assert_eq!(signature(b"Q*M02*\n\x01").err(), Some(Refusal::new(2, 7)));
-        assert_eq!(signature(b"Q*").err(), Some(Refusal::new(3, 2)));
+        assert_eq!(verified(b"M02*").err(), Some(Refusal::new(25, 0)));
+        assert_eq!(verified(b"Q*M02*x").err(), Some(Refusal::new(25, 2)));
+        assert_eq!(verified(b"Q*M02*\n\x01").err(), Some(Refusal::new(2, 7)));
+        assert_eq!(verified(b"Q*").err(), Some(Refusal::new(3, 2)));
     }
 }

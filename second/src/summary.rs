@@ -137,16 +137,18 @@ fn repeated(row: &Row, grid: &Grid) -> Row {
 
 #[cfg(test)]
 mod tests {
-    use super::*;
     use crate::generator;
     use crate::rules::read;
     use crate::sheet::Room;
+    use crate::terms::Terms;
 
     #[test]
     fn both_ways_agree_and_the_counts_add_up() {
         let mut compared = 0;
         for index in 0..2000 {
-            let Ok(sheet) = read(&generator::file(11, index), Room::UNLIMITED) else {
+            let Ok(sheet) =
+                read(&generator::file(11, index, Terms::PLAIN), Terms::PLAIN, Room::UNLIMITED)
+            else {
                 continue;
             };
             let summary = sheet.summary_by_blocks();

@@ -2,11 +2,12 @@
 
 use super::random::Random;
 use super::writer::Writer;
+use crate::terms::Terms;
 
-pub fn whole(mut random: Random) -> Vec<u8> {
+pub fn whole(mut random: Random, terms: Terms) -> Vec<u8> {
     let own = Random::new(random.next(), 0);
     let panel = random.percent(30);
-    let mut file = if panel { Writer::panel(own) } else { Writer::whole(own) };
+    let mut file = if panel { Writer::panel(own, terms) } else { Writer::whole(own, terms) };
     for _ in 0..=random.below(2) {
         damage(&mut random, &mut file);
     }

@@ -3,6 +3,7 @@
 
 mod aimed;
 mod damage;
+mod letters;
 mod questions;
 mod random;
 mod soup;
@@ -15,6 +16,7 @@ use std::io;
 use std::path::Path;
 
 use crate::scan::LONGEST_FILE;
+use crate::terms::{Letters, Terms};
 pub use questions::questions;
 use random::Random;
 use writer::Writer;
@@ -23,33 +25,38 @@ use writer::Writer;
 const GIANT_EVERY: u64 = 10_000;
 
 /// Writes so many numbered files into the folder.
-pub fn make(seed: u64, count: u64, folder: &Path) -> io::Result<()> {
+pub fn make(seed: u64, count: u64, folder: &Path, terms: Terms) -> io::Result<()> {
     fs::create_dir_all(folder)?;
     for index in 0..count {
-        fs::write(folder.join(format!("{index:07}.gbr")), file(seed, index))?;
+        fs::write(folder.join(format!("{index:07}.gbr")), file(seed, index, terms))?;
     }
     Ok(())
 }
 
-/// The file of that number.
-pub fn file(seed: u64, index: u64) -> Vec<u8> {
+/// The file of that number, for a reading under those terms.
+pub fn file(seed: u64, index: u64, terms: Terms) -> Vec<u8> {
     let mut random = Random::new(seed, index);
     if index % GIANT_EVERY == GIANT_EVERY - 1 {
-        return giant(random, (index / GIANT_EVERY) as usize);
+        return giant(random, (index / GIANT_EVERY) as usize, terms);
     }
-    match random.below(100) {
-        0..=24 => Writer::whole(random),
-        25..=37 => Writer::panel(random),
-        38..=51 => damage::whole(random),
-        52..=79 => aimed::whole(random),
-        80..=92 => wild::whole(random),
+    let mut own = Random::new(seed, !index);
+    let mut file = match random.below(100) {
+        0..=24 => Writer::whole(random, terms),
+        25..=37 => Writer::panel(random, terms),
+        38..=51 => damage::whole(random, terms),
+        52..=79 => aimed::whole(random, terms),
+        80..=92 => wild::whole(random, terms),
         _ => soup::whole(random),
+    };
+    if terms.letters == Letters::New && own.percent(40) {
+        letters::put_one(&mut own, &mut file);
     }
+    file
 }
 
 /// 1, or just not: a file that keeps the rules, filled up with LF.
-fn giant(random: Random, which: usize) -> Vec<u8> {
-    let mut file = Writer::whole(random);
+fn giant(random: Random, which: usize, terms: Terms) -> Vec<u8> {
+    let mut file = Writer::whole(random, terms);
     file.resize(LONGEST_FILE + 1 - which % 2, b'\n');
     file
 }
@@ -60,13 +67,30 @@ mod tests {
     use crate::rules::read;
     use crate::sheet::{Item, Room};
 
+    const TERMS: [Terms; 2] = [Terms::PLAIN, Terms { letters: Letters::New, ..Terms::PLAIN }];
+
     #[test]
     fn files_of_the_writer_keep_the_rules() {
         for index in 0..300 {
             for make in [Writer::whole, Writer::panel] {
-                let file = make(Random::new(7, index));
-                let refusal = read(&file, Room::UNLIMITED).err();
-                assert_eq!(refusal, None, "{}", String::from_utf8_lossy(&file));
+                for terms in TERMS {
+                    let file = make(Random::new(7, index), terms);
+                    let refusal = read(&file, terms, Room::UNLIMITED).err();
+                    assert_eq!(refusal, None, "{}", String::from_utf8_lossy(&file));
+                }
+            }
+        }
+    }
+
+    /// What the old rule of letters accepts, the new one accepts with the same sheet; files of
+    /// bytes below 127 the other way round too.
+    #[test]
+    fn the_rules_of_letters_share_their_sheets() {
+        for index in 0..600 {
+            let file = file(5, index, TERMS[1]);
+            let [old, new] = TERMS.map(|terms| read(&file, terms, Room::UNLIMITED));
+            if old.is_ok() || file.iter().all(|byte| *byte < 127) {
+                assert_eq!(old, new);
             }
         }
     }
@@ -75,7 +99,8 @@ mod tests {
     #[test]
     fn counting_finds_what_the_expansion_writes_out() {
         for index in 0..600 {
-            let Ok(sheet) = read(&file(3, index), Room::UNLIMITED) else {
+            let Ok(sheet) = read(&file(3, index, Terms::PLAIN), Terms::PLAIN, Room::UNLIMITED)
+            else {
                 continue;
             };
             let mut items: Vec<Item> = Vec::new();

@@ -6,19 +6,20 @@ use crate::command::{self, Command};
 use crate::rules::read;
 use crate::scan::Scanner;
 use crate::sheet::{Room, Sheet};
+use crate::terms::Terms;
 
-pub fn questions(seed: u64, file: &[u8]) -> Vec<String> {
+pub fn questions(seed: u64, file: &[u8], terms: Terms) -> Vec<String> {
     let mut random = Random::new(seed, file.len() as u64);
     let mut questions = vec![String::from("sheet"), String::from("numbers")];
-    if let Ok(sheet) = read(file, Room::UNLIMITED) {
+    if let Ok(sheet) = read(file, terms, Room::UNLIMITED) {
         rooms(&mut random, &sheet.used, &mut questions);
         items(&mut random, &sheet, &mut questions);
         addresses(&mut random, &sheet, &mut questions);
         summaries(&sheet, &mut questions);
     }
-    attributes(&mut random, file, &mut questions);
+    attributes(&mut random, file, terms, &mut questions);
     questions.push(String::from("verify"));
-    questions
+    questions.iter().map(|question| question.clone() + &terms.words()).collect()
 }
 
 fn rooms(random: &mut Random, used: &Room, questions: &mut Vec<String>) {
@@ -80,10 +81,10 @@ fn summaries(sheet: &Sheet, questions: &mut Vec<String>) {
 }
 
 /// Places and names as they stand in the file, and some that do not.
-fn attributes(random: &mut Random, file: &[u8], questions: &mut Vec<String>) {
+fn attributes(random: &mut Random, file: &[u8], terms: Terms, questions: &mut Vec<String>) {
     let mut places = vec![0, file.len()];
     let mut names = vec![String::from("a")];
-    if let Ok(mut scanner) = Scanner::new(file) {
+    if let Ok(mut scanner) = Scanner::new(file, terms) {
         while let Ok(raw) = scanner.next() {
             places.push(raw.place);
             match command::parse(&raw) {

@@ -5,10 +5,11 @@ use super::random::Random;
 use super::text;
 use super::writer::Writer;
 use crate::number::ONE;
+use crate::terms::Terms;
 
 /// A file of steps that keep the rules, with wild commands between them.
-pub fn whole(random: Random) -> Vec<u8> {
-    let mut writer = Writer::new(random);
+pub fn whole(random: Random, terms: Terms) -> Vec<u8> {
+    let mut writer = Writer::new(random, terms);
     if writer.random.percent(80) {
         writer.header();
     }

@@ -9,12 +9,13 @@ mod places;
 
 use super::random::Random;
 use super::writer::Writer;
+use crate::terms::Terms;
 
 /// The numbers that a file of a few thousand bytes can be aimed at, room aside.
 pub const AIMS: [u32; 18] = [2, 3, 4, 5, 6, 7, 8, 9, 10, 11, 12, 13, 14, 15, 16, 18, 19, 29];
 
-pub fn whole(random: Random) -> Vec<u8> {
-    let mut writer = Writer::new(random);
+pub fn whole(random: Random, terms: Terms) -> Vec<u8> {
+    let mut writer = Writer::new(random, terms);
     let number = writer.random.pick(&AIMS);
     if number == 6 {
         return places::header(writer);

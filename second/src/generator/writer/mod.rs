@@ -7,12 +7,13 @@ mod structure;
 use std::collections::HashSet;
 
 use super::random::Random;
-use super::text;
+use super::{letters, text};
 use crate::macros::Macro;
 use crate::md5;
 use crate::number::ONE;
 use crate::sheet::Point;
 use crate::signature::digest_before;
+use crate::terms::{Letters, Terms};
 
 const MOST_ITEMS: u128 = 1_000_000_000_000;
 
@@ -73,6 +74,7 @@ const DEEDS: [Deed; 14] = [
 
 pub struct Writer {
     pub random: Random,
+    pub terms: Terms,
     pub file: Vec<u8>,
     /// What stands after each command; empty for a mixture.
     line_end: &'static str,
@@ -96,13 +98,14 @@ pub struct Writer {
 }
 
 impl Writer {
-    pub fn new(mut random: Random) -> Writer {
+    pub fn new(mut random: Random, terms: Terms) -> Writer {
         let line_end = random.pick(&["", "\n", "\n", "\r\n"]);
         let mixed_line_ends = random.percent(15);
         let weights = std::array::from_fn(|_| random.pick(&[0, 1, 1, 2, 4, 8]));
         let integer_digits = random.between(1, 6) as usize;
         Writer {
             random,
+            terms,
             file: Vec::new(),
             line_end,
             mixed_line_ends,
@@ -126,8 +129,8 @@ impl Writer {
     }
 
     /// A whole file that keeps the rules.
-    pub fn whole(random: Random) -> Vec<u8> {
-        let mut writer = Writer::new(random);
+    pub fn whole(random: Random, terms: Terms) -> Vec<u8> {
+        let mut writer = Writer::new(random, terms);
         let most = writer.random.pick(&[10, 40, 40, 120]);
         let steps = writer.random.below(most);
         writer.steps(steps);
@@ -136,8 +139,8 @@ impl Writer {
     }
 
     /// A file of blocks within blocks, each flashing some before it, and a repeat of the last.
-    pub fn panel(random: Random) -> Vec<u8> {
-        let mut writer = Writer::new(random);
+    pub fn panel(random: Random, terms: Terms) -> Vec<u8> {
+        let mut writer = Writer::new(random, terms);
         for _ in 0..writer.random.between(1, 8) {
             writer.open_block();
             for _ in 0..writer.random.below(6) {
@@ -282,8 +285,20 @@ impl Writer {
         }
     }
 
+    /// A field or a comment's text, with letters under the new rule.
+    pub fn field(&mut self, most: usize) -> String {
+        let mut text = text::string(&mut self.random, most);
+        if self.terms.letters == Letters::New {
+            for _ in 0..self.random.below(3) {
+                text.push(letters::letter(&mut self.random));
+                text += &text::string(&mut self.random, 2);
+            }
+        }
+        text
+    }
+
     fn comment(&mut self) {
-        let text = text::string(&mut self.random, 12);
+        let text = self.field(12);
         self.word(&format!("G04{text}"));
     }
 }

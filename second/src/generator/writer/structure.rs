@@ -153,7 +153,7 @@ impl Writer {
         };
         let value = match self.random.below(4) {
             0 => String::new(),
-            _ => format!(",{}", text::string(&mut self.random, 8)),
+            _ => format!(",{}", self.field(8)),
         };
         match self.random.below(8) {
             0 if self.file_attributes.insert(name.clone()) => {
