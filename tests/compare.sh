@@ -1,7 +1,7 @@
 #!/usr/bin/env bash
 # The proved reader against the second one. Through the listing: the cases and the real layers that stand beside the repository, where they
 # do, and generated files. Through the C host's batch: all of these whatever their size, more generated files, and small rooms. Through its
-# other modes, and the program verify: questions about some generated files. Then again under the other rule of letters.
+# other modes, and the program verify: questions about some generated files. Then again under the other rule of letters and the old edition.
 set -u
 cd "$(dirname "$0")/.." || exit 2
 export CARGO_NET_OFFLINE=true
@@ -14,7 +14,7 @@ mapfile -t verify < <(./run --say verify)
 [ ${#listing[@]} -gt 0 ] && [ ${#imager[@]} -gt 0 ] && [ ${#verify[@]} -gt 0 ] || exit 1
 room=$(mktemp -d)
 trap 'rm -rf "$room"' EXIT
-mkdir "$room/layers" "$room/generated"
+mkdir "$room/generated"
 faults=0
 
 # Counts a part whose last line, or only one, must say that none differ.
@@ -43,7 +43,7 @@ by_listing() { # WHAT
 }
 
 # Both batches of the files named in LIST.
-by_batch() { # WHAT LIST [--room E,A,M,N] [--letters new]
+by_batch() { # WHAT LIST [--room E,A,M,N] [TERMS]
     local what=$1 list=$2
     shift 2
     "${imager[@]}" batch "$@" <"$list" >"$room/imager"
@@ -56,7 +56,7 @@ by_batch() { # WHAT LIST [--room E,A,M,N] [--letters new]
 
 # What the second reader asks about each file named on standard input, answered by both; the sample host ends with 2 where it does not know
 # the question.
-by_question() { # WHAT [--letters new]
+by_question() { # WHAT [TERMS]
     local what=$1 file words program status agree=0 differ=0 unknown=0
     shift
     while read -r file; do
@@ -89,31 +89,41 @@ knows() { # WORDS
 
 # Whether the program verify goes by them.
 verify_knows() { # WORDS
-    [ "$("${verify[@]}" "$@" <"$room/letters")" = "$("$second" verify "$@" <"$room/letters")" ]
+    local file
+    for file in "$room/letters" "$room/short_end"; do
+        [ "$("${verify[@]}" "$@" <"$file")" = "$("$second" verify "$@" <"$file")" ] || return 1
+    done
 }
 printf 'G04 \303\251*M02*' >"$room/letters"
+printf 'M2*' >"$room/short_end"
 
 tell "tests/listing, by the second reader" "$("$second" check-cases tests/listing | tail -n 1)"
 
 # What stands beside the repository goes into the room, where it is there.
 tests/unpack "$room" || exit 1
-layers=../shared/corpus/kicad-layers.tgz
-if [ -f "$layers" ]; then
-    tar xzf "$layers" -C "$room/layers" || exit 1
-else
-    echo "compare: no $layers, none tried"
-fi
+for layers in kicad-layers old-layers; do
+    archive=../shared/corpus/$layers.tgz
+    mkdir "$room/$layers"
+    if [ -f "$archive" ]; then
+        tar xzf "$archive" -C "$room/$layers" || exit 1
+    else
+        echo "compare: no $archive, none tried"
+    fi
+done
 find "$room/cases" "$room/cases-02" -name '*.gbr' | sort >"$room/all_cases"
-find "$room/layers" -name '*.gbr' | sort >"$room/all_layers"
+find "$room/kicad-layers" -name '*.gbr' | sort >"$room/all_layers"
+find "$room/old-layers" -name '*.gbr' | sort >"$room/all_old_layers"
 "$second" make 7 4000 "$room/generated"
 find "$room/generated" -name '*.gbr' | sort >"$room/all_generated"
 
 # Every real layer keeps the rules.
 tell "layers, by the second reader" "$("$second" batch <"$room/all_layers" | awk -F '[\t ]' '$2 == "sheet" { n++ } END { print n + 0 " accepted, " NR - n " differ" }')"
+# Every one of the old manner but one keeps the rules of the old edition; that one has a number that is too long.
+tell "old layers, by the second reader" "$("$second" batch --edition old <"$room/all_old_layers" | awk -F '[\t ]' '$2 == "sheet" { n++ } $3 == 5 { m++ } END { print n + 0 " accepted, " m + 0 " refused with 5, " NR - n - (m == 1) " differ" }')"
 
 # A case without an expected listing is one of questions; most of those have more items than a listing could print.
 for file in "$room"/cases/*.gbr; do [ ! -f "${file%.gbr}.expected" ] || echo "$file"; done | by_listing "cases"
-find "$room/layers" -name '*.gbr' -size -65537c | sort | by_listing "layers"
+find "$room/kicad-layers" -name '*.gbr' -size -65537c | sort | by_listing "layers"
 # Generated files of up to 2,000 items.
 head -n 1000 "$room/all_generated" | "$second" batch | awk -F '[\t ]' '$2 == "refused" || $4 <= 2000 { print $1 }' | by_listing "generated"
 
@@ -123,7 +133,7 @@ by_batch "generated" "$room/all_generated"
 by_batch "generated" "$room/all_generated" --room 3,2,1,4
 by_batch "generated" "$room/all_generated" --room 8,3,1,10
 awk 'NR % 80 == 0' "$room/all_generated" | by_question "generated"
-for terms in "--letters new"; do
+for terms in "--letters new" "--edition old" "--edition old --letters new"; do
     read -r -a terms <<<"$terms"
     if ! knows "${terms[@]}"; then
         echo "compare: the sample host does not know ${terms[*]} yet"
@@ -135,6 +145,7 @@ for terms in "--letters new"; do
     by_batch "generated" "$room/all_generated" "${terms[@]}"
     by_batch "generated" "$room/all_generated" --room 3,2,1,4 "${terms[@]}"
     awk 'NR % 80 == 0' "$room/all_generated" | by_question "generated" "${terms[@]}"
+    case ${terms[*]} in *"--edition old"*) by_batch "old layers" "$room/all_old_layers" "${terms[@]}" ;; esac
 done
 # Files of 16,777,217 bytes are tried elsewhere (1).
 for number in 2 3 4 5 6 7 8 9 10 11 12 13 14 15 16 17 18 19 29; do

@@ -1,6 +1,6 @@
 //! Attributes: document 01, "Attributes" in "State".
 
-use crate::command::{self, Action, Attribute, Command};
+use crate::command::{self, Action, Attribute, Code, Command};
 use crate::scan::{Raw, Refusal, Scanner};
 use crate::terms::Terms;
 
@@ -29,8 +29,8 @@ struct Region {
 }
 
 /// The attribute of that name held at the command that begins at the place, or a number: "1 to 4
-/// and 18 as reading does, then 22, then 23". The other rules of the reading are passed over, and
-/// the first M02 ends the walk (decision 108).
+/// and 18 as reading does, then 22, then 23"; 30 too in the old edition. The other rules of the
+/// reading are passed over, and the first M02 ends the walk (decision 108).
 pub fn attribute(
     file: &[u8],
     terms: Terms,
@@ -45,7 +45,13 @@ pub fn attribute(
     let mut asked = None;
     loop {
         let raw = scanner.next().map_err(number_of)?;
-        let command = command::parse(&raw).ok_or(4u32)?;
+        let command = command::parse(&raw, terms.edition)?;
+        // In the old edition a code may stand before an operation: it counts first.
+        region = match code_of(&command) {
+            Some(Code::RegionBegin) => Some(Region { carried: current, begun: false }),
+            Some(Code::RegionEnd) => None,
+            _ => region,
+        };
         if raw.place == place {
             // Commands strictly before it count, not itself (decision 110).
             asked = Some(match region {
@@ -56,8 +62,6 @@ pub fn attribute(
             });
         }
         region = match (&command, region) {
-            (Command::RegionBegin, _) => Some(Region { carried: current, begun: false }),
-            (Command::RegionEnd, _) => None,
             (Command::DeleteAttribute(deleted), Some(r)) if deleted.is_none_or(|d| d == name) => {
                 Some(Region { carried: None, ..r })
             }
@@ -83,6 +87,14 @@ pub fn attribute(
         }
     }
     asked.ok_or(22u32)?.ok_or(23)
+}
+
+fn code_of(command: &Command) -> Option<Code> {
+    match command {
+        Command::Code(code) => Some(*code),
+        Command::Operation(operation) => operation.code,
+        _ => None,
+    }
 }
 
 fn acts(command: &Command, action: Action) -> bool {

@@ -1,8 +1,12 @@
 //! The commands and their form: document 01, "What is read" and "Form". What has no form is 4.
+//! The old edition's are those of request [9] of document 02, "all else is as in the newer edition".
 
 use crate::macros::{self, Macro};
-use crate::number::{aperture_number, coordinate, decimal, is_name, whole, Coordinate, Number};
+use crate::number::{
+    aperture_number, coordinate, decimal, is_name, whole, Coordinate, Format, Number,
+};
 use crate::scan::{is_line_end, Raw};
+use crate::terms::Edition;
 
 /// "More than 64 parameters in an AD are 5", for every template (decision 45).
 const MOST_PARAMETERS: usize = 64;
@@ -38,9 +42,34 @@ pub enum Action {
     Flash,
 }
 
+#[derive(Clone, Copy, PartialEq, Eq, Debug)]
+pub enum Quadrant {
+    /// G74, of the old edition alone.
+    Single,
+    /// G75
+    Multi,
+}
+
+/// A G code that may stand alone, or in the old edition "before coordinates".
+#[derive(Clone, Copy, PartialEq, Eq, Debug)]
+pub enum Code {
+    Mode(Mode),
+    Quadrant(Quadrant),
+    RegionBegin,
+    RegionEnd,
+    /// G70 and G71
+    Unit(Unit),
+    /// G91, or G90
+    Notation {
+        incremental: bool,
+    },
+}
+
 /// "Operations: X and Y optional, each in that order; for D01 only, I and J together after them."
 #[derive(Clone, Copy, PartialEq, Eq, Debug)]
 pub struct Operation {
+    /// A G code before it.
+    pub code: Option<Code>,
     pub action: Action,
     pub x: Option<Coordinate>,
     pub y: Option<Coordinate>,
@@ -57,15 +86,15 @@ pub struct Attribute<'a> {
 #[derive(Clone, PartialEq, Eq, Debug)]
 pub enum Command<'a> {
     Comment,
-    Mode(Mode),
-    G75,
-    RegionBegin,
-    RegionEnd,
+    Code(Code),
+    /// M00 and M01
+    Pause,
     End,
     Select(Number),
     Operation(Operation),
     Format {
-        integer_digits: usize,
+        format: Format,
+        incremental: bool,
     },
     Unit(Unit),
     Define {
@@ -96,16 +125,34 @@ pub enum Command<'a> {
     DeleteAttribute(Option<&'a [u8]>),
 }
 
-/// The command, or nothing where it is "unknown or not of its form".
-pub fn parse<'a>(raw: &Raw<'a>) -> Option<Command<'a>> {
+/// The command; 4 where it is "unknown or not of its form"; 30 for what the old edition does not
+/// read of the old book.
+pub fn parse<'a>(raw: &Raw<'a>, edition: Edition) -> Result<Command<'a>, u32> {
     if !raw.extended {
-        return word(raw.text);
+        return word(raw.text, edition).ok_or(4);
     }
     if raw.text.starts_with(b"AM") {
-        return macros::parse(raw.text).map(Command::Macro);
+        return macros::parse(raw.text).map(Command::Macro).ok_or(4);
     }
-    extended(single_block(raw.text)?)
+    let text = single_block(raw.text).ok_or(4u32)?;
+    if edition == Edition::Old && is_unread(text) {
+        return Err(30);
+    }
+    extended(text, edition).ok_or(4)
 }
+
+/// "30 for its AS, MI, OF, SF, IP, IR, KO, LN and SM, or 7 places".
+fn is_unread(text: &[u8]) -> bool {
+    match text {
+        [b'F', b'S', places @ ..] => {
+            old_format(places).is_some_and(|(format, _)| format.integers.max(format.decimals) == 7)
+        }
+        [first, second, ..] => UNREAD.contains(&&[*first, *second]),
+        _ => false,
+    }
+}
+
+const UNREAD: [&[u8; 2]; 9] = [b"AS", b"MI", b"OF", b"SF", b"IP", b"IR", b"KO", b"LN", b"SM"];
 
 /// An extended command but AM is one block: no `*` but the one at its end, after which only CR and
 /// LF stand (decisions 3, 6 and 31).
@@ -119,21 +166,89 @@ fn single_block(text: &[u8]) -> Option<&[u8]> {
     }
 }
 
-fn word(text: &[u8]) -> Option<Command<'static>> {
+fn word(text: &[u8], edition: Edition) -> Option<Command<'static>> {
     // A `%` inside a word command makes it 4, in G04 too (decisions 4 and 18).
     if text.contains(&b'%') {
         return None;
     }
+    if is_comment(text, edition) {
+        return Some(Command::Comment);
+    }
+    if is_end(text, edition) {
+        return Some(Command::End);
+    }
+    match edition {
+        Edition::New => match code(text) {
+            Some(code) => Some(Command::Code(code)),
+            None => operation(text, edition).or_else(|| select(text)),
+        },
+        Edition::Old => old_word(text),
+    }
+}
+
+/// Whether it begins `G04`, or in the old edition `G4` and no digit.
+pub fn is_comment(text: &[u8], edition: Edition) -> bool {
     match text {
-        [b'G', b'0', b'4', ..] => Some(Command::Comment),
-        b"G01" => Some(Command::Mode(Mode::Linear)),
-        b"G02" => Some(Command::Mode(Mode::Clockwise)),
-        b"G03" => Some(Command::Mode(Mode::Counterclockwise)),
-        b"G75" => Some(Command::G75),
-        b"G36" => Some(Command::RegionBegin),
-        b"G37" => Some(Command::RegionEnd),
-        b"M02" => Some(Command::End),
-        _ => operation(text).or_else(|| select(text)),
+        [b'G', b'0', b'4', ..] => true,
+        [b'G', b'4', b'0'..=b'9', ..] => false,
+        [b'G', b'4', ..] => edition == Edition::Old,
+        _ => false,
+    }
+}
+
+/// M02, in the old edition M2 too.
+pub fn is_end(text: &[u8], edition: Edition) -> bool {
+    text == b"M02" || (edition == Edition::Old && text == b"M2")
+}
+
+fn code(text: &[u8]) -> Option<Code> {
+    match text {
+        b"G01" => Some(Code::Mode(Mode::Linear)),
+        b"G02" => Some(Code::Mode(Mode::Clockwise)),
+        b"G03" => Some(Code::Mode(Mode::Counterclockwise)),
+        b"G75" => Some(Code::Quadrant(Quadrant::Multi)),
+        b"G36" => Some(Code::RegionBegin),
+        b"G37" => Some(Code::RegionEnd),
+        _ => None,
+    }
+}
+
+/// "one- or two-digit codes; a G code before coordinates; G54, G70, G71, G90, G91; M00 and M01".
+fn old_word(text: &[u8]) -> Option<Command<'static>> {
+    let Some(after) = text.strip_prefix(b"G") else {
+        return match text {
+            b"M0" | b"M00" | b"M1" | b"M01" => Some(Command::Pause),
+            _ => operation(text, Edition::Old).or_else(|| select(text)),
+        };
+    };
+    let digits = after.iter().take_while(|byte| byte.is_ascii_digit()).count();
+    let (number, rest) = after.split_at(digits);
+    if number == b"54" {
+        return select(rest);
+    }
+    let code = old_code(number)?;
+    if rest.is_empty() {
+        return Some(Command::Code(code));
+    }
+    match operation(rest, Edition::Old)? {
+        Command::Operation(operation) => {
+            Some(Command::Operation(Operation { code: Some(code), ..operation }))
+        }
+        _ => None,
+    }
+}
+
+fn old_code(digits: &[u8]) -> Option<Code> {
+    match digits {
+        b"1" => code(b"G01"),
+        b"2" => code(b"G02"),
+        b"3" => code(b"G03"),
+        b"70" => Some(Code::Unit(Unit::Inch)),
+        b"71" => Some(Code::Unit(Unit::Mm)),
+        b"74" => Some(Code::Quadrant(Quadrant::Single)),
+        b"90" => Some(Code::Notation { incremental: false }),
+        b"91" => Some(Code::Notation { incremental: true }),
+        _ => code(&[b"G", digits].concat()),
     }
 }
 
@@ -143,11 +258,16 @@ fn select(text: &[u8]) -> Option<Command<'static>> {
     Some(Command::Select(aperture_number(digits)?))
 }
 
-fn operation(text: &[u8]) -> Option<Command<'static>> {
-    let (rest, action) = match text {
-        [rest @ .., b'D', b'0', b'1'] => (rest, Action::Draw),
-        [rest @ .., b'D', b'0', b'2'] => (rest, Action::Move),
-        [rest @ .., b'D', b'0', b'3'] => (rest, Action::Flash),
+fn operation(text: &[u8], edition: Edition) -> Option<Command<'static>> {
+    let (rest, digit) = match text {
+        [rest @ .., b'D', b'0', digit] => (rest, digit),
+        [rest @ .., b'D', digit] if edition == Edition::Old => (rest, digit),
+        _ => return None,
+    };
+    let action = match digit {
+        b'1' => Action::Draw,
+        b'2' => Action::Move,
+        b'3' => Action::Flash,
         _ => return None,
     };
     let (x, rest) = field(rest, b'X')?;
@@ -162,7 +282,7 @@ fn operation(text: &[u8]) -> Option<Command<'static>> {
         (Some(i), Some(j)) if action == Action::Draw => Some((i, j)),
         _ => return None,
     };
-    Some(Command::Operation(Operation { action, x, y, offset }))
+    Some(Command::Operation(Operation { code: None, action, x, y, offset }))
 }
 
 /// The coordinate after the letter, if the text begins with it, and what follows.
@@ -175,10 +295,10 @@ fn field(text: &[u8], letter: u8) -> Option<(Option<Coordinate>, &[u8])> {
     Some((Some(coordinate(number)?), rest))
 }
 
-fn extended(text: &[u8]) -> Option<Command<'_>> {
+fn extended(text: &[u8], edition: Edition) -> Option<Command<'_>> {
     let (code, data) = text.split_at_checked(2)?;
     match code {
-        b"FS" => format(data),
+        b"FS" => format(data, edition),
         b"MO" => match data {
             b"MM" => Some(Command::Unit(Unit::Mm)),
             b"IN" => Some(Command::Unit(Unit::Inch)),
@@ -212,14 +332,35 @@ fn extended(text: &[u8]) -> Option<Command<'_>> {
     }
 }
 
-/// "FS is `FSLAXn6Yn6`, both n equal, 1 to 6"; all else is 4 (decision 30).
-fn format(data: &[u8]) -> Option<Command<'_>> {
-    match data {
-        [b'L', b'A', b'X', n, b'6', b'Y', m, b'6'] if n == m && (b'1'..=b'6').contains(n) => {
-            Some(Command::Format { integer_digits: usize::from(n - b'0') })
-        }
-        _ => None,
+/// "FS is `FSLAXn6Yn6`, both n equal, 1 to 6"; all else is 4 (decision 30). The old edition's has
+/// "leading or trailing zeros omitted, absolute or incremental".
+fn format(data: &[u8], edition: Edition) -> Option<Command<'_>> {
+    let (format, incremental) = old_format(data)?;
+    let is_new = !format.trailing
+        && !incremental
+        && format.decimals == 6
+        && (1..=6).contains(&format.integers);
+    (edition == Edition::Old || is_new).then_some(Command::Format { format, incremental })
+}
+
+/// Places 0 to 7 "with at least one in all", both axes alike; and whether it is I.
+fn old_format(data: &[u8]) -> Option<(Format, bool)> {
+    let [zeros, notation, b'X', n, m, b'Y', n2, m2] = data else {
+        return None;
+    };
+    let trailing = one_of(*zeros, b'L', b'T')?;
+    let incremental = one_of(*notation, b'A', b'I')?;
+    let is_place = |digit: &u8| (b'0'..=b'7').contains(digit);
+    if [n, m] != [n2, m2] || !is_place(n) || !is_place(m) || [n, m] == [&b'0', &b'0'] {
+        return None;
     }
+    let (integers, decimals) = (usize::from(n - b'0'), usize::from(m - b'0'));
+    Some((Format { integers, decimals, trailing }, incremental))
+}
+
+/// Which of two letters it is: false for the first, true for the second.
+fn one_of(letter: u8, first: u8, second: u8) -> Option<bool> {
+    (letter == first || letter == second).then_some(letter == second)
 }
 
 /// `ADDn` name, then the parameters: after a comma, parted by `X` (decision 34).
@@ -313,12 +454,62 @@ impl Command<'_> {
 mod tests {
     use super::*;
 
-    fn of(text: &str) -> Option<Command<'_>> {
+    fn parsed(text: &str, edition: Edition) -> Result<Command<'_>, u32> {
         let bytes = text.as_bytes();
         match bytes.strip_prefix(b"%") {
-            Some(rest) => parse(&Raw { place: 0, extended: true, text: rest }),
-            None => parse(&Raw { place: 0, extended: false, text: bytes }),
+            Some(rest) => parse(&Raw { place: 0, extended: true, text: rest }, edition),
+            None => parse(&Raw { place: 0, extended: false, text: bytes }, edition),
         }
+    }
+
+    fn of(text: &str) -> Option<Command<'_>> {
+        parsed(text, Edition::New).ok()
+    }
+
+    fn refused_by_old(text: &str, number: u32) {
+        assert_eq!(parsed(text, Edition::Old), Err(number), "{text}");
+    }
+
+    #[test]
+    fn the_old_edition_has_short_codes_and_codes_before_operations() {
+        for text in ["G1", "G01", "G74", "G90", "G37"] {
+            assert!(matches!(parsed(text, Edition::Old), Ok(Command::Code(_))), "{text}");
+        }
+        for text in ["D1", "X1D2", "G1X1Y1D1", "G01D02", "G36D2", "G75I1J1D01", "G70X1D3"] {
+            assert!(matches!(parsed(text, Edition::Old), Ok(Command::Operation(_))), "{text}");
+        }
+        for (text, command) in [("G4", Command::Comment), ("G4x", Command::Comment)] {
+            assert_eq!(parsed(text, Edition::Old), Ok(command));
+        }
+        assert_eq!(parsed("G041", Edition::Old), Ok(Command::Comment));
+        for text in ["M0", "M00", "M1", "M01"] {
+            assert_eq!(parsed(text, Edition::Old), Ok(Command::Pause));
+        }
+        assert_eq!(parsed("M2", Edition::Old), Ok(Command::End));
+        assert_eq!(parsed("G54D010", Edition::Old), Ok(Command::Select(Number::Value(10))));
+        let bad = [
+            "G001", "G40", "G0", "G00", "G5", "G54", "G54D1", "G54D01", "G54X1D01", "G1G2X1D1",
+            "D0", "G1X1Y1", "G1D10", "D001", "X1D001", "M3", "M002", "G04%", "G55D10", "G1 X1D1",
+            "G1I1D1",
+        ];
+        for text in bad {
+            refused_by_old(text, 4);
+        }
+    }
+
+    #[test]
+    fn the_old_edition_leaves_parameters_unread() {
+        for text in
+            ["%IPPOS*", "%ASAXBY*", "%LNé*", "%SM*", "%KO*\n", "%FSLAX77Y77*", "%FSTIX07Y07*"]
+        {
+            refused_by_old(text, 30);
+        }
+        for text in
+            ["%IPPOS", "%IP*IP*", "%I*", "%FSLAX78Y78*", "%FSLAX00Y00*", "%FSLAX76Y67*", "%IJ*"]
+        {
+            refused_by_old(text, 4);
+        }
+        assert!(matches!(parsed("%FSTIX06Y06*", Edition::Old), Ok(Command::Format { .. })));
     }
 
     #[test]

@@ -93,7 +93,7 @@ pub fn census(folder: &Path, terms: Terms, room: Room, out: &mut dyn Write) -> i
         };
         *counts.entry(number).or_insert(0u64) += 1;
     }
-    for number in (0..=19).chain([29]) {
+    for number in (0..=19).chain(29..=31) {
         let count = counts.get(&number).copied().unwrap_or(0);
         writeln!(out, "{number}\t{count}")?;
     }

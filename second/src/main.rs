@@ -50,7 +50,7 @@ on folders and files:
   short N                                      every string of up to N bytes: how many, and a hash of the answers
   letters N                                    the same of every field of up to N bytes from 128 up, a line per length
   compare FILE FILE                            two outputs of batch, line by line
-Whatever reads, asks about or makes files takes --letters old|new too; old where not said.";
+Whatever reads, asks about or makes files takes --edition new|old and --letters old|new too; new and old where not said.";
 
 fn main() -> ExitCode {
     let words: Vec<String> = env::args().skip(1).collect();

@@ -6,8 +6,8 @@ pub const ONE: i64 = 1_000_000;
 /// "12 before FS".
 pub const DIGITS_BEFORE_FS: usize = 12;
 
-/// "a rounded size of 10^12 millionths or more" is 5.
-const LARGEST: i64 = 1_000_000_000_000;
+/// "a rounded size of 10^12 millionths or more" is 5, and in the old edition such a point.
+pub const LARGEST: i64 = 1_000_000_000_000;
 
 /// Aperture numbers end at 2,147,483,647.
 const LAST_APERTURE: u64 = 2_147_483_647;
@@ -123,8 +123,32 @@ pub fn unsigned_decimal(text: &[u8]) -> Option<Number> {
 #[derive(Clone, Copy, PartialEq, Eq, Debug)]
 pub struct Coordinate {
     pub digits: usize,
-    /// The value in millionths; 0 when there are more than 12 digits, which is 5 everywhere.
-    pub value: i64,
+    pub has_sign: bool,
+    /// The number as written; 0 when there are more than 12 digits, which is 5 everywhere.
+    written: i64,
+}
+
+impl Coordinate {
+    /// The value in millionths: under T the digits are first filled with zeros at the back.
+    pub fn value(self, format: Format) -> i64 {
+        let filled = if format.trailing { format.digits() - self.digits } else { 0 };
+        self.written * 10_i64.pow((filled + 6 - format.decimals) as u32)
+    }
+}
+
+/// What FS says of coordinates: the places before and behind the point, and whether it is the
+/// trailing zeros that are omitted. In the newer edition there are six decimals, and it is not.
+#[derive(Clone, Copy, PartialEq, Eq, Debug)]
+pub struct Format {
+    pub integers: usize,
+    pub decimals: usize,
+    pub trailing: bool,
+}
+
+impl Format {
+    pub fn digits(self) -> usize {
+        self.integers + self.decimals
+    }
 }
 
 /// "A coordinate has an optional sign and 1 to n+6 digits as written." Without a digit 4; how many
@@ -134,11 +158,10 @@ pub fn coordinate(text: &[u8]) -> Option<Coordinate> {
     if !all_digits(digits) {
         return None;
     }
-    if digits.len() > DIGITS_BEFORE_FS {
-        return Some(Coordinate { digits: digits.len(), value: 0 });
-    }
-    let value = value_of(digits);
-    Some(Coordinate { digits: digits.len(), value: if negative { -value } else { value } })
+    let size = if digits.len() > DIGITS_BEFORE_FS { 0 } else { value_of(digits) };
+    let written = if negative { -size } else { size };
+    let has_sign = digits.len() < text.len();
+    Some(Coordinate { digits: digits.len(), has_sign, written })
 }
 
 /// "Aperture numbers 10 to 2,147,483,647, leading zeros allowed; below 10 is 4, above is 5."

@@ -1,21 +1,21 @@
 //! The reading: document 01, "State" and the table of numbers.
 //!
 //! Commands are taken in file order; within one command the rules stand in the order of their
-//! numbers, so that the lowest decides.
+//! numbers, so that the lowest decides; the later numbers of document 02 stand where it says.
 
 use std::collections::{HashMap, HashSet};
 
-use crate::arc::is_nonsensical;
-use crate::command::{self, Action, Command, Mode, Operation, Unit};
+use crate::arc::{is_nonsensical, quadrant_centre};
+use crate::command::{self, Action, Code, Command, Mode, Operation, Quadrant, Unit};
 use crate::macros::{self, Macro};
-use crate::number::{Coordinate, Number, DIGITS_BEFORE_FS, ONE};
+use crate::number::{Coordinate, Format, Number, DIGITS_BEFORE_FS, LARGEST, ONE};
 use crate::scan::{Refusal, Scanner};
 use crate::sheet::{
     Block, Body, Definition, Grid, Item, Kind, Placing, Point, Room, Sheet, Source, TURN,
 };
 use crate::state::{Aperture, Contour, Graphics, Open, Region};
 use crate::templates;
-use crate::terms::Terms;
+use crate::terms::{Edition, Terms};
 
 /// 16: "past 10^12 items".
 const MOST_ITEMS: u128 = 1_000_000_000_000;
@@ -30,11 +30,11 @@ const MOST_STEPS: u64 = 9_999;
 /// The reading of a file with the room lent: a sheet, or the first fault.
 pub fn read(file: &[u8], terms: Terms, room: Room) -> Result<Sheet, Refusal> {
     let mut scanner = Scanner::new(file, terms)?;
-    let mut reading = Reading::new(room);
+    let mut reading = Reading::new(terms.edition, room);
     loop {
         let raw = scanner.next()?;
         let at_place = |number| Refusal::new(number, raw.place);
-        let command = command::parse(&raw).ok_or(at_place(4))?;
+        let command = command::parse(&raw, terms.edition).map_err(at_place)?;
         let is_end = command == Command::End;
         reading.step(raw.place, command).map_err(at_place)?;
         if is_end {
@@ -45,12 +45,17 @@ pub fn read(file: &[u8], terms: Terms, room: Room) -> Result<Sheet, Refusal> {
 }
 
 struct Reading {
+    edition: Edition,
     room: Room,
     used: Room,
-    integer_digits: Option<usize>,
+    format: Option<Format>,
+    incremental: bool,
+    /// MO's.
     unit: Option<Unit>,
-    /// "circular D01 before any G75" (decision 83).
-    g75: bool,
+    /// That of the first G70 or G71, "where no MO does".
+    code_unit: Option<Unit>,
+    /// Unset before any G75 in the newer edition (decision 83); "G74 as the default" in the old.
+    quadrant: Option<Quadrant>,
     graphics: Graphics,
     region: Option<Region>,
     open: Vec<Open>,
@@ -64,6 +69,16 @@ struct Reading {
     file_attributes: HashSet<Vec<u8>>,
 }
 
+/// The numbers in the order in which they are tested within one command, where it is not their own.
+fn rank(number: u32) -> (u32, u32) {
+    match number {
+        30 => (4, 1),
+        29 => (11, 1),
+        31 => (12, 1),
+        number => (number, 0),
+    }
+}
+
 /// The number, unless the rule is kept.
 fn require(kept: bool, number: u32) -> Result<(), u32> {
     if kept {
@@ -74,13 +89,16 @@ fn require(kept: bool, number: u32) -> Result<(), u32> {
 }
 
 impl Reading {
-    fn new(room: Room) -> Reading {
+    fn new(edition: Edition, room: Room) -> Reading {
         Reading {
+            edition,
             room,
             used: Room::NONE,
-            integer_digits: None,
+            format: None,
+            incremental: false,
             unit: None,
-            g75: false,
+            code_unit: None,
+            quadrant: (edition == Edition::Old).then_some(Quadrant::Single),
             graphics: Graphics::at_start(),
             region: None,
             open: Vec::new(),
@@ -98,7 +116,7 @@ impl Reading {
     /// The sheet after M02, at which a unit is given.
     fn sheet(self) -> Sheet {
         Sheet {
-            unit: self.unit.expect("M02 without MO is 6"),
+            unit: self.unit.or(self.code_unit).expect("M02 without a unit is 6"),
             body: self.top,
             blocks: self.blocks,
             definitions: self.definitions,
@@ -112,37 +130,26 @@ impl Reading {
 
     /// 5, 6 and 7, then the further rules of the command in rising order and what it does.
     fn step(&mut self, place: usize, command: Command) -> Result<(), u32> {
+        if let Command::Operation(Operation { code: Some(code), .. }) = command {
+            return self.step_after(code, place, command);
+        }
         require(!command.has_number_out_of_range(self.most_digits()), 5)?;
+        require(!self.has_point_out_of_range(&command), 5)?;
         require(self.has_header_for(&command), 6)?;
         require(self.is_allowed_here(&command), 7)?;
         self.rounded += command.rounded();
         match command {
-            Command::Comment | Command::End => Ok(()),
-            Command::Mode(mode) => {
-                self.graphics.mode = Some(mode);
-                Ok(())
-            }
-            Command::G75 => {
-                self.g75 = true;
-                Ok(())
-            }
-            Command::RegionBegin => {
-                self.region = Some(Region::default());
-                Ok(())
-            }
-            Command::RegionEnd => {
-                self.end_contour()?;
-                self.region = None;
-                Ok(())
-            }
+            Command::Comment | Command::Pause | Command::End => Ok(()),
+            Command::Code(code) => self.take_code(code),
             Command::Select(number) => self.select(number),
             Command::Operation(operation) => match operation.action {
                 Action::Draw => self.draw(place, &operation),
                 Action::Move => self.go(&operation),
                 Action::Flash => self.flash(place, &operation),
             },
-            Command::Format { integer_digits } => {
-                self.integer_digits = Some(integer_digits);
+            Command::Format { format, incremental } => {
+                self.format = Some(format);
+                self.incremental = incremental;
                 Ok(())
             }
             Command::Unit(unit) => {
@@ -191,21 +198,71 @@ impl Reading {
         }
     }
 
-    /// "1 to n+6 digits as written (12 before FS)".
-    fn most_digits(&self) -> usize {
-        match self.integer_digits {
-            Some(integer_digits) => integer_digits + 6,
-            None => DIGITS_BEFORE_FS,
+    /// An operation with a code before it: "of the faults of the code and of the operation, the
+    /// operation judged in the state behind the code, the one tested first decides".
+    fn step_after(&mut self, code: Code, place: usize, command: Command) -> Result<(), u32> {
+        let Command::Operation(operation) = command else {
+            return Ok(());
+        };
+        let allowed = require(self.is_allowed_here(&Command::Code(code)), 7);
+        let taken = self.take_code(code);
+        let done = self.step(place, Command::Operation(Operation { code: None, ..operation }));
+        let faults = [allowed, taken, done].into_iter().filter_map(Result::err);
+        faults.min_by_key(|number| rank(*number)).map_or(Ok(()), Err)
+    }
+
+    /// What a G code does, whether it may stand here or not; 13 for G37.
+    fn take_code(&mut self, code: Code) -> Result<(), u32> {
+        match code {
+            Code::Mode(mode) => self.graphics.mode = Some(mode),
+            Code::Quadrant(quadrant) => self.quadrant = Some(quadrant),
+            Code::RegionBegin => self.region = Some(Region::default()),
+            Code::RegionEnd => {
+                let ended = self.end_contour();
+                self.region = None;
+                return ended;
+            }
+            Code::Unit(unit) => self.code_unit = self.code_unit.or(Some(unit)),
+            Code::Notation { incremental } => self.incremental = incremental,
         }
+        Ok(())
+    }
+
+    /// "1 to n+6 digits as written (12 before FS)"; in the old edition n+m.
+    fn most_digits(&self) -> usize {
+        self.format.map_or(DIGITS_BEFORE_FS, Format::digits)
+    }
+
+    /// "5 also for a point of 10^12 millionths or more in size", of coordinates that are written;
+    /// the newer edition's are below that.
+    fn has_point_out_of_range(&self, command: &Command) -> bool {
+        let (Command::Operation(operation), Some(_)) = (command, self.format) else {
+            return false;
+        };
+        let from = self.graphics.point.unwrap_or_default();
+        let is_out = |given: Option<Coordinate>, from: i64| {
+            given.is_some_and(|given| self.coordinate(given, from).abs() >= LARGEST)
+        };
+        is_out(operation.x, from.x) || is_out(operation.y, from.y)
+    }
+
+    /// A written coordinate; an incremental one is added to the point's.
+    fn coordinate(&self, given: Coordinate, from: i64) -> i64 {
+        self.length(given) + if self.incremental { from } else { 0 }
+    }
+
+    /// A coordinate's size as FS says, which stands at every operation that is not 6.
+    fn length(&self, given: Coordinate) -> i64 {
+        self.format.map_or(0, |format| given.value(format))
     }
 
     /// 6: "FS or MO given twice, or missing at an operation or at M02".
     fn has_header_for(&self, command: &Command) -> bool {
         match command {
-            Command::Format { .. } => self.integer_digits.is_none(),
+            Command::Format { .. } => self.format.is_none(),
             Command::Unit(_) => self.unit.is_none(),
             Command::Operation(_) | Command::End => {
-                self.integer_digits.is_some() && self.unit.is_some()
+                self.format.is_some() && self.unit.or(self.code_unit).is_some()
             }
             _ => true,
         }
@@ -217,7 +274,7 @@ impl Reading {
             return is_allowed_in_region(command);
         }
         match command {
-            Command::RegionEnd => false,
+            Command::Code(Code::RegionEnd) => false,
             Command::BlockClose => matches!(self.open.last(), Some(Open::Block { .. })),
             Command::RepeatClose => matches!(self.open.last(), Some(Open::Repeat { .. })),
             // "SR only at top level".
@@ -253,8 +310,14 @@ impl Reading {
             macros::work_out(definition, &parameters)?
         };
         self.use_room(Room { apertures: 1, numbers: numbers.len() as u64, ..Room::NONE })?;
-        let is_pen = templates::can_draw(name, &parameters);
-        self.apertures.insert(number, if is_pen { Aperture::Pen } else { Aperture::Shape });
+        let aperture = if templates::can_draw(name, &parameters) {
+            Aperture::Pen
+        } else if templates::is_solid_rectangle(name, &parameters) {
+            Aperture::Rectangle
+        } else {
+            Aperture::Shape
+        };
+        self.apertures.insert(number, aperture);
         self.definitions.push(Definition { aperture: number, numbers });
         self.aperture_numbers.push(number);
         Ok(())
@@ -273,36 +336,31 @@ impl Reading {
     // ------------------------------------------------------------ operations
 
     /// The point the operation names: "a missing X or Y keeps the current one", which is 11 while
-    /// the point is unset (decision 81).
+    /// the point is unset (decision 81); "incremental coordinates count from (0, 0)" then.
     fn target(&self, operation: &Operation) -> Result<Point, u32> {
         let current = self.graphics.point;
         let part = |given: Option<Coordinate>, kept: fn(Point) -> i64| match given {
-            Some(coordinate) => Ok(coordinate.value),
+            Some(given) => Ok(self.coordinate(given, current.map_or(0, kept))),
             None => current.map(kept).ok_or(11u32),
         };
         Ok(Point::new(part(operation.x, |p| p.x)?, part(operation.y, |p| p.y)?))
     }
 
-    /// D01: 11, then 12, then 16, then 17 (decision 84).
+    /// D01: 11, then 29, 12 or 31, then 16, then 17 (decision 84).
     fn draw(&mut self, place: usize, operation: &Operation) -> Result<(), u32> {
         let start = self.graphics.point.ok_or(11u32)?;
         let end = self.target(operation)?;
         let mode = self.graphics.mode.ok_or(11u32)?;
-        let number = self.pen()?;
-        let offset = match (mode, operation.offset) {
-            (Mode::Linear, None) => None,
-            (Mode::Linear, Some(_)) => return Err(11),
-            (_, None) => return Err(11),
-            (_, Some((i, j))) => {
-                require(self.g75, 11)?;
-                Some(Point::new(i.value, j.value))
-            }
-        };
+        let number = self.pen(mode)?;
+        let offset = self.offset(mode, operation)?;
         let starts_contour = self.region.as_ref().is_some_and(|region| region.contour.is_none());
-        // Document 02, [7]: "29 at that D01, tested after 11 and before 12".
+        // Document 02, [7]: "29 at that D01, tested after 11 and before 12"; not in the old edition.
         let has_own_move = self.region.as_ref().is_none_or(|region| region.moved);
-        require(!starts_contour || has_own_move, 29)?;
-        require(offset.is_none_or(|offset| !is_nonsensical(start, end, offset)), 12)?;
+        require(!starts_contour || has_own_move || self.edition == Edition::Old, 29)?;
+        let centre = match offset {
+            Some(offset) => self.centre(start, end, offset, mode)?,
+            None => None,
+        };
 
         // "each contour (at its first D01)" is an entry and an item of its own (decision 93).
         let new = if starts_contour { 2 } else { 1 };
@@ -312,7 +370,8 @@ impl Reading {
         if starts_contour {
             self.begin_contour(place, start);
         }
-        let centre = offset.map_or(Point::default(), |offset| start.plus(offset));
+        let mode = if centre.is_some() { mode } else { Mode::Linear };
+        let centre = centre.unwrap_or_default();
         let item = Item { start, end, centre, ..self.new_item(place, number, mode) };
         self.body().push(Source::Item(item), 1);
         self.count_edge();
@@ -320,13 +379,48 @@ impl Reading {
         Ok(())
     }
 
-    /// The aperture that draws: in a region 0, else a circle without hole, or 11 (decision 82).
-    fn pen(&self) -> Result<i64, u32> {
+    /// I and J: "present in linear mode or absent in circular mode, circular D01 before any G75" are
+    /// 11, and in single quadrant mode a sign.
+    fn offset(&self, mode: Mode, operation: &Operation) -> Result<Option<Point>, u32> {
+        let (i, j) = match (mode, operation.offset) {
+            (Mode::Linear, None) => return Ok(None),
+            (Mode::Linear, Some(_)) | (_, None) => return Err(11),
+            (_, Some(offset)) => offset,
+        };
+        let quadrant = self.quadrant.ok_or(11u32)?;
+        require(quadrant == Quadrant::Multi || !(i.has_sign || j.has_sign), 11)?;
+        Ok(Some(Point::new(self.length(i), self.length(j))))
+    }
+
+    /// The centre of an arc, or 12; in single quadrant mode none where "start equal to end gives a
+    /// line of length zero", or 31.
+    fn centre(
+        &self,
+        start: Point,
+        end: Point,
+        offset: Point,
+        mode: Mode,
+    ) -> Result<Option<Point>, u32> {
+        if self.quadrant == Some(Quadrant::Multi) {
+            require(!is_nonsensical(start, end, offset), 12)?;
+            return Ok(Some(start.plus(offset)));
+        }
+        if start == end {
+            return Ok(None);
+        }
+        quadrant_centre(start, end, offset, mode == Mode::Clockwise).map(Some).ok_or(31)
+    }
+
+    /// The aperture that draws: in a region 0, else a circle without hole, or 11 (decision 82); in
+    /// the old edition a solid rectangle draws lines.
+    fn pen(&self, mode: Mode) -> Result<i64, u32> {
         if self.region.is_some() {
             return Ok(0);
         }
+        let draws_lines = self.edition == Edition::Old && mode == Mode::Linear;
         match self.graphics.aperture {
             Some((number, Aperture::Pen)) => Ok(number),
+            Some((number, Aperture::Rectangle)) if draws_lines => Ok(number),
             _ => Err(11),
         }
     }
@@ -539,10 +633,11 @@ impl Reading {
     }
 }
 
-/// "In a region only G01, G02, G03, G75, G04, D01, D02, G37."
+/// "In a region only G01, G02, G03, G75, G04, D01, D02, G37", and G74 like G75.
 fn is_allowed_in_region(command: &Command) -> bool {
     match command {
-        Command::Mode(_) | Command::G75 | Command::Comment | Command::RegionEnd => true,
+        Command::Code(Code::Mode(_) | Code::Quadrant(_) | Code::RegionEnd) => true,
+        Command::Comment => true,
         Command::Operation(operation) => operation.action != Action::Flash,
         _ => false,
     }

@@ -3,6 +3,7 @@
 //! The extent of a command is found first, so 2 and 3 are given before its text is judged
 //! (decision 1).
 
+use crate::command;
 use crate::terms::{letter_length, Letters, Terms};
 
 /// "file longer than 16,777,216 bytes" (decision 15).
@@ -95,7 +96,7 @@ impl<'a> Scanner<'a> {
     /// A word command runs to the first `*` (decision 4).
     fn word(&mut self) -> Result<Raw<'a>, Refusal> {
         let place = self.at;
-        let is_comment = self.file[place..].starts_with(b"G04");
+        let is_comment = command::is_comment(&self.file[place..], self.terms.edition);
         let mut at = place;
         while at < self.file.len() {
             if self.file[at] == b'*' {

@@ -1,5 +1,6 @@
 //! The file's signature: request [2] of document 02.
 
+use crate::command;
 use crate::md5;
 use crate::scan::{is_line_end, Raw, Refusal, Scanner};
 use crate::terms::Terms;
@@ -11,7 +12,7 @@ pub fn signature(file: &[u8], terms: Terms) -> Result<[u8; 16], Refusal> {
     let mut before = None;
     let end = loop {
         let raw = scanner.next()?;
-        if !raw.extended && raw.text == b"M02" {
+        if !raw.extended && command::is_end(raw.text, terms.edition) {
             break raw.place;
         }
         before = Some(raw);

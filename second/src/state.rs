@@ -9,6 +9,8 @@ use crate::sheet::{Body, Grid, Point, TURN};
 pub enum Aperture {
     /// A circle without hole.
     Pen,
+    /// A rectangle without hole, with which the old edition draws lines.
+    Rectangle,
     /// Any other template.
     Shape,
     /// A closed block, by its index.

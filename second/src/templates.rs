@@ -22,6 +22,11 @@ pub fn can_draw(name: &[u8], parameters: &[i64]) -> bool {
     name == b"C" && parameters.len() == 1
 }
 
+/// The old edition's "lines drawn with a solid rectangle".
+pub fn is_solid_rectangle(name: &[u8], parameters: &[i64]) -> bool {
+    name == b"R" && parameters.len() == 2
+}
+
 /// "C diameter at least 0", then "a hole diameter above 0".
 fn circle(parameters: &[i64]) -> bool {
     match parameters {

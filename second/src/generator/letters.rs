@@ -3,7 +3,7 @@
 use super::random::Random;
 use crate::command::{self, Command};
 use crate::scan::Scanner;
-use crate::terms::{Letters, Terms};
+use crate::terms::Terms;
 
 /// A well-formed letter; the first and last of every row of the Unicode standard's table 3-7 among
 /// them, and noncharacters.
@@ -31,13 +31,13 @@ const ILL_FORMED: &[&[u8]] = &[
 ];
 
 /// Puts a letter, or what is none, into a field, a comment, a name, a macro, or anywhere.
-pub fn put_one(random: &mut Random, file: &mut Vec<u8>) {
+pub fn put_one(random: &mut Random, file: &mut Vec<u8>, terms: Terms) {
     let bytes = match random.below(3) {
         0 => letter(random).to_string().into_bytes(),
         1 => random.pick(ILL_FORMED).to_vec(),
         _ => (0..=random.below(4)).map(|_| random.between(128, 255) as u8).collect(),
     };
-    let (places, others) = places(file);
+    let (places, others) = places(file, terms);
     let at = match random.below(10) {
         0..=6 if !places.is_empty() => random.pick(&places),
         7..=8 if !others.is_empty() => random.pick(&others),
@@ -47,15 +47,14 @@ pub fn put_one(random: &mut Random, file: &mut Vec<u8>) {
 }
 
 /// The places of fields and comments; those of names and macros.
-fn places(file: &[u8]) -> (Vec<usize>, Vec<usize>) {
+fn places(file: &[u8], terms: Terms) -> (Vec<usize>, Vec<usize>) {
     let (mut places, mut others) = (Vec::new(), Vec::new());
-    let terms = Terms { letters: Letters::New, ..Terms::PLAIN };
     let mut scanner = Scanner::without_limit(file, terms);
     while let Ok(raw) = scanner.next() {
         let end = raw.place + raw.text.len();
-        match command::parse(&raw) {
-            Some(Command::Comment) => places.extend(raw.place + 3..=end),
-            Some(
+        match command::parse(&raw, terms.edition) {
+            Ok(Command::Comment) => places.extend(raw.place + 3..=end),
+            Ok(
                 Command::FileAttribute(attribute)
                 | Command::ApertureAttribute(attribute)
                 | Command::ObjectAttribute(attribute),
@@ -64,10 +63,10 @@ fn places(file: &[u8]) -> (Vec<usize>, Vec<usize>) {
                 others.extend(raw.place + 1..=comma);
                 places.extend(comma + 1..=end);
             }
-            Some(Command::Macro(_) | Command::DeleteAttribute(_)) => {
+            Ok(Command::Macro(_) | Command::DeleteAttribute(_)) => {
                 others.extend(raw.place + 1..=end);
             }
-            Some(Command::End) => {
+            Ok(Command::End) => {
                 others.push(end + 1);
                 break;
             }

@@ -46,10 +46,10 @@ pub fn file(seed: u64, index: u64, terms: Terms) -> Vec<u8> {
         38..=51 => damage::whole(random, terms),
         52..=79 => aimed::whole(random, terms),
         80..=92 => wild::whole(random, terms),
-        _ => soup::whole(random),
+        _ => soup::whole(random, terms),
     };
     if terms.letters == Letters::New && own.percent(40) {
-        letters::put_one(&mut own, &mut file);
+        letters::put_one(&mut own, &mut file, terms);
     }
     file
 }
@@ -66,8 +66,15 @@ mod tests {
     use super::*;
     use crate::rules::read;
     use crate::sheet::{Item, Room};
+    use crate::terms::Edition;
 
-    const TERMS: [Terms; 2] = [Terms::PLAIN, Terms { letters: Letters::New, ..Terms::PLAIN }];
+    const OLD: Terms = Terms { edition: Edition::Old, ..Terms::PLAIN };
+    const TERMS: [Terms; 4] = [
+        Terms::PLAIN,
+        Terms { letters: Letters::New, ..Terms::PLAIN },
+        OLD,
+        Terms { letters: Letters::New, ..OLD },
+    ];
 
     #[test]
     fn files_of_the_writer_keep_the_rules() {
@@ -87,10 +94,24 @@ mod tests {
     #[test]
     fn the_rules_of_letters_share_their_sheets() {
         for index in 0..600 {
-            let file = file(5, index, TERMS[1]);
-            let [old, new] = TERMS.map(|terms| read(&file, terms, Room::UNLIMITED));
-            if old.is_ok() || file.iter().all(|byte| *byte < 127) {
-                assert_eq!(old, new);
+            for pair in TERMS.chunks(2) {
+                let file = file(5, index, pair[1]);
+                let old = read(&file, pair[0], Room::UNLIMITED);
+                if old.is_ok() || file.iter().all(|byte| *byte < 127) {
+                    assert_eq!(old, read(&file, pair[1], Room::UNLIMITED));
+                }
+            }
+        }
+    }
+
+    /// What the newer edition accepts, the old one accepts with the same sheet.
+    #[test]
+    fn the_old_edition_takes_newer_files() {
+        for index in 0..1000 {
+            let file = file(9, index, Terms::PLAIN);
+            let new = read(&file, Terms::PLAIN, Room::UNLIMITED);
+            if new.is_ok() {
+                assert_eq!(new, read(&file, OLD, Room::UNLIMITED));
             }
         }
     }

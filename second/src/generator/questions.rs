@@ -87,17 +87,15 @@ fn attributes(random: &mut Random, file: &[u8], terms: Terms, questions: &mut Ve
     if let Ok(mut scanner) = Scanner::new(file, terms) {
         while let Ok(raw) = scanner.next() {
             places.push(raw.place);
-            match command::parse(&raw) {
-                Some(
-                    Command::ApertureAttribute(attribute) | Command::ObjectAttribute(attribute),
-                ) => {
+            match command::parse(&raw, terms.edition) {
+                Ok(Command::ApertureAttribute(attribute) | Command::ObjectAttribute(attribute)) => {
                     names.push(String::from_utf8_lossy(attribute.name).into_owned());
                 }
-                Some(Command::Define { .. } | Command::BlockOpen(_)) => {
+                Ok(Command::Define { .. } | Command::BlockOpen(_)) => {
                     // Asked more often: TA is held here.
                     places.extend([raw.place; 4]);
                 }
-                Some(Command::End) => break,
+                Ok(Command::End) => break,
                 _ => {}
             }
         }

@@ -1,6 +1,7 @@
 //! Text soup: fragments of commands in any order.
 
 use super::random::Random;
+use crate::terms::{Edition, Terms};
 
 const FRAGMENTS: &[&str] = &[
     "G01*", "G02*", "G03*", "G04*", "G36*", "G37*", "G75*", "G04 a*", "M02*", "M02", "D10*",
@@ -21,12 +22,21 @@ const HEADS: &[&str] = &[
     "%MOIN*%%FSLAX16Y16*%%ADD10C,0*%%ADD11R,1X1*%D11*G75*G03*X0Y0D02*G36*",
 ];
 
-pub fn whole(mut random: Random) -> Vec<u8> {
+const OLD_FRAGMENTS: &[&str] = &[
+    "G1*", "G2*", "G3*", "G4*", "G54D10*", "G54D11*", "G70*", "G71*", "G74*", "G90*", "G91*",
+    "M0*", "M01*", "M2*", "G1X1Y1D1*", "G36X0Y0D2*", "G37D2*", "X1Y0I1J1D1*", "X1Y1I1J0D1*", "D1*",
+    "D2*", "D3*", "G03X1Y1I0J1D01*", "%FSTIX23Y23*%", "%FSLAX24Y24*%", "%IPPOS*%", "%LNa*%",
+    "%SMA0*%", "G5", "%FSLAX77Y77*%", "G54", "M0", "G",
+];
+
+pub fn whole(mut random: Random, terms: Terms) -> Vec<u8> {
+    let is_old = terms.edition == Edition::Old;
     let mut text = String::from(random.pick(HEADS));
     // Whole commands alone now and then, so that some of the soup goes down.
     let whole_commands = random.percent(50);
     for _ in 0..random.below(14) {
-        let fragment = random.pick(FRAGMENTS);
+        let fragments = if is_old && random.percent(40) { OLD_FRAGMENTS } else { FRAGMENTS };
+        let fragment = random.pick(fragments);
         if !whole_commands || (fragment.len() > 3 && fragment.ends_with(['*', '%'])) {
             text += fragment;
         }

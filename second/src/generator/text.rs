@@ -14,7 +14,7 @@ pub fn coordinate(random: &mut Random, value: i64, most_digits: usize) -> String
     format!("{}{digits:0>width$}", sign(random, value))
 }
 
-fn sign(random: &mut Random, value: i64) -> &'static str {
+pub fn sign(random: &mut Random, value: i64) -> &'static str {
     match value {
         ..=-1 => "-",
         0 => random.pick(&["", "", "", "", "+", "-"]),

@@ -5,7 +5,7 @@ use super::random::Random;
 use super::text;
 use super::writer::Writer;
 use crate::number::ONE;
-use crate::terms::Terms;
+use crate::terms::{Edition, Terms};
 
 /// A file of steps that keep the rules, with wild commands between them.
 pub fn whole(random: Random, terms: Terms) -> Vec<u8> {
@@ -16,7 +16,8 @@ pub fn whole(random: Random, terms: Terms) -> Vec<u8> {
     for _ in 0..=writer.random.below(12) {
         let steps = writer.random.below(5);
         writer.steps(steps);
-        let command = command(&mut writer.random);
+        let command = command(&mut writer.random, terms.edition);
+        writer.write_waiting_code();
         writer.file.extend(command.bytes());
     }
     writer.finish();
@@ -24,7 +25,10 @@ pub fn whole(random: Random, terms: Terms) -> Vec<u8> {
 }
 
 /// One wild command, with its `*` or `%`.
-pub fn command(random: &mut Random) -> String {
+pub fn command(random: &mut Random, edition: Edition) -> String {
+    if edition == Edition::Old && random.percent(40) {
+        return old_command(random);
+    }
     match random.below(22) {
         0..=4 => operation(random),
         5 => format!("D{}*", number(random)),
@@ -41,6 +45,19 @@ pub fn command(random: &mut Random) -> String {
         19 => format!("%{}{}*%", random.pick(&["TA", "TO", "TD"]), random.pick(&["a", "b"])),
         20 => String::from(random.pick(&["%MOMM*%", "%MOIN*%", "%FSLAX36Y36*%", "%FSLAX66Y66*%"])),
         _ => String::from("M02*"),
+    }
+}
+
+/// The same of the old edition.
+fn old_command(random: &mut Random) -> String {
+    let codes = ["G1", "G01", "G2", "G3", "G36", "G37", "G70", "G71", "G74", "G75", "G90", "G91"];
+    let code = random.pick(&codes);
+    match random.below(8) {
+        0..=1 => format!("{code}*"),
+        2..=4 => format!("{code}{}", operation(random)),
+        5 => operation(random).replace("D0", "D"),
+        6 => String::from(random.pick(&["M0*", "M01*", "G4*", "G54D10*", "G54D11*", "D1*", "D2*"])),
+        _ => format!("%{}*%", random.pick(&["IPPOS", "LNa", "FSLAX77Y77", "FSTIX23Y23", "MOIN"])),
     }
 }
 

@@ -3,6 +3,7 @@
 mod apertures;
 mod blocks;
 mod bytes;
+mod film;
 mod form;
 mod operations;
 mod places;
@@ -11,11 +12,17 @@ use super::random::Random;
 use super::writer::Writer;
 use crate::terms::Terms;
 
+/// Those of the old edition: its codes (4), points (5), units (6), pens (11), region ends (13).
+const OLD_AIMS: [u32; 10] = [30, 31, 31, 31, 31, 4, 5, 6, 11, 13];
+
 /// The numbers that a file of a few thousand bytes can be aimed at, room aside.
 pub const AIMS: [u32; 18] = [2, 3, 4, 5, 6, 7, 8, 9, 10, 11, 12, 13, 14, 15, 16, 18, 19, 29];
 
 pub fn whole(random: Random, terms: Terms) -> Vec<u8> {
     let mut writer = Writer::new(random, terms);
+    if writer.is_old() && writer.random.percent(60) {
+        return old_whole(writer);
+    }
     let number = writer.random.pick(&AIMS);
     if number == 6 {
         return places::header(writer);
@@ -49,4 +56,26 @@ pub fn whole(random: Random, terms: Terms) -> Vec<u8> {
         18 => bytes::tail(writer),
         _ => writer.file,
     }
+}
+
+fn old_whole(mut writer: Writer) -> Vec<u8> {
+    let number = writer.random.pick(&OLD_AIMS);
+    if number == 6 {
+        return film::units(writer);
+    }
+    let steps = writer.random.below(6);
+    writer.steps(steps);
+    writer.header();
+    match number {
+        4 => film::codes(&mut writer),
+        5 => film::far_points(&mut writer),
+        11 => film::pens(&mut writer),
+        13 => film::closings(&mut writer),
+        30 => film::unread(&mut writer),
+        _ => film::quadrants(&mut writer),
+    }
+    let steps = writer.random.below(4);
+    writer.steps(steps);
+    writer.finish();
+    writer.file
 }

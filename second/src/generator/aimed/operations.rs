@@ -70,7 +70,7 @@ pub fn unfit(writer: &mut Writer) {
         }
         _ => {
             for _ in 0..4 {
-                let command = wild::command(&mut writer.random);
+                let command = wild::command(&mut writer.random, writer.terms.edition);
                 writer.file.extend(command.bytes());
             }
         }
@@ -86,7 +86,8 @@ pub fn centres(writer: &mut Writer) {
     let mode = writer.random.pick(&["G02", "G03"]);
     writer.take_mode(mode);
     let far = writer.random.percent(30);
-    let unit = if far { 10_i64.pow(writer.integer_digits as u32 + 5) / 4 } else { 1 };
+    let far_unit = (writer.greatest() + 1) / 40 / writer.unit_step() * writer.unit_step();
+    let unit = if far { far_unit } else { writer.unit_step() };
     let small = |writer: &mut Writer| writer.random.between(-3, 3);
     let start = Point::new(small(writer) * unit, small(writer) * unit);
     let step = Point::new(small(writer) * unit, small(writer) * unit);

@@ -37,7 +37,7 @@ pub fn not_here(writer: &mut Writer) {
             if writer.random.percent(50) {
                 writer.contour(true);
             }
-            let command = wild::command(&mut writer.random);
+            let command = wild::command(&mut writer.random, writer.terms.edition);
             writer.file.extend(command.bytes());
         }
         2 => {

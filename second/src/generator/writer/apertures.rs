@@ -48,8 +48,12 @@ impl Writer {
             }
         }
         self.write_definition(number, template, &parameters);
-        let is_pen = template == "C" && parameters.len() == 1;
-        self.add(number, if is_pen { Shape::Pen } else { Shape::Other });
+        let shape = match (template, parameters.len()) {
+            ("C", 1) => Shape::Pen,
+            ("R", 2) => Shape::Rectangle,
+            _ => Shape::Other,
+        };
+        self.add(number, shape);
     }
 
     pub fn write_definition(&mut self, number: i64, template: &str, parameters: &[i64]) {
@@ -96,7 +100,8 @@ impl Writer {
 
     pub fn take(&mut self, known: Known) {
         let number = text::aperture(&mut self.random, known.number);
-        self.word(&format!("D{number}"));
+        let code = if self.is_old() { self.random.pick(&["", "G54"]) } else { "" };
+        self.word(&format!("{code}D{number}"));
         self.aperture = Some(known);
     }
 
@@ -123,6 +128,7 @@ impl Writer {
 
     /// The text from `AM` on, its last `*` included.
     pub fn write_macro(&mut self, text: &str) {
+        self.write_waiting_code();
         self.file.push(b'%');
         self.file.extend(text.bytes());
         self.file.push(b'%');

@@ -1,6 +1,7 @@
 //! Files that keep the rules: a writer that knows the state its commands leave.
 
 mod apertures;
+mod film;
 mod operations;
 mod structure;
 
@@ -10,18 +11,23 @@ use super::random::Random;
 use super::{letters, text};
 use crate::macros::Macro;
 use crate::md5;
-use crate::number::ONE;
+use crate::number::{Format, ONE};
 use crate::sheet::Point;
 use crate::signature::digest_before;
-use crate::terms::{Letters, Terms};
+use crate::terms::{Edition, Letters, Terms};
 
 const MOST_ITEMS: u128 = 1_000_000_000_000;
 
 #[derive(Clone, Copy, PartialEq, Eq)]
 pub enum Shape {
     Pen,
+    /// Without hole.
+    Rectangle,
     Other,
-    Block { height: u32, items: u128 },
+    Block {
+        height: u32,
+        items: u128,
+    },
 }
 
 #[derive(Clone, Copy)]
@@ -80,7 +86,13 @@ pub struct Writer {
     line_end: &'static str,
     mixed_line_ends: bool,
     weights: [usize; DEEDS.len()],
-    pub integer_digits: usize,
+    pub format: Format,
+    /// Written coordinates are added to the point's.
+    pub incremental: bool,
+    /// A G code that is to stand before the next operation, or nothing.
+    waiting_code: String,
+    /// I and J of a single quadrant arc with a sign, which is 11.
+    pub signed_offsets: bool,
     pub lacks_format: bool,
     pub lacks_unit: bool,
     pub point: Option<Point>,
@@ -102,7 +114,13 @@ impl Writer {
         let line_end = random.pick(&["", "\n", "\n", "\r\n"]);
         let mixed_line_ends = random.percent(15);
         let weights = std::array::from_fn(|_| random.pick(&[0, 1, 1, 2, 4, 8]));
-        let integer_digits = random.between(1, 6) as usize;
+        let integers = random.between(1, 6) as usize;
+        let mut format = Format { integers, decimals: 6, trailing: false };
+        let mut incremental = false;
+        if terms.edition == Edition::Old {
+            format = film::format(&mut random);
+            incremental = random.percent(40);
+        }
         Writer {
             random,
             terms,
@@ -110,7 +128,10 @@ impl Writer {
             line_end,
             mixed_line_ends,
             weights,
-            integer_digits,
+            format,
+            incremental,
+            waiting_code: String::new(),
+            signed_offsets: false,
             lacks_format: true,
             lacks_unit: true,
             point: None,
@@ -182,7 +203,8 @@ impl Writer {
         if self.random.percent(5) {
             self.sign();
         }
-        self.word("M02");
+        let end = self.spelled("M02");
+        self.word(&end);
     }
 
     /// A signature, now and then a wrong one.
@@ -200,12 +222,18 @@ impl Writer {
     // ------------------------------------------------------------ bytes
 
     pub fn word(&mut self, text: &str) {
+        self.write_waiting_code();
+        self.write_word(text);
+    }
+
+    pub fn write_word(&mut self, text: &str) {
         self.file.extend(text.bytes());
         self.file.push(b'*');
         self.end_line();
     }
 
     pub fn extended(&mut self, text: &str) {
+        self.write_waiting_code();
         self.file.push(b'%');
         self.file.extend(text.bytes());
         self.file.push(b'*');
@@ -245,6 +273,9 @@ impl Writer {
     }
 
     fn act(&mut self, deed: Deed) {
+        if self.is_old() && self.random.percent(6) {
+            self.old_idle();
+        }
         match deed {
             Deed::Line => self.line(),
             Deed::Arc => self.arc(),
@@ -271,8 +302,8 @@ impl Writer {
         }
         if self.lacks_format {
             self.lacks_format = false;
-            let n = self.integer_digits;
-            self.extended(&format!("FSLAX{n}6Y{n}6"));
+            let text = self.format_text();
+            self.extended(&text);
         }
         self.unit();
     }
@@ -280,6 +311,10 @@ impl Writer {
     fn unit(&mut self) {
         if self.lacks_unit {
             self.lacks_unit = false;
+            if self.is_old() && self.random.percent(30) {
+                let unit = self.random.pick(&["G70", "G71"]);
+                return self.word(unit);
+            }
             let unit = self.random.pick(&["MOMM", "MOMM", "MOIN"]);
             self.extended(unit);
         }
@@ -299,6 +334,10 @@ impl Writer {
 
     fn comment(&mut self) {
         let text = self.field(12);
-        self.word(&format!("G04{text}"));
+        let code = match self.is_old() && !text.starts_with(|c: char| c.is_ascii_digit()) {
+            true => self.spelled("G04"),
+            false => String::from("G04"),
+        };
+        self.word(&format!("{code}{text}"));
     }
 }

@@ -11,7 +11,7 @@ impl Writer {
         if self.lacks_format {
             12
         } else {
-            self.integer_digits + 6
+            self.format.digits()
         }
     }
 
@@ -22,36 +22,54 @@ impl Writer {
     }
 
     fn new_coordinate(&mut self, old: i64) -> i64 {
-        let greatest = 10_i64.pow(self.integer_digits as u32 + 6) - 1;
-        match self.random.below(10) {
+        let greatest = self.greatest();
+        let value = match self.random.below(10) {
             0..=2 => old,
             3 => self.random.pick(&[greatest, -greatest]),
             4 => self.random.between(-greatest, greatest),
-            5..=6 => self.random.between(-3, 3),
+            5..=6 => self.random.between(-3, 3) * self.unit_step(),
             _ => self.random.between(-9, 9) * 100_000,
-        }
+        };
+        self.fitting(value)
     }
 
     /// Writes the operation; coordinates that stay are left out now and then.
     pub fn operate(&mut self, code: &str, target: Point, offset: Option<Point>) {
-        let most = self.most_digits();
-        let mut text = String::new();
+        let mut text = std::mem::take(&mut self.waiting_code);
         let old = self.point;
+        let from = if self.incremental { old.unwrap_or_default() } else { Point::default() };
         let leave_x = old.is_some_and(|old| old.x == target.x) && self.random.percent(60);
         let leave_y = old.is_some_and(|old| old.y == target.y) && self.random.percent(60);
         if !leave_x {
-            text += &format!("X{}", text::coordinate(&mut self.random, target.x, most));
+            text += &format!("X{}", self.coordinate(target.x - from.x));
         }
         if !leave_y {
-            text += &format!("Y{}", text::coordinate(&mut self.random, target.y, most));
+            text += &format!("Y{}", self.coordinate(target.y - from.y));
         }
         if let Some(offset) = offset {
-            text += &format!("I{}", text::coordinate(&mut self.random, offset.x, most));
-            text += &format!("J{}", text::coordinate(&mut self.random, offset.y, most));
+            text += &format!("I{}", self.offset(offset.x));
+            text += &format!("J{}", self.offset(offset.y));
         }
-        text += code;
-        self.word(&text);
+        text += &self.spelled(code);
+        self.write_word(&text);
         self.point = Some(target);
+    }
+
+    fn coordinate(&mut self, value: i64) -> String {
+        if self.is_old() {
+            let sign = text::sign(&mut self.random, value);
+            return format!("{sign}{}", self.old_digits(value));
+        }
+        let most = self.most_digits();
+        text::coordinate(&mut self.random, value, most)
+    }
+
+    /// I or J, without a sign in single quadrant mode.
+    fn offset(&mut self, value: i64) -> String {
+        if self.is_old() && !self.g75 && !self.signed_offsets {
+            return self.old_digits(value);
+        }
+        self.coordinate(value)
     }
 
     pub fn fits(&self, new: u128) -> bool {
@@ -85,11 +103,11 @@ impl Writer {
     pub fn take_mode(&mut self, mode: &'static str) {
         if self.mode != mode {
             self.mode = mode;
-            self.word(mode);
+            self.code(mode);
         }
         if mode != "G01" && !self.g75 {
             self.g75 = true;
-            self.word("G75");
+            self.code("G75");
         }
     }
 
@@ -98,7 +116,9 @@ impl Writer {
             return;
         }
         self.header();
-        self.take_pen();
+        if !self.has_rectangle() {
+            self.take_pen();
+        }
         self.take_point();
         self.take_mode("G01");
         let target = self.new_point();
@@ -119,6 +139,9 @@ impl Writer {
     }
 
     pub fn arc_to(&mut self, target: Point) {
+        if self.is_old() && self.random.percent(60) && self.quadrant_arc_to(target) {
+            return;
+        }
         let mode = self.random.pick(&["G02", "G03"]);
         self.take_mode(mode);
         let start = self.point.unwrap_or_default();

@@ -9,16 +9,17 @@ use crate::sheet::Point;
 impl Writer {
     pub fn region(&mut self) {
         self.header();
-        self.word("G36");
+        self.code("G36");
         for nth in 0..self.random.below(4) {
             self.contour(nth == 0);
         }
-        self.word("G37");
+        self.code("G37");
     }
 
-    /// A closed contour of one to five edges; the first of its region begins with a D02.
+    /// A closed contour of one to five edges; the first of its region begins with a D02, but in the
+    /// old edition.
     pub fn contour(&mut self, first: bool) {
-        if first || self.random.percent(80) {
+        if (first && !self.is_old()) || self.random.percent(80) {
             self.go();
         }
         let Some(start) = self.point else {
