@@ -2,6 +2,7 @@
 # The proved reader against the second one. Through the listing: the cases and the real layers that stand beside the repository, where they
 # do, and generated files. Through the C host's batch: all of these whatever their size, more generated files, and small rooms. Through its
 # other modes, and the program verify: questions about some generated files. Then again under the other rule of letters and the old edition.
+# Then files that are made for one mode.
 set -u
 cd "$(dirname "$0")/.." || exit 2
 export CARGO_NET_OFFLINE=true
@@ -83,8 +84,27 @@ by_question() { # WHAT [TERMS]
 # Whether the sample host takes these words.
 knows() { # WORDS
     local status=0
-    "${imager[@]}" sheet "$@" </dev/null >/dev/null 2>&1 || status=$?
+    "${imager[@]}" "$@" </dev/null >/dev/null 2>&1 || status=$?
+    [ "$status" -ne 2 ] || echo "compare: the sample host does not know \`$*\` yet"
     [ "$status" -ne 2 ]
+}
+
+# Files made FOR a mode, and what both answer to WORDS about each.
+by_mode() { # FOR COUNT WORDS
+    local for=$1 count=$2 file agree=0 differ=0
+    shift 2
+    knows "$@" || return 0
+    rm -rf "$room/made"
+    "$second" make 7 "$count" "$room/made" --for "$for"
+    for file in "$room"/made/*.gbr; do
+        if cmp -s <("${imager[@]}" "$@" <"$file") <("$second" "$@" <"$file"); then
+            agree=$((agree + 1))
+        else
+            differ=$((differ + 1))
+            echo "compare: $* of $(basename "$file") is not what the second reader answers"
+        fi
+    done
+    tell "made for $for: $*" "$agree agree, $differ differ"
 }
 
 # Whether the program verify goes by them.
@@ -135,10 +155,7 @@ by_batch "generated" "$room/all_generated" --room 8,3,1,10
 awk 'NR % 80 == 0' "$room/all_generated" | by_question "generated"
 for terms in "--letters new" "--edition old" "--edition old --letters new"; do
     read -r -a terms <<<"$terms"
-    if ! knows "${terms[@]}"; then
-        echo "compare: the sample host does not know ${terms[*]} yet"
-        continue
-    fi
+    knows sheet "${terms[@]}" || continue
     rm -r "$room/generated"
     "$second" make 7 4000 "$room/generated" "${terms[@]}"
     find "$room/generated" -name '*.gbr' | sort >"$room/all_generated"
@@ -147,6 +164,9 @@ for terms in "--letters new" "--edition old" "--edition old --letters new"; do
     awk 'NR % 80 == 0' "$room/all_generated" | by_question "generated" "${terms[@]}"
     case ${terms[*]} in *"--edition old"*) by_batch "old layers" "$room/all_old_layers" "${terms[@]}" ;; esac
 done
+by_mode mend 600 mend
+by_mode mend 100 mend --raw
+by_mode mend 100 mend --room 2,2,1,4
 # Files of 16,777,217 bytes are tried elsewhere (1).
 for number in 2 3 4 5 6 7 8 9 10 11 12 13 14 15 16 17 18 19 29; do
     grep -q "^refused $number " "$room/answers" || tell "refused with $number" "no file, 1 differ"

@@ -4,6 +4,8 @@ use std::io::{self, Write};
 
 use crate::address::Address;
 use crate::command::Unit;
+use crate::md5;
+use crate::mend::Mended;
 use crate::scan::Refusal;
 use crate::sheet::{Item, Sheet};
 use crate::summary::REGIONS;
@@ -136,6 +138,19 @@ pub fn write_summary(out: &mut dyn Write, sheet: &Sheet, rows: u64) -> io::Resul
         )?;
     }
     Ok(())
+}
+
+/// A line per change, then the bytes and the MD5 of the mended file; or that there are none.
+pub fn write_changes(out: &mut dyn Write, mended: &Mended) -> io::Result<()> {
+    if mended.changes.is_empty() {
+        return writeln!(out, "unchanged");
+    }
+    for change in &mended.changes {
+        let (name, place) = change.name_and_place();
+        writeln!(out, "{name}\t{place}")?;
+    }
+    let digest = md5::hex(&md5::digest(&mended.file));
+    writeln!(out, "bytes\t{}\t{digest}", mended.file.len())
 }
 
 #[cfg(test)]

@@ -9,6 +9,7 @@ mod generator;
 mod listing;
 mod macros;
 mod md5;
+mod mend;
 mod number;
 mod question;
 mod rules;
@@ -27,6 +28,7 @@ use std::io::{self, BufWriter, Read, Write};
 use std::path::Path;
 use std::process::ExitCode;
 
+use generator::Purpose;
 use terms::Terms;
 
 const USAGE: &str = "\
@@ -39,12 +41,13 @@ second MODE, with the file on standard input:
   numbers                                      the numbers kept, a line per AD
   attribute TA|TO PLACE NAME                   place and length of a value (also: attr)
   verify                                       the digest, if the file bears it
+  mend [--raw] [--room E,A,M,N]                what was changed, bytes and MD5 of the mended file; or that file
   summary [--rows N]                           per aperture, then for all regions: how many items, and their bounds
   questions SEED                               some questions about the file, a line each
 with a list of file names on standard input:
   batch [--room E,A,M,N]                       a line per file: name, sheet or refusal, hash
 on folders and files:
-  make SEED COUNT DIR                          writes generated files
+  make SEED COUNT DIR [--for mend]             writes generated files, to be read or to be mended
   census DIR [--room E,A,M,N]                  how many files are answered with each number
   check-cases DIR                              runs the cases of the folder
   short N                                      every string of up to N bytes: how many, and a hash of the answers
@@ -75,6 +78,16 @@ fn input() -> io::Result<Vec<u8>> {
     let mut file = Vec::new();
     io::stdin().lock().read_to_end(&mut file)?;
     Ok(file)
+}
+
+/// What generated files are for.
+fn purpose(words: &[String]) -> Option<Purpose> {
+    let words: Vec<&str> = words.iter().map(String::as_str).collect();
+    match words[..] {
+        [] => Some(Purpose::Reading),
+        ["--for", "mend"] => Some(Purpose::Mending),
+        _ => None,
+    }
 }
 
 /// False when the words are no mode.
@@ -111,11 +124,12 @@ fn run(words: &[String], out: &mut dyn Write) -> io::Result<bool> {
                 writeln!(out, "{question}")?;
             }
         }
-        ("make", [seed, count, folder]) => {
-            let (Ok(seed), Ok(count)) = (seed.parse(), count.parse()) else {
+        ("make", [seed, count, folder, rest @ ..]) => {
+            let (Ok(seed), Ok(count), Some(purpose)) = (seed.parse(), count.parse(), purpose(rest))
+            else {
                 return Ok(false);
             };
-            generator::make(seed, count, Path::new(folder), terms)?;
+            generator::make(seed, count, Path::new(folder), purpose, terms)?;
         }
         ("short", [longest]) => {
             let Ok(longest) = longest.parse() else {

@@ -6,6 +6,7 @@ use crate::address::{Address, WORDS};
 use crate::attribute::{attribute, Held};
 use crate::listing;
 use crate::md5;
+use crate::mend::mend;
 use crate::rules::read;
 use crate::scan::Refusal;
 use crate::sheet::{Room, Sheet};
@@ -22,6 +23,7 @@ pub enum Question {
     Attribute { word: String, held: Held, place: usize, name: String },
     Verify,
     Summary { rows: u64 },
+    Mend { raw: bool, room: Room },
 }
 
 /// A question, and the edition and letters that it names.
@@ -61,6 +63,12 @@ fn question(words: &[String]) -> Option<Question> {
             _ => None,
         },
         "verify" if rest.is_empty() => Some(Question::Verify),
+        "mend" => match rest.split_first() {
+            Some((word, rest)) if word == "--raw" => {
+                Some(Question::Mend { raw: true, room: only_room(rest)? })
+            }
+            _ => Some(Question::Mend { raw: false, room: only_room(rest)? }),
+        },
         "summary" => match rest {
             [] => Some(Question::Summary { rows: u64::MAX }),
             [word, rows] if word == "--rows" => {
@@ -163,6 +171,11 @@ pub fn answer(asked: &Asked, file: &[u8], out: &mut dyn Write) -> io::Result<()>
                 Err(number) => writeln!(out, "refused\t{number}"),
             }
         }
+        Question::Mend { raw, room } => match mend(file, terms, *room) {
+            Ok(mended) if *raw => out.write_all(&mended.file),
+            Ok(mended) => listing::write_changes(out, &mended),
+            Err(refusal) => writeln!(out, "{}", listing::refusal_line(refusal)),
+        },
         Question::Verify => match signature(file, terms) {
             Ok(digest) => writeln!(out, "signed\t{}", md5::hex(&digest)),
             Err(refusal) => writeln!(out, "{}", listing::refusal_line(refusal)),

@@ -36,7 +36,7 @@ pub fn is_line_end(byte: u8) -> bool {
     byte == b'\r' || byte == b'\n'
 }
 
-fn is_printable(byte: u8) -> bool {
+pub fn is_printable(byte: u8) -> bool {
     (32..=126).contains(&byte)
 }
 

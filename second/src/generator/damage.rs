@@ -14,7 +14,7 @@ pub fn whole(mut random: Random, terms: Terms) -> Vec<u8> {
     file
 }
 
-fn damage(random: &mut Random, file: &mut Vec<u8>) {
+pub fn damage(random: &mut Random, file: &mut Vec<u8>) {
     if file.is_empty() {
         return;
     }

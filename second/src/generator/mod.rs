@@ -2,6 +2,7 @@
 //! for the same seed.
 
 mod aimed;
+mod broken;
 mod damage;
 mod letters;
 mod questions;
@@ -17,6 +18,7 @@ use std::path::Path;
 
 use crate::scan::LONGEST_FILE;
 use crate::terms::{Letters, Terms};
+pub use broken::broken;
 pub use questions::questions;
 use random::Random;
 use writer::Writer;
@@ -24,11 +26,28 @@ use writer::Writer;
 /// One file in so many has the greatest length that is read, or one byte more.
 const GIANT_EVERY: u64 = 10_000;
 
+/// What a file is made for.
+#[derive(Clone, Copy, PartialEq, Eq)]
+pub enum Purpose {
+    Reading,
+    Mending,
+}
+
 /// Writes so many numbered files into the folder.
-pub fn make(seed: u64, count: u64, folder: &Path, terms: Terms) -> io::Result<()> {
+pub fn make(
+    seed: u64,
+    count: u64,
+    folder: &Path,
+    purpose: Purpose,
+    terms: Terms,
+) -> io::Result<()> {
     fs::create_dir_all(folder)?;
+    let make_one = match purpose {
+        Purpose::Reading => file,
+        Purpose::Mending => broken,
+    };
     for index in 0..count {
-        fs::write(folder.join(format!("{index:07}.gbr")), file(seed, index, terms))?;
+        fs::write(folder.join(format!("{index:07}.gbr")), make_one(seed, index, terms))?;
     }
     Ok(())
 }
@@ -62,19 +81,22 @@ fn giant(random: Random, which: usize, terms: Terms) -> Vec<u8> {
 }
 
 #[cfg(test)]
+const OLD: Terms = Terms { edition: crate::terms::Edition::Old, ..Terms::PLAIN };
+
+/// All terms there are, for the tests.
+#[cfg(test)]
+pub const TERMS: [Terms; 4] = [
+    Terms::PLAIN,
+    Terms { letters: Letters::New, ..Terms::PLAIN },
+    OLD,
+    Terms { letters: Letters::New, ..OLD },
+];
+
+#[cfg(test)]
 mod tests {
     use super::*;
     use crate::rules::read;
     use crate::sheet::{Item, Room};
-    use crate::terms::Edition;
-
-    const OLD: Terms = Terms { edition: Edition::Old, ..Terms::PLAIN };
-    const TERMS: [Terms; 4] = [
-        Terms::PLAIN,
-        Terms { letters: Letters::New, ..Terms::PLAIN },
-        OLD,
-        Terms { letters: Letters::New, ..OLD },
-    ];
 
     #[test]
     fn files_of_the_writer_keep_the_rules() {
