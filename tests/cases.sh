@@ -8,7 +8,7 @@ mapfile -t verify < <(./run --say verify)
 [ ${#imager[@]} -gt 0 ] && [ ${#verify[@]} -gt 0 ] || exit 1
 room=$(mktemp -d)
 trap 'rm -rf "$room"' EXIT
-tests/unpack "$room" summary --rows
+tests/unpack "$room"
 
 # The answer to a question about the file on standard input.
 answer() { # WORDS

@@ -167,6 +167,8 @@ done
 by_mode mend 600 mend
 by_mode mend 100 mend --raw
 by_mode mend 100 mend --room 2,2,1,4
+by_mode placement 600 placement
+by_mode placement 100 placement --out 60
 # Files of 16,777,217 bytes are tried elsewhere (1).
 for number in 2 3 4 5 6 7 8 9 10 11 12 13 14 15 16 17 18 19 29; do
     grep -q "^refused $number " "$room/answers" || tell "refused with $number" "no file, 1 differ"

@@ -1,5 +1,5 @@
 #!/usr/bin/env bash
-# The second reader: its own tests, and the cases that stand beside the repository, where they do.
+# The second reader: its own tests, and all the cases that stand beside the repository, where they do.
 set -eu
 cd "$(dirname "$0")/.."
 made=$PWD/target/second
@@ -9,10 +9,7 @@ cargo test --release --quiet --manifest-path second/Cargo.toml --target-dir "$ma
 
 room=$(mktemp -d)
 trap 'rm -rf "$room"' EXIT
-# what one reader answers and the other may not yet
-also=()
-! grep -q '"summary"' second/src/question.rs || also=(summary --rows)
-tests/unpack "$room" "${also[@]}"
+tests/unpack --all "$room"
 for folder in cases cases-02; do
     told=$("$made/release/second" check-cases "$room/$folder")
     echo "second: $folder: $told"

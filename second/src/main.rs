@@ -11,6 +11,7 @@ mod macros;
 mod md5;
 mod mend;
 mod number;
+mod placement;
 mod question;
 mod rules;
 mod scan;
@@ -41,13 +42,14 @@ second MODE, with the file on standard input:
   numbers                                      the numbers kept, a line per AD
   attribute TA|TO PLACE NAME                   place and length of a value (also: attr)
   verify                                       the digest, if the file bears it
+  placement [--out BYTES]                      the placement list of a component layer
   mend [--raw] [--room E,A,M,N]                what was changed, bytes and MD5 of the mended file; or that file
   summary [--rows N]                           per aperture, then for all regions: how many items, and their bounds
   questions SEED                               some questions about the file, a line each
 with a list of file names on standard input:
   batch [--room E,A,M,N]                       a line per file: name, sheet or refusal, hash
 on folders and files:
-  make SEED COUNT DIR [--for mend]             writes generated files, to be read or to be mended
+  make SEED COUNT DIR [--for mend|placement]   writes generated files, broken ones, or component layers
   census DIR [--room E,A,M,N]                  how many files are answered with each number
   check-cases DIR                              runs the cases of the folder
   short N                                      every string of up to N bytes: how many, and a hash of the answers
@@ -86,6 +88,7 @@ fn purpose(words: &[String]) -> Option<Purpose> {
     match words[..] {
         [] => Some(Purpose::Reading),
         ["--for", "mend"] => Some(Purpose::Mending),
+        ["--for", "placement"] => Some(Purpose::Placement),
         _ => None,
     }
 }

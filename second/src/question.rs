@@ -7,6 +7,7 @@ use crate::attribute::{attribute, Held};
 use crate::listing;
 use crate::md5;
 use crate::mend::mend;
+use crate::placement::placement;
 use crate::rules::read;
 use crate::scan::Refusal;
 use crate::sheet::{Room, Sheet};
@@ -24,6 +25,7 @@ pub enum Question {
     Verify,
     Summary { rows: u64 },
     Mend { raw: bool, room: Room },
+    Placement { bytes: u64 },
 }
 
 /// A question, and the edition and letters that it names.
@@ -68,6 +70,13 @@ fn question(words: &[String]) -> Option<Question> {
                 Some(Question::Mend { raw: true, room: only_room(rest)? })
             }
             _ => Some(Question::Mend { raw: false, room: only_room(rest)? }),
+        },
+        "placement" => match rest {
+            [] => Some(Question::Placement { bytes: u64::MAX }),
+            [word, bytes] if word == "--out" => {
+                Some(Question::Placement { bytes: bytes.parse().ok()? })
+            }
+            _ => None,
         },
         "summary" => match rest {
             [] => Some(Question::Summary { rows: u64::MAX }),
@@ -174,6 +183,10 @@ pub fn answer(asked: &Asked, file: &[u8], out: &mut dyn Write) -> io::Result<()>
         Question::Mend { raw, room } => match mend(file, terms, *room) {
             Ok(mended) if *raw => out.write_all(&mended.file),
             Ok(mended) => listing::write_changes(out, &mended),
+            Err(refusal) => writeln!(out, "{}", listing::refusal_line(refusal)),
+        },
+        Question::Placement { bytes } => match placement(file, terms, *bytes) {
+            Ok(list) => out.write_all(&list),
             Err(refusal) => writeln!(out, "{}", listing::refusal_line(refusal)),
         },
         Question::Verify => match signature(file, terms) {

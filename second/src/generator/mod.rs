@@ -3,6 +3,7 @@
 
 mod aimed;
 mod broken;
+mod components;
 mod damage;
 mod letters;
 mod questions;
@@ -19,6 +20,7 @@ use std::path::Path;
 use crate::scan::LONGEST_FILE;
 use crate::terms::{Letters, Terms};
 pub use broken::broken;
+pub use components::components;
 pub use questions::questions;
 use random::Random;
 use writer::Writer;
@@ -31,6 +33,7 @@ const GIANT_EVERY: u64 = 10_000;
 pub enum Purpose {
     Reading,
     Mending,
+    Placement,
 }
 
 /// Writes so many numbered files into the folder.
@@ -45,6 +48,7 @@ pub fn make(
     let make_one = match purpose {
         Purpose::Reading => file,
         Purpose::Mending => broken,
+        Purpose::Placement => components,
     };
     for index in 0..count {
         fs::write(folder.join(format!("{index:07}.gbr")), make_one(seed, index, terms))?;

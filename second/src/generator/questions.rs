@@ -3,10 +3,14 @@
 
 use super::random::Random;
 use crate::command::{self, Command};
+use crate::placement::placement;
 use crate::rules::read;
 use crate::scan::Scanner;
 use crate::sheet::{Room, Sheet};
 use crate::terms::Terms;
+
+/// A placement list takes the time of the expansion.
+const MOST_PLACED: u64 = 100_000;
 
 pub fn questions(seed: u64, file: &[u8], terms: Terms) -> Vec<String> {
     let mut random = Random::new(seed, file.len() as u64);
@@ -16,7 +20,11 @@ pub fn questions(seed: u64, file: &[u8], terms: Terms) -> Vec<String> {
         items(&mut random, &sheet, &mut questions);
         addresses(&mut random, &sheet, &mut questions);
         summaries(&sheet, &mut questions);
+        if sheet.total() <= MOST_PLACED {
+            placements(file, terms, &mut questions);
+        }
     }
+    questions.push(String::from("mend"));
     attributes(&mut random, file, terms, &mut questions);
     questions.push(String::from("verify"));
     questions.iter().map(|question| question.clone() + &terms.words()).collect()
@@ -78,6 +86,15 @@ fn summaries(sheet: &Sheet, questions: &mut Vec<String>) {
     questions.push(String::from("summary"));
     questions.push(format!("summary --rows {}", apertures + 1));
     questions.push(format!("summary --rows {apertures}"));
+}
+
+/// In room enough, in just enough, and with a byte too few.
+fn placements(file: &[u8], terms: Terms, questions: &mut Vec<String>) {
+    questions.push(String::from("placement"));
+    if let Ok(list) = placement(file, terms, u64::MAX) {
+        questions.push(format!("placement --out {}", list.len()));
+        questions.push(format!("placement --out {}", list.len().saturating_sub(1)));
+    }
 }
 
 /// Places and names as they stand in the file, and some that do not.
