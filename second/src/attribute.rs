@@ -89,6 +89,26 @@ pub fn attribute(
     asked.ok_or(22u32)?.ok_or(23)
 }
 
+/// The file attributes in file order, a name and the bytes after its comma each; the numbers are
+/// those of the attribute call.
+pub fn file_attributes(file: &[u8], terms: Terms) -> Result<Vec<(&[u8], &[u8])>, u32> {
+    let number_of = |refusal: Refusal| refusal.number;
+    let mut scanner = Scanner::new(file, terms).map_err(number_of)?;
+    let mut found = Vec::new();
+    loop {
+        let raw = scanner.next().map_err(number_of)?;
+        match command::parse(&raw, terms.edition)? {
+            Command::FileAttribute(Attribute { name, value }) => {
+                found.push((name, value.unwrap_or_default()));
+            }
+            Command::End => break,
+            _ => {}
+        }
+    }
+    scanner.tail().map_err(number_of)?;
+    Ok(found)
+}
+
 fn code_of(command: &Command) -> Option<Code> {
     match command {
         Command::Code(code) => Some(*code),

@@ -7,7 +7,7 @@ use crate::command::Unit;
 use crate::md5;
 use crate::mend::Mended;
 use crate::scan::Refusal;
-use crate::sheet::{Item, Sheet};
+use crate::sheet::{Definition, Item, Shape, Sheet};
 use crate::summary::REGIONS;
 
 /// "past 65,536 bytes it prints refusal 1" (decision 16).
@@ -110,12 +110,37 @@ pub fn write_items(out: &mut dyn Write, sheet: &Sheet, k: u64, count: u64) -> io
 
 /// A line per AD, in file order.
 pub fn write_numbers(out: &mut dyn Write, sheet: &Sheet) -> io::Result<()> {
-    for definition in &sheet.definitions {
-        write!(out, "{}", definition.aperture)?;
-        for number in &definition.numbers {
-            write!(out, "\t{number}")?;
+    for Definition { number, shape } in &sheet.apertures {
+        if *shape != Shape::Block {
+            writeln!(out, "{number}{}", parted('\t', &shape.numbers()))?;
         }
-        writeln!(out)?;
+    }
+    Ok(())
+}
+
+/// The numbers, each behind a part.
+fn parted(part: char, numbers: &[i64]) -> String {
+    numbers.iter().map(|number| format!("{part}{number}")).collect()
+}
+
+/// A line per aperture in store order: its number, what it is, and its parameters; or a macro's
+/// primitives, each a field of a code and parameters, parted by spaces.
+pub fn write_apertures(out: &mut dyn Write, sheet: &Sheet) -> io::Result<()> {
+    for Definition { number, shape } in &sheet.apertures {
+        match shape {
+            Shape::Standard(template, parameters) => {
+                let template = char::from(*template);
+                writeln!(out, "{number}\t{template}{}", parted('\t', parameters))?;
+            }
+            Shape::Primitives(primitives) => {
+                write!(out, "{number}\tmacro")?;
+                for primitive in primitives {
+                    write!(out, "\t{}", parted(' ', primitive).trim_start())?;
+                }
+                writeln!(out)?;
+            }
+            Shape::Block => writeln!(out, "{number}\tblock")?,
+        }
     }
     Ok(())
 }
@@ -126,10 +151,10 @@ pub fn write_summary(out: &mut dyn Write, sheet: &Sheet, rows: u64) -> io::Resul
         return writeln!(out, "{}", refusal_line(Refusal::new(17, 0)));
     }
     let summary = sheet.summary();
-    for aperture in sheet.apertures.iter().chain([&REGIONS]) {
-        let row = summary.get(aperture).copied().unwrap_or_default();
-        let name =
-            if *aperture == REGIONS { String::from("regions") } else { aperture.to_string() };
+    let numbers = sheet.apertures.iter().map(|definition| definition.number);
+    for number in numbers.chain([REGIONS]) {
+        let row = summary.get(&number).copied().unwrap_or_default();
+        let name = if number == REGIONS { String::from("regions") } else { number.to_string() };
         let (least, greatest) = row.bounds.map_or_else(Default::default, |b| (b.least, b.greatest));
         writeln!(
             out,

@@ -183,7 +183,7 @@ fn run_of_number(text: &[u8]) -> &[u8] {
 
 /// The numbers an AD keeps of a macro: for each primitive its code, plain, and its parameters in
 /// millionths (decision 77). Or 9 or 10: the first block at fault decides, in it 9 before 10.
-pub fn work_out(definition: &Macro, parameters: &[i64]) -> Result<Vec<i64>, u32> {
+pub fn work_out(definition: &Macro, parameters: &[i64]) -> Result<Vec<Vec<i64>>, u32> {
     // "A variable never set is 0".
     let mut variables = [0; VARIABLES];
     variables[..parameters.len()].copy_from_slice(parameters);
@@ -202,8 +202,8 @@ pub fn work_out(definition: &Macro, parameters: &[i64]) -> Result<Vec<i64>, u32>
                 for part in parts {
                     values.push(evaluate(part, &variables)?);
                 }
-                kept.push(keeps_its_rule(code, &values).ok_or(10u32)?);
-                kept.extend(values);
+                let code = keeps_its_rule(code, &values).ok_or(10u32)?;
+                kept.push([vec![code], values].concat());
             }
         }
     }

@@ -42,6 +42,8 @@ second MODE, with the file on standard input:
   numbers                                      the numbers kept, a line per AD
   attribute TA|TO PLACE NAME                   place and length of a value (also: attr)
   verify                                       the digest, if the file bears it
+  apertures                                    what each aperture is, worked out
+  label                                        the file attributes
   placement [--out BYTES]                      the placement list of a component layer
   mend [--raw] [--room E,A,M,N]                what was changed, bytes and MD5 of the mended file; or that file
   summary [--rows N]                           per aperture, then for all regions: how many items, and their bounds

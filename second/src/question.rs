@@ -3,7 +3,7 @@
 use std::io::{self, Write};
 
 use crate::address::{Address, WORDS};
-use crate::attribute::{attribute, Held};
+use crate::attribute::{attribute, file_attributes, Held};
 use crate::listing;
 use crate::md5;
 use crate::mend::mend;
@@ -26,6 +26,8 @@ pub enum Question {
     Summary { rows: u64 },
     Mend { raw: bool, room: Room },
     Placement { bytes: u64 },
+    Apertures,
+    Label,
 }
 
 /// A question, and the edition and letters that it names.
@@ -65,6 +67,8 @@ fn question(words: &[String]) -> Option<Question> {
             _ => None,
         },
         "verify" if rest.is_empty() => Some(Question::Verify),
+        "apertures" if rest.is_empty() => Some(Question::Apertures),
+        "label" if rest.is_empty() => Some(Question::Label),
         "mend" => match rest.split_first() {
             Some((word, rest)) if word == "--raw" => {
                 Some(Question::Mend { raw: true, room: only_room(rest)? })
@@ -171,6 +175,13 @@ pub fn answer(asked: &Asked, file: &[u8], out: &mut dyn Write) -> io::Result<()>
             writeln!(out, "{}", listing::number_line(sheet, address))
         }),
         Question::Numbers => of_sheet(Room::UNLIMITED, &listing::write_numbers),
+        Question::Apertures => of_sheet(Room::UNLIMITED, &listing::write_apertures),
+        Question::Label => match file_attributes(file, terms) {
+            Ok(attributes) => attributes
+                .into_iter()
+                .try_for_each(|(name, value)| out.write_all(&[name, b"\t", value, b"\n"].concat())),
+            Err(number) => writeln!(out, "refused\t{number}"),
+        },
         Question::Summary { rows } => {
             of_sheet(Room::UNLIMITED, &|out, sheet| listing::write_summary(out, sheet, *rows))
         }

@@ -11,7 +11,7 @@ use crate::macros::{self, Macro};
 use crate::number::{Coordinate, Format, Number, DIGITS_BEFORE_FS, LARGEST, ONE};
 use crate::scan::{Refusal, Scanner};
 use crate::sheet::{
-    Block, Body, Definition, Grid, Item, Kind, Placing, Point, Room, Sheet, Source, TURN,
+    Block, Body, Definition, Grid, Item, Kind, Placing, Point, Room, Shape, Sheet, Source, TURN,
 };
 use crate::state::{Aperture, Contour, Graphics, Open, Region};
 use crate::templates;
@@ -64,7 +64,6 @@ struct Reading {
     apertures: HashMap<i64, Aperture>,
     macros: HashMap<Vec<u8>, Macro>,
     definitions: Vec<Definition>,
-    aperture_numbers: Vec<i64>,
     rounded: u64,
     file_attributes: HashSet<Vec<u8>>,
 }
@@ -107,7 +106,6 @@ impl Reading {
             apertures: HashMap::new(),
             macros: HashMap::new(),
             definitions: Vec::new(),
-            aperture_numbers: Vec::new(),
             rounded: 0,
             file_attributes: HashSet::new(),
         }
@@ -119,8 +117,7 @@ impl Reading {
             unit: self.unit.or(self.code_unit).expect("M02 without a unit is 6"),
             body: self.top,
             blocks: self.blocks,
-            definitions: self.definitions,
-            apertures: self.aperture_numbers,
+            apertures: self.definitions,
             used: self.used,
             rounded: self.rounded,
         }
@@ -302,14 +299,15 @@ impl Reading {
         let number = number.value();
         let parameters: Vec<i64> = parameters.iter().map(|parameter| parameter.value()).collect();
         require(!self.apertures.contains_key(&number), 8)?;
-        let numbers = if templates::is_standard(name) {
+        let shape = if templates::is_standard(name) {
             require(templates::keeps_its_rule(name, &parameters), 10)?;
-            parameters.clone()
+            Shape::Standard(name[0], parameters.clone())
         } else {
             let definition = self.macros.get(name).ok_or(8u32)?;
-            macros::work_out(definition, &parameters)?
+            Shape::Primitives(macros::work_out(definition, &parameters)?)
         };
-        self.use_room(Room { apertures: 1, numbers: numbers.len() as u64, ..Room::NONE })?;
+        let numbers = shape.numbers().len() as u64;
+        self.use_room(Room { apertures: 1, numbers, ..Room::NONE })?;
         let aperture = if templates::can_draw(name, &parameters) {
             Aperture::Pen
         } else if templates::is_solid_rectangle(name, &parameters) {
@@ -318,8 +316,7 @@ impl Reading {
             Aperture::Shape
         };
         self.apertures.insert(number, aperture);
-        self.definitions.push(Definition { aperture: number, numbers });
-        self.aperture_numbers.push(number);
+        self.definitions.push(Definition { number, shape });
         Ok(())
     }
 
@@ -559,7 +556,7 @@ impl Reading {
         require(self.open.iter().filter(is_block).count() < MOST_OPEN_BLOCKS, 15)?;
         self.use_room(Room { entries: 1, apertures: 1, ..Room::NONE })?;
         self.apertures.insert(number, Aperture::OpenBlock);
-        self.aperture_numbers.push(number);
+        self.definitions.push(Definition { number, shape: Shape::Block });
         self.open.push(Open::Block { number, body: Body::default(), height: 1 });
         self.graphics.point = None;
         Ok(())

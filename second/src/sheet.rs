@@ -230,11 +230,31 @@ pub struct Block {
     pub height: u32,
 }
 
-/// What an AD leaves behind: the aperture number and the numbers kept.
+/// An aperture of the store, as AD or AB made it.
 #[derive(Clone, PartialEq, Eq, Debug)]
 pub struct Definition {
-    pub aperture: i64,
-    pub numbers: Vec<i64>,
+    pub number: i64,
+    pub shape: Shape,
+}
+
+#[derive(Clone, PartialEq, Eq, Debug)]
+pub enum Shape {
+    /// C, R, O or P, and its parameters.
+    Standard(u8, Vec<i64>),
+    /// A macro's primitives worked out: each a code, as a plain number, and its parameters.
+    Primitives(Vec<Vec<i64>>),
+    Block,
+}
+
+impl Shape {
+    /// The numbers kept.
+    pub fn numbers(&self) -> Vec<i64> {
+        match self {
+            Shape::Standard(_, parameters) => parameters.clone(),
+            Shape::Primitives(primitives) => primitives.concat(),
+            Shape::Block => Vec::new(),
+        }
+    }
 }
 
 /// Records and numbers, used or lent.
@@ -258,9 +278,8 @@ pub struct Sheet {
     pub unit: Unit,
     pub body: Body,
     pub blocks: Vec<Block>,
-    pub definitions: Vec<Definition>,
-    /// The numbers of AD and AB, in the order of the store.
-    pub apertures: Vec<i64>,
+    /// In the order of the store.
+    pub apertures: Vec<Definition>,
     pub used: Room,
     /// "how many decimals were rounded, each written one counted once" (document 02, [1]).
     pub rounded: u64,

@@ -14,7 +14,7 @@ const MOST_PLACED: u64 = 100_000;
 
 pub fn questions(seed: u64, file: &[u8], terms: Terms) -> Vec<String> {
     let mut random = Random::new(seed, file.len() as u64);
-    let mut questions = vec![String::from("sheet"), String::from("numbers")];
+    let mut questions = ["sheet", "numbers", "apertures", "label"].map(String::from).to_vec();
     if let Ok(sheet) = read(file, terms, Room::UNLIMITED) {
         rooms(&mut random, &sheet.used, &mut questions);
         items(&mut random, &sheet, &mut questions);
