@@ -43,7 +43,7 @@ static void operation(struct text *t, const char *code)
     add(t, line, (size_t)sprintf(line, "X%dY%dD%s*\n", chance(200000000), chance(200000000), code));
 }
 
-static struct text flat(size_t bytes)
+static inline struct text flat(size_t bytes)
 {
     struct text t = {0};
     say(&t, start);
