@@ -3,7 +3,7 @@
 use Prim.Native.Nat.{ℕ, suc, _+_, _-_, _*_, _/_, _≤_, _<_}
 use mathlib.Core.Path.{_≡_, refl, sym, ap, _∙_}
 use mathlib.Core.Bool.{Bool, true, false, false≢true}
-use mathlib.Core.List.{List, [], _∷_, _++_, append-nil}
+use mathlib.Core.List.{List, _∷_}
 use native.Mathlib.Nat.{add-zero, le-refl, mul-pos, mul-le-mul-right, le-div-iff-mul-le}
 use native.Mathlib.Omega.{arith}
 use lib.Dec.{eqb}
@@ -11,19 +11,20 @@ use borrow.Author.Tests.{eq-eqb, ne-eqb, eqb-true, eqb-false, le-leb}
 use Rattle.base.specs.And.{_and_}
 use Rattle.base.proofs.And.{and-i}
 use Rattle.ints.proofs.Bounded.{pos-bits}
-use Rattle.place.specs.declared.Item.{Item}
+use Rattle.place.specs.Parts.{Parts, none, repeated, _then_}
 use Rattle.place.specs.declared.Repeat.{Repeat}
-use Rattle.place.specs.Copies.{copies}
-use Rattle.place.specs.Mark.{Around, top, within, block, repeat, itemsOf}
+use Rattle.place.specs.Mark.{Around, top, within, block, repeat, partsOf}
+use Rattle.place.proofs.Parts.{then-none}
 use Rattle.sheet.specs.Records.{entryOf, apertureOf, roleOf}
 use Rattle.sheet.specs.Containers.{blockOf, bodyOf}
-use Rattle.sheet.specs.Meaning.{repeatOf, puts, entryItems, items}
+use Rattle.sheet.specs.Meaning.{repeatOf}
 use Rattle.sheet.specs.Valid.{most, far, isNear, okPoints, okWords, isBlock, okCounts, okRepeat, okRole, okEntry, sizeAs, sizeOf, okContainer, okBlock, blockLength}
 use Rattle.sheet.specs.declared.Aperture.{Aperture}
 use Rattle.sheet.specs.declared.Container.{Container}
 use Rattle.sheet.specs.declared.Entry.{Entry}
 use Rattle.sheet.specs.declared.Role.the-variants.{Defines, Repeats}
 use Rattle.sheet.proofs.Conditions.{counts-ok}
+use Rattle.sheet.proofs.Parts.{partAs, partOf, parts}
 use Rattle.building.specs.Open.{Level, opener, Opened, Built}
 use Rattle.building.specs.Closing.{Settled, defines, repeats}
 use Rattle.building.proofs.Frame.{Agrees}
@@ -32,7 +33,7 @@ use Rattle.building.proofs.Grow.{stays-as-high, opened-grow, top-grow}
 use Rattle.building.proofs.Steps.{block-is, same-kind, same-block, block-same, block-shows}
 use Rattle.building.proofs.Settle.{sums-raise, settled-ok, settled-low}
 
--- the entry that a closed block leaves is in order anywhere, and puts out nothing
+-- the entry that a closed block leaves is in order anywhere, and is no part
 defines-ok : (a : List ℕ) (n h : ℕ) (o : Entry) → okEntry a n h (defines o) ≡ true
 unfolding okEntry okWords okPoints isNear okRole roleOf defines _and_
 defines-ok a n h o = refl
@@ -57,7 +58,7 @@ length-same a a′ b s = rw (same-kind a a′ b s, same-block a a′ b s)
 defines-repeat-not : Defines ≡ Repeats → ⊥
 defines-repeat-not q = let z : _≡_ {A = ℕ} 0 1 = cc in omega arith
 
-module _ (blocks : List (ℕ × List Item)) (here before : List Item) (around : Around) (m : ℕ) (e a : List ℕ) (room n closed high start h t : ℕ)
+module _ (blocks : List (ℕ × Parts)) (here before : Parts) (around : Around) (m : ℕ) (e a : List ℕ) (room n closed high start h t : ℕ)
     (built : Built (record { blocks = blocks; here = here; around = within (block m) before around }) e a room n closed high start h t)
     (e′ a′ : List ℕ) (moved : Settled e e′ room closed start high)
     (opens : entryOf e′ (room - start) ≡ defines (opener e room start))
@@ -87,7 +88,7 @@ module _ (blocks : List (ℕ × List Item)) (here before : List Item) (around : 
 
   pub close-block : Built (record { blocks = (m, here) ∷ blocks; here = before; around = around }) e′ a′ room n (closed + (high - start)) start
       (opener e room start .sx) (opener e room start .sy) (opener e room start .before)
-  unfolding Opened isBlock blockOf itemsOf entryItems puts roleOf defines
+  unfolding Opened isBlock blockOf partsOf partOf partAs roleOf defines
   close-block =
       let k = built .opened .0 in
       let known = k .known in
@@ -103,7 +104,7 @@ module _ (blocks : List (ℕ × List Item)) (here before : List Item) (around : 
             (rw record-is (settled-ok e a room closed (start - 1) n b (built .blocks-ok) e′ a′ agree start len h t here (k .level) (moved .settled) few)))
             (λ ne. block-same e a room closed (start - 1) n b (built .blocks-ok) n (closed + len) e′ a′ agree (le-refl _) (omega arith) c l (sym (others c ne)));
         blocks-show = λ c l. this-or-other
-            (λ c. isBlock a′ c ≡ true → items e′ a′ 8 (blockOf a′ c) ≡ itemsOf (apertureOf a′ c .number) ((m, here) ∷ blocks)) c
+            (λ c. isBlock a′ c ≡ true → parts e′ a′ 8 (blockOf a′ c) ≡ partsOf (apertureOf a′ c .number) ((m, here) ∷ blocks)) c
             (λ q. this-shows (k .level) (k .lower))
             (λ ne q. other-shows c l ne (same-kind a a′ c (sym (others c ne)) ∙ q) (k .number) known);
         distinct = λ c d lc ld q. built .distinct c d lc ld (sym (number (k .number) c) ∙ q ∙ number (k .number) d);
@@ -131,21 +132,21 @@ module _ (blocks : List (ℕ × List Item)) (here before : List Item) (around : 
           (λ ne. ap (λ (p : Aperture). p .number) (others c ne))
 
       lengthened : isBlock a b ≡ false → blockLength a′ b ≡ blockLength a b + len
-      lengthened none =
+      lengthened not-block =
           let this : blockLength a′ b ≡ len = length-block a′ b is-block ∙ ap (λ (k : Container). k .len) block-of in
-          let was = length-none a b none in
+          let was = length-none a b not-block in
           omega arith
 
       same-length : (c : ℕ) → (c ≡ b → ⊥) → blockLength a′ c ≡ blockLength a c
       same-length c ne = length-same a′ a c (others c ne)
 
-      this-shows : Level e a room n start len h t here → h ≤ 8 → items e′ a′ 8 (blockOf a′ b) ≡ itemsOf (apertureOf a′ b .number) ((m, here) ∷ blocks)
+      this-shows : Level e a room n start len h t here → h ≤ 8 → parts e′ a′ 8 (blockOf a′ b) ≡ partsOf (apertureOf a′ b .number) ((m, here) ∷ blocks)
       this-shows level low =
           rw (record-is, eq-eqb m m refl)
           (settled-low e a room closed (start - 1) n b (built .blocks-ok) e′ a′ agree start len h t here level (moved .settled) 7 low (omega arith))
 
       other-shows : (c : ℕ) → c < n → (c ≡ b → ⊥) → isBlock a c ≡ true → apertureOf a b .number ≡ m → b < n →
-          items e′ a′ 8 (blockOf a′ c) ≡ itemsOf (apertureOf a′ c .number) ((m, here) ∷ blocks)
+          parts e′ a′ 8 (blockOf a′ c) ≡ partsOf (apertureOf a′ c .number) ((m, here) ∷ blocks)
       other-shows c l ne q is known =
           block-shows e a room closed (start - 1) n b (built .blocks-ok) n (closed + len) e′ a′ agree (le-refl _) (omega arith) c l (sym (others c ne)) q 8
           ∙ built .blocks-show c l q
@@ -155,11 +156,11 @@ module _ (blocks : List (ℕ × List Item)) (here before : List Item) (around : 
           Opened e′ a′ room n (closed + len) n around before start (o .sx) (o .sy) (o .before) (built .bodies)
       outer some known q =
           let one : suc (start - 1) ≡ start = omega arith in
-          let grown = opened-grow e′ a′ room n (o .sy) (o .sy) (stays-as-high _) (defines o) (start - 1) (rw one opens) (defines-ok a′ n (o .sy) o) [] refl
+          let grown = opened-grow e′ a′ room n (o .sy) (o .sy) (stays-as-high _) (defines o) (start - 1) (rw one opens) (defines-ok a′ n (o .sy) o) none refl
           around before (closed + len) (o .sx) (o .before) (built .bodies) n refl defines-repeat-not
           (opened-same e a room closed (start - 1) n b (built .blocks-ok) n (closed + len) e′ a′ agree (le-refl _) (omega arith)
           around before (start - 1) (o .sx) (o .sy) (o .before) (built .bodies) b n (le-refl _) (le-refl _) (omega arith) q) in
-          rw (one, append-nil, defines-none a′ o, add-zero) at grown
+          rw (one, then-none, defines-none a′ o, add-zero) at grown
 
 near : (w : ℕ) → w ≤ most → isNear w ≡ true
 unfolding isNear
@@ -192,7 +193,7 @@ module _ (a : List ℕ) (n : ℕ) (o : Entry) (first len t : ℕ) (counts : okCo
       let two = mul-le-mul-right t (c .ny-low) in
       omega arith
 
-module _ (blocks : List (ℕ × List Item)) (here before : List Item) (around : Around) (r : Repeat) (e a : List ℕ) (room n closed high start h t : ℕ)
+module _ (blocks : List (ℕ × Parts)) (here before : Parts) (around : Around) (r : Repeat) (e a : List ℕ) (room n closed high start h t : ℕ)
     (built : Built (record { blocks = blocks; here = here; around = within (repeat r) before around }) e a room n closed high start h t)
     (e′ : List ℕ) (moved : Settled e e′ room closed start high)
     (opens : entryOf e′ (room - start) ≡ repeats (opener e room start) closed (high - start) t)
@@ -208,9 +209,9 @@ module _ (blocks : List (ℕ × List Item)) (here before : List Item) (around : 
     same-open = λ c l. refl;
   }
 
-  pub close-repeat : Built (record { blocks = blocks; here = before ++ copies r here; around = around }) e′ a room n (closed + (high - start)) start
+  pub close-repeat : Built (record { blocks = blocks; here = before then repeated r here none; around = around }) e′ a room n (closed + (high - start)) start
       (opener e room start .who) 10 (opener e room start .before + opener e room start .sx * (opener e room start .sy * t))
-  unfolding Opened bodyOf repeats repeatOf entryItems puts roleOf sizeOf sizeAs
+  unfolding Opened bodyOf repeats repeatOf partOf partAs roleOf sizeOf sizeAs
   close-repeat =
       let k = built .opened .0 in
       let lengths = built .lengths in
@@ -235,13 +236,13 @@ module _ (blocks : List (ℕ × List Item)) (here before : List Item) (around : 
       }
     where
       outer : (around : Around) → 1 ≤ start → okCounts (opener e room start) ≡ true → opener e room start .cx ≤ most → opener e room start .cy ≤ most → repeatOf (opener e room start) ≡ r →
-          okContainer e′ a (closed + (high - start)) n (bodyOf o′) ≡ true → items e′ a 9 (bodyOf o′) ≡ here →
+          okContainer e′ a (closed + (high - start)) n (bodyOf o′) ≡ true → parts e′ a 9 (bodyOf o′) ≡ here →
           Opened e′ a room n (closed + (high - start)) n around before (start - 1) (opener e room start .who) 10 (opener e room start .before) (built .bodies) →
-          Opened e′ a room n (closed + (high - start)) n around (before ++ copies r here) start (opener e room start .who) 10
+          Opened e′ a room n (closed + (high - start)) n around (before then repeated r here none) start (opener e room start .who) 10
           (opener e room start .before + opener e room start .sx * (opener e room start .sy * t)) (built .bodies + (high - start))
       outer top some counts dx dy says ok shows q =
           let one : suc (start - 1) ≡ start = omega arith in
           rw one at (top-grow e′ a room n 10 10 (stays-as-high _) o′ (start - 1) (rw one opens) (repeats-ok a n (opener e room start) closed (high - start) t counts dx dy few)
-          (copies r here) (λ i. copies (says i) (shows i)) before (closed + (high - start)) (opener e room start .who) (opener e room start .before) (built .bodies) refl ok refl q)
+          (repeated r here none) (λ i. repeated (says i) (shows i) none) before (closed + (high - start)) (opener e room start .who) (opener e room start .before) (built .bodies) refl ok refl q)
       outer (within (block m) before′ around′) some counts dx dy says ok shows q = let low = q .0 .lower in absurd (omega arith)
       outer (within (repeat r′) before′ around′) some counts dx dy says ok shows q = let nine = q .0 .height in absurd (omega arith)

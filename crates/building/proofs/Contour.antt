@@ -2,12 +2,14 @@
 -- Assumes nothing.
 use Prim.Native.Nat.{ℕ, suc, _+_, _-_, _≤_, _<_}
 use mathlib.Core.Path.{_≡_, refl, _∙_}
-use mathlib.Core.List.{List, [], _∷_, _++_, append-assoc, append-nil}
+use mathlib.Core.List.{List, [], _∷_, _++_}
 use native.Mathlib.Nat.{le-refl, add-zero}
 use native.Mathlib.Omega.{arith}
 use lib.ListN.{length, length-append}
+use Rattle.place.specs.Parts.{_then_}
 use Rattle.place.specs.declared.Item.{Item}
 use Rattle.place.specs.Mark.{Sheet, withCount, put}
+use Rattle.place.proofs.Parts.{inRow, then-none, then-assoc}
 use Rattle.sheet.specs.Records.{entryOf, entryRoom}
 use Rattle.building.specs.Open.{Built}
 use Rattle.building.specs.Drawing.{Draw, DrawAll, Drawing}
@@ -15,17 +17,17 @@ use Rattle.building.proofs.Steps.{built-same, item-grow}
 
 -- all that is drawn is on the sheet
 pub all-drawn : (xs : List Item) (s : Sheet) (e a : List ℕ) (room n closed high start h t : ℕ) → Built s e a room n closed high start h t →
-    closed + (high + length xs) ≤ room → DrawAll e a room n h high t xs → Built (put xs s) e a room n closed (high + length xs) start h (t + length xs)
-unfolding DrawAll put
-all-drawn [] s e a room n closed high start h t b fits d = rw (append-nil, add-zero, add-zero) b
+    closed + (high + length xs) ≤ room → DrawAll e a room n h high t xs → Built (put (inRow xs) s) e a room n closed (high + length xs) start h (t + length xs)
+unfolding DrawAll put inRow _then_
+all-drawn [] s e a room n closed high start h t b fits d = rw (then-none, add-zero, add-zero) b
 all-drawn (x ∷ xs) s e a room n closed high start h t b fits d =
     let p : suc high + length xs ≡ high + suc (length xs) = omega arith in
     let q : t + 1 + length xs ≡ t + suc (length xs) = omega arith in
     let more = rw (d .0 .shows) at (item-grow s e a room n closed high start h t b _ refl (omega arith) (d .0 .role) (d .0 .before-is) (d .0 .ok)) in
-    rw (append-assoc, p, q) at (all-drawn xs _ e a room n closed (suc high) start h (t + 1) more (omega arith) (d .1))
+    rw (then-assoc, p, q) at (all-drawn xs _ e a room n closed (suc high) start h (t + 1) more (omega arith) (d .1))
 
 pub drawn-built : (s : Sheet) (c : Item) (es : List Item) (e a : List ℕ) (room n closed high start h t : ℕ) → Drawing s c es e a room n closed high start h t →
-    Built (put (withCount (length es) c ∷ es) s) e a room n closed (high + suc (length es)) start h (t + suc (length es))
+    Built (put (inRow (withCount (length es) c ∷ es)) s) e a room n closed (high + suc (length es)) start h (t + suc (length es))
 drawn-built s c es e a room n closed high start h t d =
     all-drawn (withCount (length es) c ∷ es) s e a room n closed high start h t (d .base) (d .fits) (d .all)
 

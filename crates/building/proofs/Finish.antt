@@ -1,4 +1,4 @@
--- The end: once the top level lies behind what is closed, the store is a sheet, and it puts out what was written out.
+-- The end: once the top level lies behind what is closed, the store is a sheet, and its parts are those that were written.
 -- Assumes nothing.
 use Prim.Native.Nat.{ℕ, suc, _+_, _-_, _≤_, _<_}
 use mathlib.Core.Path.{_≡_, refl, _∙_}
@@ -12,17 +12,17 @@ use borrow.Author.Tests.{eq-eqb, eqb-true, le-leb}
 use Rattle.base.specs.Run.{sums}
 use Rattle.base.proofs.And.{and-i}
 use Rattle.base.proofs.Run.{sums-cong}
-use Rattle.place.specs.declared.Item.{Item}
+use Rattle.place.specs.Parts.{Parts}
 use Rattle.place.specs.Mark.{top}
 use Rattle.sheet.specs.Records.{entryOf, roleOf, entryRoom, apertureRoom}
 use Rattle.sheet.specs.Containers.{markOf, unitOf, entriesUsed, aperturesUsed, bodyOf, topOf}
-use Rattle.sheet.specs.Meaning.{items, sheetItems}
 use Rattle.sheet.specs.Valid.{sheetMark, most, okContainer, okBlock, isRepeat, okBody, blockLength, bodyLength, okLengths, okContainers, okHead, valid}
 use Rattle.sheet.specs.declared.Container.{Container}
 use Rattle.sheet.proofs.Build.{sums-from}
 use Rattle.sheet.proofs.Every.{every-all}
+use Rattle.sheet.proofs.Parts.{sheetParts}
 use Rattle.building.specs.Open.{Opened, Built}
-use Rattle.building.proofs.Frame.{Agrees, kept-items, container-same}
+use Rattle.building.proofs.Frame.{Agrees, kept-parts, container-same}
 use Rattle.building.proofs.Same.{body-kept}
 use Rattle.building.proofs.Steps.{block-same}
 use Rattle.building.proofs.Settle.{settled-ok, settled-shows}
@@ -37,7 +37,7 @@ pub record Headed (head : List ℕ) (used n len t : ℕ) : Type 0 where
   pub top-len : getD head 6 0 ≡ len
   pub total : getD head 7 0 ≡ t
 
-module _ (blocks : List (ℕ × List Item)) (here : List Item) (e a : List ℕ) (room n closed high start h t : ℕ)
+module _ (blocks : List (ℕ × Parts)) (here : Parts) (e a : List ℕ) (room n closed high start h t : ℕ)
     (built : Built (record { blocks = blocks; here = here; around = top }) e a room n closed high start h t)
     (head e′ : List ℕ) (headed : Headed head (closed + high) n high t) (long : entryRoom e′ ≡ room) (apertures : n ≤ apertureRoom a) (few : t ≤ most)
     (same-closed : (i : ℕ) → i < closed → entryOf e i ≡ entryOf e′ i)
@@ -98,8 +98,8 @@ module _ (blocks : List (ℕ × List Item)) (here : List Item) (e a : List ℕ) 
       (every-all (okBlock e′ a (closed + high) n) 0 n (λ b l. rw (zero-add b) (block-same e a room closed 0 n n (built .blocks-ok) n (closed + high) e′ a agree (le-refl _) (omega arith) b l refl))))
       (every-all (okBody e′ a (closed + high) n) closed high body-ok)))
 
-  pub finish-items : sheetItems head e′ a ≡ here
-  unfolding sheetItems Opened
-  finish-items = rw top-is (settled-shows e a room closed 0 n n (built .blocks-ok) e′ a agree 0 high 10 t here (built .opened .level) on-stack 9 (le-refl _)
-      (λ i l q. kept-items e a closed n (built .blocks-ok) room 0 n n closed e′ a agree (le-refl _) (le-refl _) _
+  pub finish-parts : sheetParts head e′ a ≡ here
+  unfolding sheetParts Opened
+  finish-parts = rw top-is (settled-shows e a room closed 0 n n (built .blocks-ok) e′ a agree 0 high 10 t here (built .opened .level) on-stack 9 (le-refl _)
+      (λ i l q. kept-parts e a closed n (built .blocks-ok) room 0 n n closed e′ a agree (le-refl _) (le-refl _) _
       (body-kept e a closed n _ (rw (zero-add i) (built .opened .bodies-ok i l (rw (zero-add i) at q)))) 9))

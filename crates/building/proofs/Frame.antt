@@ -13,7 +13,6 @@ use Rattle.base.proofs.And.{and-l, and-r, and-i}
 use Rattle.base.proofs.Run.{sums-cong}
 use Rattle.sheet.specs.Records.{entryOf, apertureOf, roleOf}
 use Rattle.sheet.specs.Containers.{blockOf}
-use Rattle.sheet.specs.Meaning.{items}
 use Rattle.sheet.specs.Valid.{most, isBlock, okUse, okRepeat, okRole, okEntry, sizeAs, sizeOf, sizeAt, okContainer, okBlock}
 use Rattle.sheet.specs.declared.Aperture.{Aperture}
 use Rattle.sheet.specs.declared.Entry.{Entry}
@@ -21,7 +20,8 @@ use Rattle.sheet.specs.declared.Container.{Container}
 use Rattle.sheet.specs.declared.Role.{Role}
 use Rattle.sheet.specs.declared.Role.the-variants.{Draws, Uses, Repeats, Defines, Unknown}
 use Rattle.sheet.proofs.Conditions.{use-ok, repeat-ok, entry-use, entry-repeat, container-ok}
-use Rattle.sheet.proofs.Build.{OpenOk, ok-same, ok-run, sums-from, items-frame, items-fuel}
+use Rattle.sheet.proofs.Build.{OpenOk, ok-same, ok-run, sums-from, parts-frame, parts-fuel}
+use Rattle.sheet.proofs.Parts.{parts}
 
 -- the second store has the closed entries, the stack and the blocks of the first, and the apertures below `limit`
 pub record Agrees (room closed high n limit : ℕ) (e a e′ a′ : List ℕ) : Type 0 where
@@ -124,17 +124,17 @@ module _ (e a : List ℕ) (closed n : ℕ) (blocks-ok : (b : ℕ) → b < n → 
         omega arith
 
   -- the height bounds the descent
-  pub fuel : (k : Container) → Kept e a closed n k → (h h′ : ℕ) → k .height ≤ h → k .height ≤ h′ → items e a h k ≡ items e a h′ k
-  fuel k c h h′ l l′ = items-fuel e a (Kept e a closed n) (λ k c. c .low)
+  pub fuel : (k : Container) → Kept e a closed n k → (h h′ : ℕ) → k .height ≤ h → k .height ≤ h′ → parts e a h k ≡ parts e a h′ k
+  fuel k c h h′ l l′ = parts-fuel e a (Kept e a closed n) (λ k c. c .low)
       uses-block
       (λ k c i l q. absurd (no-repeat k c i l q))
       h h′ k c l l′
 
   -- in a store that agrees, closed containers are closed, and put out the same
   module _ (room high limit n′ closed′ : ℕ) (e′ a′ : List ℕ) (agree : Agrees room closed high n limit e a e′ a′) (more : n ≤ n′) (longer : closed ≤ closed′) where
-    pub kept-items : (k : Container) → Kept e a closed n k → (h : ℕ) → items e a h k ≡ items e′ a′ h k
+    pub kept-parts : (k : Container) → Kept e a closed n k → (h : ℕ) → parts e a h k ≡ parts e′ a′ h k
     unfolding blockOf
-    kept-items k c h = items-frame e a e′ a′ (Kept e a closed n)
+    kept-parts k c h = parts-frame e a e′ a′ (Kept e a closed n)
         (λ k c i l. let inside = container-ok e a closed n k (c .ok) .inside in agree .same-closed (k .first + i) (omega arith))
         uses-same
         (λ k c i l q. absurd (no-repeat k c i l q))

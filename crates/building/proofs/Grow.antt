@@ -1,24 +1,24 @@
--- An entry more on the stack: the innermost container puts out what it put out, and then what the entry does.
+-- An entry more on the stack: the innermost container has the parts that it had, and then that of the entry.
 -- Assumes nothing.
 use Prim.Native.Nat.{ℕ, suc, _+_, _-_, _≤_, _<_}
 use mathlib.Core.Path.{_≡_, refl, _∙_}
 use mathlib.Core.Bool.{Bool, true, false, cond}
-use mathlib.Core.List.{List, _++_}
+use mathlib.Core.List.{List}
 use mathlib.Core.Logic.{⊎-elim}
 use native.Mathlib.Nat.{zero-add, le-refl, eq-or-lt-of-le}
 use native.Mathlib.Omega.{arith}
 use lib.Dec.{eqb}
 use borrow.Author.Tests.{eqb-true}
 use Rattle.base.proofs.Run.{sums-snoc}
-use Rattle.place.specs.declared.Item.{Item}
+use Rattle.place.specs.Parts.{Parts, _then_}
 use Rattle.place.specs.Mark.{Around, top, within, block, repeat}
 use Rattle.sheet.specs.Records.{entryOf, roleOf}
 use Rattle.sheet.specs.Containers.{bodyOf}
-use Rattle.sheet.specs.Meaning.{entryItems, items}
 use Rattle.sheet.specs.Valid.{okEntry, sizeOf, okContainer, isRepeat, bodyLength}
 use Rattle.sheet.specs.declared.Entry.{Entry}
 use Rattle.sheet.specs.declared.Role.the-variants.{Repeats}
 use Rattle.sheet.proofs.Build.{stacked, ok-snoc, open-push}
+use Rattle.sheet.proofs.Parts.{partOf, parts}
 use Rattle.building.specs.Open.{Level, AtTop, Opened}
 use Rattle.building.proofs.Frame.{open-ok}
 
@@ -41,20 +41,20 @@ no-body e i unlike = go (eqb (entryOf e i .kind) 10) refl
     go false q = refl
 
 module _ (e a : List ℕ) (room n h h′ : ℕ) (may : MayRise h h′) (r : Entry) (high : ℕ) (at-end : entryOf e (room - suc high) ≡ r)
-    (ok : okEntry a n h′ r ≡ true) (ts : List Item) (puts : entryItems a (items e a 9) r ≡ ts) where
-  level-grow : (start len t : ℕ) (here : List Item) → start + len ≡ high → r .before ≡ t → Level e a room n start len h t here →
-      Level e a room n start (suc len) h′ (t + sizeOf a r) (here ++ ts)
+    (ok : okEntry a n h′ r ≡ true) (ps : Parts) (is : partOf a (parts e a 9) r ≡ ps) where
+  level-grow : (start len t : ℕ) (here : Parts) → start + len ≡ high → r .before ≡ t → Level e a room n start len h t here →
+      Level e a room n start (suc len) h′ (t + sizeOf a r) (here then ps)
   level-grow start len t here s b l =
       let at : stacked e room start len ≡ r = rw s at-end in
       let o = open-ok a a n n h h′ (le-refl _) (may .rises) (λ q. may .stays (omega arith) ∙ q) (λ b l q. refl) _ len t (l .ok) in
       record {
         ok = rw at at (ok-snoc a n h′ (stacked e room start) len t o (rw at b) (rw at ok));
-        shows = open-push a (items e a 9) (stacked e room start) len ∙ rw (at, l .shows, puts);
+        shows = open-push a (parts e a 9) (stacked e room start) len ∙ rw (at, l .shows, is);
       }
 
-  pub opened-grow : (around : Around) (here : List Item) (closed start t bodies limit : ℕ) → r .before ≡ t → (roleOf (r .kind) ≡ Repeats → ⊥) →
+  pub opened-grow : (around : Around) (here : Parts) (closed start t bodies limit : ℕ) → r .before ≡ t → (roleOf (r .kind) ≡ Repeats → ⊥) →
       Opened e a room n closed limit around here high start h t bodies →
-      Opened e a room n closed limit around (here ++ ts) (suc high) start h′ (t + sizeOf a r) bodies
+      Opened e a room n closed limit around (here then ps) (suc high) start h′ (t + sizeOf a r) bodies
   unfolding Opened
   opened-grow top here closed start t bodies limit b unlike o =
       let ten = o .height in
@@ -112,9 +112,9 @@ module _ (e a : List ℕ) (room n h h′ : ℕ) (may : MayRise h h′) (r : Entr
       )
 
   -- a repeat more, in the top level
-  pub top-grow : (here : List Item) (closed start t bodies : ℕ) → r .before ≡ t → okContainer e a closed n (bodyOf r) ≡ true → eqb (r .kind) 10 ≡ true →
+  pub top-grow : (here : Parts) (closed start t bodies : ℕ) → r .before ≡ t → okContainer e a closed n (bodyOf r) ≡ true → eqb (r .kind) 10 ≡ true →
       AtTop e a room n closed here high start h t bodies →
-      AtTop e a room n closed (here ++ ts) (suc high) start h′ (t + sizeOf a r) (bodies + bodyOf r .len)
+      AtTop e a room n closed (here then ps) (suc high) start h′ (t + sizeOf a r) (bodies + bodyOf r .len)
   unfolding bodyLength isRepeat
   top-grow here closed start t bodies b body kind o =
       let ten = o .height in

@@ -3,24 +3,25 @@
 use Prim.Native.Nat.{ℕ, suc, _+_, _-_, _≤_, _<_}
 use mathlib.Core.Path.{_≡_, refl, sym, ap, _∙_}
 use mathlib.Core.Bool.{Bool, true, false, false≢true}
-use mathlib.Core.List.{List, [], _∷_}
+use mathlib.Core.List.{List}
 use native.Mathlib.Nat.{le-refl}
 use native.Mathlib.Omega.{arith}
 use lib.Dec.{eqb, ltb}
 use borrow.Author.Tests.{le-leb, ltb-true, ltb-false}
 use Rattle.base.specs.Run.{sums}
 use Rattle.base.proofs.And.{and-i}
-use Rattle.place.specs.declared.Item.{Item}
-use Rattle.place.specs.Mark.{Sheet, itemsOf, put}
+use Rattle.place.specs.Parts.{Parts, none, item}
+use Rattle.place.specs.Mark.{Sheet, partsOf, put}
 use Rattle.sheet.specs.Records.{entryOf, apertureOf, roleOf, entryRoom}
 use Rattle.sheet.specs.Containers.{blockOf}
-use Rattle.sheet.specs.Meaning.{drawn, puts, entryItems, items}
+use Rattle.sheet.specs.Meaning.{drawn}
 use Rattle.sheet.specs.Valid.{isBlock, okEntry, sizeAs, sizeOf, okContainer, okBlock, blockLength}
 use Rattle.sheet.specs.declared.Aperture.{Aperture}
 use Rattle.sheet.specs.declared.Entry.{Entry}
 use Rattle.sheet.specs.declared.Role.the-variants.{Draws, Repeats}
+use Rattle.sheet.proofs.Parts.{partAs, partOf, parts}
 use Rattle.building.specs.Open.{Built}
-use Rattle.building.proofs.Frame.{Agrees, block-kept, kept-items, container-same}
+use Rattle.building.proofs.Frame.{Agrees, block-kept, kept-parts, container-same}
 use Rattle.building.proofs.Same.{opened-same}
 use Rattle.building.proofs.Grow.{MayRise, stays-as-high, opened-grow}
 
@@ -61,10 +62,10 @@ module _ (e a : List ℕ) (room closed high n limit : ℕ) (blocks-ok : (b : ℕ
           (rw (← s) (container-same e a closed n blocks-ok room high limit n′ closed′ e′ a′ agree more longer (blockOf a b) (k .0 .ok)))
       go false q = block-none e′ a′ closed′ n′ b (sym (same-kind a a′ b same) ∙ q)
 
-  pub block-shows : isBlock a b ≡ true → (h : ℕ) → items e′ a′ h (blockOf a′ b) ≡ items e a h (blockOf a b)
+  pub block-shows : isBlock a b ≡ true → (h : ℕ) → parts e′ a′ h (blockOf a′ b) ≡ parts e a h (blockOf a b)
   block-shows q h =
       let k = block-kept e a closed n blocks-ok b l q in
-      rw (← same-block a a′ b same) (sym (kept-items e a closed n blocks-ok room high limit n′ closed′ e′ a′ agree more longer (blockOf a b) (k .0) h))
+      rw (← same-block a a′ b same) (sym (kept-parts e a closed n blocks-ok room high limit n′ closed′ e′ a′ agree more longer (blockOf a b) (k .0) h))
 
 module _ (s : Sheet) (e a : List ℕ) (room n closed high start h t : ℕ) (built : Built s e a room n closed high start h t) where
   -- the same in a store that agrees, with apertures more that are no blocks
@@ -79,12 +80,12 @@ module _ (s : Sheet) (e a : List ℕ) (room n closed high start h t : ℕ) (buil
     blocks-ok = λ b l. old-or-new (λ b. okBlock e′ a′ closed n′ b ≡ true) b l
         (λ m. block-same e a room closed high n n (built .blocks-ok) n′ closed e′ a′ agree more (le-refl _) b m (agree .same-open b m))
         (λ q. block-none e′ a′ closed n′ b q);
-    blocks-show = λ b l q. old-or-new (λ b. items e′ a′ 8 (blockOf a′ b) ≡ itemsOf (apertureOf a′ b .number) (s .blocks)) b l
+    blocks-show = λ b l q. old-or-new (λ b. parts e′ a′ 8 (blockOf a′ b) ≡ partsOf (apertureOf a′ b .number) (s .blocks)) b l
         (λ m. let same = agree .same-open b m in
         block-shows e a room closed high n n (built .blocks-ok) n′ closed e′ a′ agree more (le-refl _) b m same (same-kind a a′ b same ∙ q) 8
         ∙ built .blocks-show b m (same-kind a a′ b same ∙ q)
-        ∙ ap (λ (p : Aperture). itemsOf (p .number) (s .blocks)) same)
-        (λ none. absurd (false≢true (sym none ∙ q)));
+        ∙ ap (λ (p : Aperture). partsOf (p .number) (s .blocks)) same)
+        (λ not-block. absurd (false≢true (sym not-block ∙ q)));
     distinct = distinct;
     bodies = built .bodies;
     lengths = ap (λ x. x + built .bodies) lengths ∙ built .lengths;
@@ -100,11 +101,11 @@ module _ (s : Sheet) (e a : List ℕ) (room n closed high start h t : ℕ) (buil
           go false q = new (fresh b (ltb-false b n q) l)
 
   -- an entry that opens nothing, where the stack ends
-  pub built-grow : (h′ : ℕ) (r : Entry) (ts : List Item) → entryOf e (room - suc high) ≡ r → closed + high < room → MayRise h h′ → r .before ≡ t →
-      (roleOf (r .kind) ≡ Repeats → ⊥) → okEntry a n h′ r ≡ true → entryItems a (items e a 9) r ≡ ts →
-      Built (put ts s) e a room n closed (suc high) start h′ (t + sizeOf a r)
+  pub built-grow : (h′ : ℕ) (r : Entry) (ps : Parts) → entryOf e (room - suc high) ≡ r → closed + high < room → MayRise h h′ → r .before ≡ t →
+      (roleOf (r .kind) ≡ Repeats → ⊥) → okEntry a n h′ r ≡ true → partOf a (parts e a 9) r ≡ ps →
+      Built (put ps s) e a room n closed (suc high) start h′ (t + sizeOf a r)
   unfolding put
-  built-grow h′ r ts at left may b unlike ok shows = record {
+  built-grow h′ r ps at left may b unlike ok shows = record {
     as-long = built .as-long;
     fits = omega arith;
     blocks-ok = built .blocks-ok;
@@ -112,13 +113,13 @@ module _ (s : Sheet) (e a : List ℕ) (room n closed high start h t : ℕ) (buil
     distinct = built .distinct;
     bodies = built .bodies;
     lengths = built .lengths;
-    opened = opened-grow e a room n h h′ may r high at ok ts shows (s .around) (s .here) closed start t (built .bodies) n b unlike (built .opened);
+    opened = opened-grow e a room n h h′ may r high at ok ps shows (s .around) (s .here) closed start t (built .bodies) n b unlike (built .opened);
   }
 
   -- an item
   pub item-grow : (r : Entry) → entryOf e (room - suc high) ≡ r → closed + high < room → roleOf (r .kind) ≡ Draws → r .before ≡ t → okEntry a n h r ≡ true →
-      Built (put (drawn r ∷ []) s) e a room n closed (suc high) start h (t + 1)
-  unfolding entryItems puts sizeOf sizeAs
+      Built (put (item (drawn r) none) s) e a room n closed (suc high) start h (t + 1)
+  unfolding partOf partAs sizeOf sizeAs
   item-grow r at left role b ok =
       let size : sizeOf a r ≡ 1 = ap (λ x. sizeAs x a r) role in
-      rw size at (built-grow h r (drawn r ∷ []) at left (stays-as-high h) b (λ q. draws-repeat-not (sym role ∙ q)) ok (ap (λ x. puts x a (items e a 9) r) role))
+      rw size at (built-grow h r (item (drawn r) none) at left (stays-as-high h) b (λ q. draws-repeat-not (sym role ∙ q)) ok (ap (λ x. partAs x a (parts e a 9) r) role))

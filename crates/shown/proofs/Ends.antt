@@ -5,17 +5,19 @@ use mathlib.Core.Path.{_≡_, refl, sym, ap, _∙_}
 use mathlib.Core.Bool.{true}
 use mathlib.Core.List.{List, []}
 use native.Mathlib.Omega.{arith}
-use Rattle.base.specs.Run.{run, sums}
-use Rattle.place.specs.declared.Item.{Item}
-use Rattle.place.specs.Mark.{Mark, finish, Around, top, within, block, repeat, Sheet, closed, marked, written, plain}
+use Rattle.base.specs.Run.{sums}
+use Rattle.place.specs.Parts.{Parts, itemsIn}
+use Rattle.place.specs.Mark.{Mark, finish, Around, top, within, block, repeat, Sheet, closed, marked, written, partsFrom, plain}
+use Rattle.place.proofs.Parts.{pieces}
 use Rattle.sheet.specs.Records.{entryWidth, entryRoom, apertureRoom}
 use Rattle.sheet.specs.Meaning.{sheetItems}
 use Rattle.sheet.specs.Valid.{most, valid}
 use Rattle.sheet.specs.declared.Aperture.{Aperture}
-use Rattle.sheet.proofs.Build.{ok-none, openItems, stacked}
+use Rattle.sheet.proofs.Build.{ok-none, openParts, stacked}
+use Rattle.sheet.proofs.Parts.{sheetParts, sheet-items}
 use Rattle.building.specs.Open.{opener, Opened}
 use Rattle.building.proofs.Close.{close-block, close-repeat}
-use Rattle.building.proofs.Finish.{Headed, finish-valid, finish-items}
+use Rattle.building.proofs.Finish.{Headed, finish-valid, finish-parts}
 use Rattle.build.specs.declared.Builder.{Builder}
 use Rattle.close.specs.Closed.{BlockClosed, RepeatClosed, Ended, headOf}
 use Rattle.shown.specs.Shown.{blank, Holds, Shows}
@@ -23,7 +25,7 @@ use Rattle.shown.proofs.Closed.{block-written, others-kept}
 
 -- nothing is put yet
 pub starts : (e a : List ℕ) → Holds blank e a (entryRoom e) 0 (record { closed = 0; high = 0; start = 0; height = 10; items = 0 })
-unfolding blank Opened openItems run sums
+unfolding blank Opened openParts pieces sums
 starts e a = record {
   as-long = refl;
   fits = omega arith;
@@ -47,7 +49,7 @@ pub closes-block : (s : Sheet) (e e′ a a′ : List ℕ) (n : ℕ) (b r : Build
 unfolding marked closed Opened
 closes-block s e e′ a a′ n b r holds low few rooms c = go (s .around) (s .blocks) (s .here) holds
   where
-    go : (around : Around) (blocks : List (ℕ × List Item)) (here : List Item) → Holds (record { blocks = blocks; here = here; around = around }) e a (entryRoom e) n b →
+    go : (around : Around) (blocks : List (ℕ × Parts)) (here : Parts) → Holds (record { blocks = blocks; here = here; around = around }) e a (entryRoom e) n b →
         Holds (closed around (record { blocks = blocks; here = here; around = around })) e′ a′ (entryRoom e) n r
     go top blocks here h = let ten = h .opened .height in absurd (omega arith)
     go (within (repeat p) before around) blocks here h = let nine = h .opened .0 .height in absurd (omega arith)
@@ -73,7 +75,7 @@ pub closes-repeat : (s : Sheet) (e e′ a : List ℕ) (n : ℕ) (b r : Builder) 
 unfolding marked closed Opened
 closes-repeat s e e′ a n b r copies holds nine times few c = go (s .around) (s .blocks) (s .here) holds
   where
-    go : (around : Around) (blocks : List (ℕ × List Item)) (here : List Item) → Holds (record { blocks = blocks; here = here; around = around }) e a (entryRoom e) n b →
+    go : (around : Around) (blocks : List (ℕ × Parts)) (here : Parts) → Holds (record { blocks = blocks; here = here; around = around }) e a (entryRoom e) n b →
         Holds (closed around (record { blocks = blocks; here = here; around = around })) e′ a (entryRoom e) n r
     go top blocks here h = let ten = h .opened .height in absurd (omega arith)
     go (within (block m) before around) blocks here h = let lower = h .opened .0 .lower in absurd (omega arith)
@@ -90,13 +92,13 @@ module _ (ms : List Mark) (e e′ a : List ℕ) (n : ℕ) (b : Builder) (holds :
   unfolding headOf
   headed = record { mark = refl; unit-low = unit-low; unit-high = unit-high; entries-are = refl; apertures-are = refl; top-len = refl; total = refl }
 
-  ends : (around : Around) (blocks : List (ℕ × List Item)) (here : List Item) → Holds (record { blocks = blocks; here = here; around = around }) e a (entryRoom e) n b →
-      (valid (headOf unit b n macros numbers) e′ a ≡ true) × (sheetItems (headOf unit b n macros numbers) e′ a ≡ here)
+  ends : (around : Around) (blocks : List (ℕ × Parts)) (here : Parts) → Holds (record { blocks = blocks; here = here; around = around }) e a (entryRoom e) n b →
+      (valid (headOf unit b n macros numbers) e′ a ≡ true) × (sheetParts (headOf unit b n macros numbers) e′ a ≡ here)
   unfolding Opened
   ends top blocks here h = (
     finish-valid blocks here e a (entryRoom e) n (b .closed) (b .high) (b .start) (b .height) (b .items) h (headOf unit b n macros numbers) e′ headed
         (ap (λ x. x / entryWidth) (ended .as-long)) rooms few (ended .same-closed) (ended .settled),
-    finish-items blocks here e a (entryRoom e) n (b .closed) (b .high) (b .start) (b .height) (b .items) h (headOf unit b n macros numbers) e′ headed
+    finish-parts blocks here e a (entryRoom e) n (b .closed) (b .high) (b .start) (b .height) (b .items) h (headOf unit b n macros numbers) e′ headed
         (ap (λ x. x / entryWidth) (ended .as-long)) rooms few (ended .same-closed) (ended .settled),
   )
   ends (within (block m) before around) blocks here h = let lower = h .opened .0 .lower in absurd (omega arith)
@@ -106,7 +108,12 @@ module _ (ms : List Mark) (e e′ a : List ℕ) (n : ℕ) (b : Builder) (holds :
   pub is-sheet : valid (headOf unit b n macros numbers) e′ a ≡ true
   is-sheet = ends (written ms blank .around) (written ms blank .blocks) (written ms blank .here) holds .0
 
+  -- on it stands, part by part, what the marks put there
+  pub is-from-marks : sheetParts (headOf unit b n macros numbers) e′ a ≡ partsFrom ms
+  unfolding partsFrom blank
+  is-from-marks = ends (written ms blank .around) (written ms blank .blocks) (written ms blank .here) holds .1
+
   -- and its items are those of the marks, every repeat and nested block written out
   pub is-plain : sheetItems (headOf unit b n macros numbers) e′ a ≡ plain ms
-  unfolding plain blank
-  is-plain = ends (written ms blank .around) (written ms blank .blocks) (written ms blank .here) holds .1
+  unfolding plain
+  is-plain = sym (sheet-items (headOf unit b n macros numbers) e′ a) ∙ ap itemsIn is-from-marks

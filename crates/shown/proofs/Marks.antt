@@ -12,6 +12,7 @@ use Rattle.base.proofs.And.{and-i}
 use Rattle.place.specs.declared.Item.{Item}
 use Rattle.place.specs.declared.Pose.{Pose}
 use Rattle.place.specs.declared.Repeat.{Repeat}
+use Rattle.place.specs.Parts.{none, item}
 use Rattle.place.specs.Mark.{Mark, flash, begin, block, repeat, edges, Sheet, put, closed, marked, written}
 use Rattle.place.specs.Placing.{quarterTurn, PoseWithin, ItemWithin}
 use Rattle.place.proofs.Marks.{written-append}
@@ -67,7 +68,7 @@ module _ (s : Sheet) (e a : List ℕ) (room n : ℕ) (b : Builder) (holds : Hold
 
   -- an item
   pub puts-item : (t : Item) → ItemWithin far t → 1 ≤ t .kind → t .kind ≤ 8 → t .place ≡ t .outer →
-      Holds (put (t ∷ []) s) (pushed e (b .high) (itemEntry (b .items) t)) a room n (grown b 1 (b .height))
+      Holds (put (item t none) s) (pushed e (b .high) (itemEntry (b .items) t)) a room n (grown b 1 (b .height))
   unfolding grown
   puts-item t w low high own =
       rw (item-shows (b .items) t w own, ← add-one (b .high)) at
@@ -93,11 +94,11 @@ module _ (s : Sheet) (e a : List ℕ) (room n : ℕ) (b : Builder) (holds : Hold
       ((c d : ℕ) → c < suc n → d < suc n → apertureOf a′ c .number ≡ apertureOf a′ d .number → c ≡ d) →
       Holds (marked (begin (block m)) [] s) (pushed e (b .high) (blockEntry (b .items) n (b .start) (b .height) place)) a′ room (suc n) (inner b 1)
   unfolding inner blockEntry
-  opens-block m place a′ same number none distinct =
+  opens-block m place a′ same number not-block distinct =
       rw (← add-one (b .high)) at
       (open-block s e a room n (b .closed) (b .high) (b .start) (b .height) (b .items) holds (blockEntry (b .items) n (b .start) (b .height) place) _
       (pushes (blockEntry (b .items) n (b .start) (b .height) place)) fits
-      m a′ refl refl refl refl same number none distinct)
+      m a′ refl refl refl refl same number not-block distinct)
 
   -- a repeat that opens at the top level
   pub opens-repeat : (r : Repeat) (place : ℕ) → b .height ≡ 10 → 1 ≤ r .nx → r .nx ≤ 9999 → 1 ≤ r .ny → r .ny ≤ 9999 → r .dx ≤ most → r .dy ≤ most →

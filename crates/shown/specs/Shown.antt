@@ -1,13 +1,14 @@
 -- A store that is built shows a list of marks.
 use Prim.Native.Nat.{ℕ}
 use mathlib.Core.List.{List, []}
+use Rattle.place.specs.Parts.{none}
 use Rattle.place.specs.Mark.{Mark, Sheet, top, written}
 use Rattle.building.specs.Open.{Built}
 use Rattle.build.specs.declared.Builder.{Builder}
 
 -- nothing is written yet
 unfoldable pub blank : Sheet
-blank = record { blocks = []; here = []; around = top }
+blank = record { blocks = []; here = none; around = top }
 
 -- the entries e and apertures a, of which n are used, as far as b says, show the sheet s
 abbrev pub Holds : Sheet → List ℕ → List ℕ → ℕ → ℕ → Builder → Type 0

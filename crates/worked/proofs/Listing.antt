@@ -73,7 +73,8 @@ use Rattle.reading.specs.Reading.{readOn}
 use Rattle.reading.specs.Reading as reading-Reading
 use Rattle.reading.specs.State.{outermost, begun}
 use Rattle.reading.specs.Steps.{passed, withGraphics, withLevel, withOpened, withApertures, withMacros, withNames, withNumbers, settingStep, drawStep, flashHeight, flashStep, moveStep, selectStep, apertureStep, macroStep, blockStartStep, repeatStartStep, blockEnds, repeatEnds, blockEndStep, repeatEndStep, fileAttributeStep, operationStep, definitionStep, bracketStep, deedStep, stepOf}
-use Rattle.place.specs.Mark.{edges, withCount, itemsOf, put, closed, marked, written}
+use Rattle.place.specs.Parts.{_then_, itemsIn}
+use Rattle.place.specs.Mark.{edges, withCount, partsOf, put, closed, marked, written, partsFrom}
 use Rattle.place.specs.Mark as place-Mark
 use Rattle.place.specs.Copies.{step, copies}
 use Rattle.place.specs.Outer.{brought, flashedBy}
@@ -148,7 +149,7 @@ unfolding answer said listed ample strip item output xor run
     reading-Reading.reading
     outermost begun
     passed withGraphics withLevel withOpened withApertures withMacros withNames withNumbers settingStep drawStep flashHeight flashStep moveStep selectStep apertureStep macroStep blockStartStep repeatStartStep blockEnds repeatEnds blockEndStep repeatEndStep fileAttributeStep operationStep definitionStep bracketStep deedStep stepOf
-    edges withCount itemsOf put closed marked written
+    edges withCount partsOf put closed marked written partsFrom _then_ itemsIn
     place-Mark.plain
     step copies
     flashedBy brought
