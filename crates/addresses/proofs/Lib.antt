@@ -5,3 +5,5 @@ pub mod Length
 pub mod Undo
 pub mod Top
 pub mod Matched
+pub mod Parts
+pub mod Worked

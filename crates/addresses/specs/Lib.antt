@@ -2,3 +2,4 @@ pub mod Positions
 pub mod Chains
 pub mod Addresses
 pub mod Sought
+pub mod Marks

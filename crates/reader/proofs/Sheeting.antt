@@ -2,13 +2,15 @@
 -- Assumes nothing.
 use Prim.Native.Nat.{ℕ, _≤_}
 use mathlib.Core.Path.{_≡_, sym, ap, _∙_}
-use mathlib.Core.List.{List}
+use mathlib.Core.List.{List, map}
+use mathlib.Core.Bool.{true}
 use native.Mathlib.Omega.{arith}
 use lib.Dec.{lit≤}
 use lib.ListN.{length}
 use borrow.Author.Tests.{eqb-true, eqb-false, not-false}
 use Rattle.base.specs.Or.{_or_}
 use Rattle.sheet.specs.Records.{apertureRoom}
+use Rattle.sheet.specs.Valid.{valid}
 use Rattle.graphics.specs.declared.Graphics.{Graphics}
 use Rattle.fits.specs.Fits.{unready}
 use Rattle.graphics.specs.declared.Level.{Level}
@@ -17,7 +19,10 @@ use Rattle.base.proofs.Faults.{unbroken}
 use Rattle.rules.specs.Rules.{endFault}
 use Rattle.drawing.specs.Counts.{most}
 use Rattle.close.specs.Closed.{headOf, Ended}
-use Rattle.shown.proofs.Ends.{is-sheet, is-plain}
+use Rattle.shown.proofs.Ends.{is-sheet, is-from-marks, is-plain}
+use Rattle.addresses.specs.Addresses.{sheetAddresses}
+use Rattle.addresses.specs.Marks.{addressesIn, wordsOf, addressesOf}
+use Rattle.addresses.proofs.Parts.{addresses-are}
 use Rattle.reading.specs.State.{State}
 use Rattle.progress.specs.Lent.{Lent}
 use Rattle.progress.specs.Levels.{levelOf}
@@ -80,13 +85,26 @@ module _ (w : Lent) (p : Progress) (s : State) (k : Knows w p s) (kept : endFaul
   high : p .graphics .format .unit ≤ 2
   high = rw unit-is small
 
+  is-valid : valid head e′ (w .apertures) ≡ true
+  is-valid = is-sheet (s .marks) (w .entries) e′ (w .apertures) (p .apertures) (p .builder) (k .shows) ten items-few rooms ended
+      (p .graphics .format .unit) (p .macros) (p .numbers) low high
+
+  -- the addresses of the parts that the marks put on the sheet
+  addressed : sheetAddresses head e′ (w .apertures) ≡ addressesOf (s .marks)
+  unfolding addressesOf
+  addressed =
+      sym (addresses-are head e′ (w .apertures) is-valid)
+      ∙ ap (λ ps. map wordsOf (addressesIn 1 ps))
+      (is-from-marks (s .marks) (w .entries) e′ (w .apertures) (p .apertures) (p .builder) (k .shows) ten items-few rooms ended
+      (p .graphics .format .unit) (p .macros) (p .numbers) low high)
+
   pub leaves : Leaves (w .file) head e′ (w .apertures) (w .macros) (w .numbers) s
   unfolding headOf
   leaves = record {
-    sheet = is-sheet (s .marks) (w .entries) e′ (w .apertures) (p .apertures) (p .builder) (k .shows) ten items-few rooms ended
-        (p .graphics .format .unit) (p .macros) (p .numbers) low high;
+    sheet = is-valid;
     items = is-plain (s .marks) (w .entries) e′ (w .apertures) (p .apertures) (p .builder) (k .shows) ten items-few rooms ended
         (p .graphics .format .unit) (p .macros) (p .numbers) low high;
+    addresses = addressed;
     unit = unit-is;
     entries-used = k .entries;
     apertures-used = sym apertures-long;

@@ -1,5 +1,5 @@
 -- What an accepted reading leaves in the lent words (docs/SHEET.md): a sheet, whose items are those of the file's marks with every
--- repeat and nested block written out; the records of the apertures and the macros; the numbers. Unused room is zero.
+-- repeat and nested block written out, and their addresses those of the marks; the records of the apertures and the macros; the numbers. Unused room is zero.
 use Prim.Native.Nat.{ℕ, _-_, _*_, _≤_}
 use mathlib.Core.Path.{_≡_}
 use mathlib.Core.Bool.{true}
@@ -12,6 +12,8 @@ use Rattle.sheet.specs.Records.{entryWidth, apertureWidth, apertureOf}
 use Rattle.sheet.specs.Containers.{unitOf, entriesUsed, aperturesUsed}
 use Rattle.sheet.specs.Meaning.{sheetItems}
 use Rattle.sheet.specs.Valid.{valid}
+use Rattle.addresses.specs.Addresses.{sheetAddresses}
+use Rattle.addresses.specs.Marks.{addressesOf}
 use Rattle.tables.specs.Macros.{macroWidth, macroOf}
 use Rattle.reading.specs.State.{State}
 use Rattle.progress.specs.Tables.{asRead, templateOf}
@@ -25,6 +27,7 @@ numbersUsed head = getD head 5 0
 pub record Leaves (file head e a m : List ℕ) (n : List ℤ) (s : State) : Type 0 where
   pub sheet : valid head e a ≡ true
   pub items : sheetItems head e a ≡ plain (s .marks)
+  pub addresses : sheetAddresses head e a ≡ addressesOf (s .marks)
   pub unit : unitOf head ≡ s .graphics .format .unit
   pub entries-used : entriesUsed head ≡ s .entries
   pub apertures-used : aperturesUsed head ≡ length (s .apertures)
