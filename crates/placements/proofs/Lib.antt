@@ -4,3 +4,4 @@ pub mod Swaps
 pub mod Angles
 pub mod Laws
 pub mod Placing
+pub mod Flashing
