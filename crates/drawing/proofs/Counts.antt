@@ -1,21 +1,40 @@
--- Counts of items: copies counted by division, and what an operation draws at most.
+-- Counts of items: when so many more are past a number, and copies counted by division.
 -- Assumes nothing.
 use Prim.Native.Nat.{ℕ, _+_, _-_, _*_, _/_, _≤_, _<_}
-use mathlib.Core.Path.{_≡_, refl}
-use mathlib.Core.Bool.{Bool, true, false, not, cond}
-use native.Mathlib.Nat.{div-lt-iff-lt-mul, mul-comm}
+use mathlib.Core.Path.{_≡_, refl, sym, _∙_}
+use mathlib.Core.Bool.{Bool, true, false, not}
+use native.Mathlib.Nat.{div-lt-iff-lt-mul, mul-comm, zero-mul}
 use native.Mathlib.Omega.{arith}
 use lib.Dec.{ltb, leb}
 use borrow.Author.Tests.{lt-ltb, le-ltb, le-leb, lt-leb, leb-true, leb-false}
-use Rattle.graphics.specs.declared.Graphics.{Graphics}
-use Rattle.changes.specs.After.{startsContour}
-use Rattle.drawing.specs.Counts.{most}
-use Rattle.drawing.specs.Faults.{drawItems, flashItems}
+use Rattle.base.proofs.Tests.{ltb-agree}
 
--- s and c times m are above M where m is above the quotient of what s leaves
-pub shared : (s c m M : ℕ) → s ≤ M → 1 ≤ c → ltb ((M - s) / c) m ≡ not (leb (s + c * m) M)
-shared s c m M h k = by-test (leb (s + c * m) M) refl
+-- past a number is not at most it
+not-under : (n M : ℕ) → ltb M n ≡ not (leb n M)
+not-under n M = by-test (leb n M) refl
   where
+    by-test : (t : Bool) → leb n M ≡ t → ltb M n ≡ not t
+    by-test true e = le-ltb M n (leb-true n M e)
+    by-test false e = lt-ltb M n (leb-false n M e)
+
+-- past it already, or by what is left of it
+pub already : (n k M : ℕ) → M < n → true ≡ not (leb (n + k) M)
+already n k M h = rw (lt-leb (n + k) M (omega arith)) refl
+
+pub by-what-is-left : (n k M : ℕ) → n ≤ M → ltb (M - n) k ≡ not (leb (n + k) M)
+by-what-is-left n k M h = ltb-agree (M - n) k M (n + k) (λ q. omega arith) (λ q. omega arith) ∙ not-under (n + k) M
+
+-- no copies
+pub none : (s c m M : ℕ) → s ≤ M → c ≡ 0 → false ≡ not (leb (s + c * m) M)
+none s c m M h e = rw (e, zero-mul m, le-leb (s + 0) M (omega arith)) refl
+
+-- s and c times m are past M where m is past the quotient of what s leaves
+pub shared : (s c m M : ℕ) → s ≤ M → (c ≡ 0 → ⊥) → not (leb m ((M - s) / c)) ≡ not (leb (s + c * m) M)
+shared s c m M h some = sym (not-under m ((M - s) / c)) ∙ by-test (leb (s + c * m) M) refl
+  where
+    k : 1 ≤ c
+    k = omega (arith, some)
+
     not-below : (n m : ℕ) → (n < m → ⊥) → m ≤ n
     not-below n m f = omega arith
 
@@ -29,27 +48,3 @@ shared s c m M h k = by-test (leb (s + c * m) M) refl
         let p = mul-comm c m in
         let g : M - s < m * c = omega (arith, f, p, h) in
         lt-ltb _ _ (div-lt-iff-lt-mul k .1 g)
-
-few : (t : Bool) → cond t 2 1 ≤ most
-few true = omega arith
-few false = omega arith
-
-pub draw-few : (g : Graphics) → drawItems g ≤ most
-unfolding drawItems
-draw-few g = few (startsContour (g .region))
-
-pub flash-few : (g : Graphics) → g .aperture .items ≤ most → flashItems g ≤ most
-unfolding flashItems
-flash-few g h = one (g .aperture .block)
-  where
-    one : (t : Bool) → cond t (g .aperture .items) 1 ≤ most
-    one true = h
-    one false = omega arith
-
--- a test above a number, as the code makes it
-pub above : (n M : ℕ) → leb (1 + M) n ≡ not (leb n M)
-above n M = by-test (leb n M) refl
-  where
-    by-test : (t : Bool) → leb n M ≡ t → leb (1 + M) n ≡ not t
-    by-test true e = let f = leb-true n M e in lt-leb (1 + M) n (omega (arith, f))
-    by-test false e = let f = leb-false n M e in le-leb (1 + M) n (omega (arith, f))

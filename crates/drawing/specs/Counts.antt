@@ -1,5 +1,5 @@
 -- How many items the open block, or the sheet, has (01, number 16; decisions 99 and 100).
-use Prim.Native.Nat.{ℕ, _+_, _*_, _≤_}
+use Prim.Native.Nat.{ℕ, _+_, _*_}
 use mathlib.Core.Bool.{Bool, cond, not}
 use lib.Dec.{eqb, leb}
 use Rattle.graphics.specs.Level.{repeat}
@@ -15,9 +15,3 @@ counted l n = cond (eqb (l .inside) repeat) (l .sheet + l .copies * (l .items + 
 
 unfoldable pub tooMany : Level → ℕ → Bool
 tooMany l n = not (leb (counted l n) most)
-
--- what reading keeps of these numbers
-pub record Kept (l : Level) : Type 0 where
-  pub items-kept : l .items ≤ most
-  pub sheet-kept : l .sheet ≤ most
-  pub copies-some : 1 ≤ l .copies

@@ -1,27 +1,46 @@
 // The rules of D01, D02, D03 and G37: the number of the first that is broken, 0 where all are kept.
 ghost use mathlib.Core.Path.{_≡_};
-ghost use Prim.Native.Nat.{_≤_, _^_};
-ghost use Rattle.points.specs.Points.{Within};
-ghost use Rattle.changes.specs.After.{target};
-ghost use Rattle.fits.specs.Fits.{offsetOf};
-ghost use Rattle.drawing.specs.Counts.{most, Kept, tooMany};
+ghost use mathlib.Core.Bool.{not};
+ghost use Prim.Native.Nat.{_+_, _*_};
+ghost use lib.Dec.{leb};
+ghost use Rattle.drawing.specs.Counts.{most, tooMany};
 ghost use Rattle.drawing.specs.Faults.{drawItems, drawFault, moveFault, flashItems, flashFault, regionEndFault};
 use command::Axis;
 use command::Offset;
 use graphics::Graphics;
 use graphics::Level;
 
-// 16: with n items more the open block, or the sheet, has too many. Division keeps the product of the copies in a word.
+// With n items more there are more than so many.
+fn past(items: u64, n: u64, most: u64) -> bool
+    ensures { λ r. ⌜ r ≡ not (leb (items + n) most) ⌝ }
+{
+    if items > most {
+        return true;
+    }
+    n > most - items
+}
+
+// In a repeat: with n items more its copies and the sheet before it have too many. Division keeps their product in a word.
+fn copies_past(l: Level, n: u64) -> bool
+    ensures { λ r. ⌜ r ≡ not (leb (l .sheet + l .copies * (l .items + n)) most) ⌝ }
+{
+    if l.sheet >= 1000000000001 {
+        return true;
+    }
+    if l.copies == 0 {
+        return false;
+    }
+    past(l.items, n, (1000000000000 - l.sheet) / l.copies)
+}
+
+// 16: with n items more the open block, or the sheet, has too many.
 pub fn too_many(l: Level, n: u64) -> bool
-    requires { ⌜ Kept l ⌝ }
-    requires { ⌜ n ≤ most ⌝ }
     ensures { λ r. ⌜ r ≡ tooMany l n ⌝ }
 {
-    let items = l.items + n;
     if l.inside == 2 {
-        return (1000000000000 - l.sheet) / l.copies < items;
+        return copies_past(l, n);
     }
-    items >= 1000000000001
+    past(l.items, n, 1000000000000)
 }
 
 // The items that a D01 draws, and the entries that it uses.
@@ -45,10 +64,6 @@ pub fn flash_items(g: Graphics) -> u64
 
 // D01, with room for so many entries.
 pub fn draw_fault(g: Graphics, l: Level, room: u64, x: Axis, y: Axis, o: Offset) -> u64
-    requires { ⌜ Kept l ⌝ }
-    requires { ⌜ Within (10 ^ 12) (g .point .at) ⌝ }
-    requires { ⌜ Within (10 ^ 12) (target g x y) ⌝ }
-    requires { ⌜ Within (10 ^ 12) (offsetOf o) ⌝ }
     ensures { λ r. ⌜ r ≡ drawFault g l room x y o ⌝ }
 {
     let n = draw_items(g);
@@ -71,8 +86,6 @@ pub fn move_fault(g: Graphics, x: Axis, y: Axis) -> u64
 
 // D03, with room for so many entries.
 pub fn flash_fault(g: Graphics, l: Level, room: u64, x: Axis, y: Axis) -> u64
-    requires { ⌜ Kept l ⌝ }
-    requires { ⌜ g .aperture .items ≤ most ⌝ }
     ensures { λ r. ⌜ r ≡ flashFault g l room x y ⌝ }
 {
     let room_used = base::row(room < 1, 17, 0);

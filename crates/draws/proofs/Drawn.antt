@@ -54,7 +54,7 @@ use Rattle.draws.proofs.Grown.{advanced, grown-knows}
 use Rattle.draws.proofs.Operations.{draw-moves}
 use Rattle.draws.proofs.Items.{below-pushed, item-grows}
 use Rattle.draws.proofs.Contours.{contour-shows, edged-room, contour-grows, contour-low, contour-few, contour-start, below-edged, contour-begun}
-use Rattle.draws.proofs.Known.{known-fits, known-kept, known-items, draw-faults, refused, goes}
+use Rattle.draws.proofs.Known.{known-fits, known-copies, known-items, draw-faults, refused, goes}
 
 module _ (w : Lent) (p : Progress) (s : State) (k : Knows w p s) (place : ℕ) (x y : Axis) (o : Offset) (near : Draws x y o)
     (none : drawFault (p .graphics) (levelOf p) (leftOf (w .entries) (p .builder)) x y o ≡ 0) where
@@ -259,7 +259,7 @@ module _ (e : List ℕ) (p : Progress) (place : ℕ) (x y : Axis) (o : Offset) (
   unfolding drawItems itemEntry contour grown levelOf levelAt
   contour-asks first u-is begun =
       let l : p .builder .closed + p .builder .high + 2 ≤ entryRoom e = rw first at left-here in
-      let few : p .builder .items + 2 ≤ most = items-few (levelOf p) 2 (known-kept e p (may .known) .copies-some) (rw first at (draw-counts _ _ _ _ _ _ (may .none))) in
+      let few : p .builder .items + 2 ≤ most = items-few (levelOf p) 2 (known-copies e p (may .known)) (rw first at (draw-counts _ _ _ _ _ _ (may .none))) in
       let put = pushed-is e (p .builder .high) (itemEntry (p .builder .items) (contour (p .graphics) place)) (omega arith) in
       let long = put .as-long in
       rw (begun .0, begun .1, u-is, long) (omega arith, (omega arith, omega arith, rw (put .new) (omega arith)))

@@ -8,10 +8,7 @@ use Rattle.points.specs.Points.{Within}
 use Rattle.sheet.specs.Records.{entryRoom}
 use Rattle.command.specs.declared.Axis.{Axis}
 use Rattle.command.specs.declared.Offset.{Offset}
-use Rattle.changes.specs.After.{target}
-use Rattle.bounds.specs.Bounded.{Goes}
-use Rattle.bounds.proofs.Target.{target-within}
-use Rattle.drawing.specs.Counts.{most, Kept}
+use Rattle.drawing.specs.Counts.{most}
 use Rattle.drawing.specs.Faults.{drawFault, flashFault}
 use Rattle.reading.specs.State.{Room, State}
 use Rattle.reading.specs.Steps.{Step, drawStep, flashStep}
@@ -20,7 +17,7 @@ use Rattle.progress.specs.Levels.{levelOf}
 use Rattle.progress.specs.Knows.{Knows, Known, Follows, StepsTo}
 use Rattle.progress.specs.declared.Progress.{Progress}
 use Rattle.progress.specs.declared.Stepped.the-variants.{Next, Fault}
-use Rattle.progress.proofs.Levels.{items-kept, items-known}
+use Rattle.progress.proofs.Levels.{items-known}
 use Rattle.draws.specs.Draws.{leftOf, Leads}
 use Rattle.draws.proofs.Selected.{selected-few}
 
@@ -28,8 +25,8 @@ module _ (e : List ℕ) (p : Progress) (known : Known (λ w. w .entries ≡ e) p
   pub known-fits : p .builder .closed + p .builder .high ≤ entryRoom e
   known-fits = rw (known .is) at (known .knows .shows .fits)
 
-  pub known-kept : Kept (levelOf p)
-  known-kept = rw (known .knows .level) (items-kept _ (known .knows .counts))
+  pub known-copies : 1 ≤ levelOf p .copies
+  known-copies = rw (known .knows .level) (known .knows .counts .some)
 
   pub known-items : p .builder .items ≤ most
   known-items = items-known (known .lent) p (known .state) (known .knows)
@@ -42,9 +39,6 @@ module _ (e : List ℕ) (p : Progress) (known : Known (λ w. w .entries ≡ e) p
 
   pub known-mode : p .graphics .mode ≤ 3
   known-mode = rw (known .knows .graphics) (known .knows .mode)
-
-  pub known-target : (x y : Axis) → Goes x y → Within (10 ^ 12) (target (p .graphics) x y)
-  known-target x y goes = target-within (p .graphics) x y known-point goes
 
 -- the faults by the progress are those by what reading knows
 module _ (w : Lent) (p : Progress) (s : State) (k : Knows w p s) (place : ℕ) (x y : Axis) where

@@ -1,7 +1,5 @@
 // Whether an operation fits the state: each test is one of document 01's sentences about 6 and 11 to 15, or document 02's about 29.
 ghost use mathlib.Core.Path.{_≡_};
-ghost use Prim.Native.Nat.{_^_};
-ghost use Rattle.points.specs.Points.{Within};
 ghost use Rattle.fits.specs.Fits.{isMissing, unready, placeless, brushless, circular, hasOffset, arcless, drawMisfits, flashMisfits, moveless, offsetOf, badCentre, unclosed, askew, tooTall};
 use command::Axis;
 use command::Offset;
@@ -103,15 +101,11 @@ pub fn is_moveless(g: Graphics) -> bool
 
 // 12: the centre of the arc to end is nonsensical.
 pub fn bad_centre(g: Graphics, end: Point, o: Offset) -> bool
-    requires { ⌜ Within (10 ^ 12) (g .point .at) ⌝ }
-    requires { ⌜ Within (10 ^ 12) end ⌝ }
-    requires { ⌜ Within (10 ^ 12) (offsetOf o) ⌝ }
     ensures { λ r. ⌜ r ≡ badCentre g end o ⌝ }
 {
     if is_circular(g) {
         let start = g.point.at;
-        let centre = points::shifted(start, offset_of(o));
-        return reckon::bad_centre(start, end, centre);
+        return reckon::bad_centre(start, end, offset_of(o));
     }
     false
 }

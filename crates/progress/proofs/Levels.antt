@@ -9,10 +9,10 @@ use lib.Dec.{eqb}
 use borrow.Author.Tests.{le-leb, lt-leb, ne-eqb}
 use Rattle.graphics.specs.Level.{repeat}
 use Rattle.graphics.specs.declared.Level.{Level}
-use Rattle.drawing.specs.Counts.{most, counted, Kept}
+use Rattle.drawing.specs.Counts.{most, counted}
 use Rattle.reading.specs.State.{State}
 use Rattle.progress.specs.Lent.{Lent}
-use Rattle.progress.specs.Levels.{levelAt, levelOf, Counted}
+use Rattle.progress.specs.Levels.{levelAt, levelOf}
 use Rattle.progress.specs.Knows.{Knows}
 use Rattle.progress.specs.declared.Progress.{Progress}
 
@@ -37,9 +37,6 @@ items-few l n some k = go (eqb (l .inside) repeat) k
     go : (t : Bool) → cond t (l .sheet + l .copies * (l .items + n)) (l .items + n) ≤ most → l .items + n ≤ most
     go true k = let one = mul-le-mul-right (l .items + n) some in omega arith
     go false k = k
-
-pub items-kept : (l : Level) → Counted l → Kept l
-items-kept l c = record { items-kept = (let k = items-few l 0 (c .some) (c .within) in omega arith); sheet-kept = c .before; copies-some = c .some }
 
 -- what reading knows keeps the items of the innermost container within the count
 pub items-known : (w : Lent) (p : Progress) (s : State) → Knows w p s → p .builder .items ≤ most

@@ -1,5 +1,4 @@
 -- `drawing::draw_fault` meets its contract: each row is one of `drawFault`.
-use Rattle.drawing.proofs.Counts.{draw-few}
 use Rattle.drawing.specs.Faults.{drawFault}
 use borrow.Author.Needs.{needs}
 use Rattle.drawing.proofs.draw_fault.Statement.{statement}
@@ -12,7 +11,7 @@ row-requires : tie.Need-row-requires
 row-requires c κs = search needs
 
 too-many-requires : tie.Need-too-many-requires
-too-many-requires c κs = (c .before .before .pre .0, rw (c .before .draw-items .ensures) (draw-few _))
+too-many-requires c κs = search needs
 
 row-requires-2 : tie.Need-row-requires-2
 row-requires-2 c κs = search needs
@@ -21,9 +20,7 @@ target-requires : tie.Need-target-requires
 target-requires c κs = search needs
 
 bad-centre-requires : tie.Need-bad-centre-requires
-bad-centre-requires c κs =
-    let pre = c .before .before .before .before .before .pre .1 in
-    (pre .0, (rw (c .target .ensures) (pre .1 .0), pre .1 .1))
+bad-centre-requires c κs = search needs
 
 row-requires-3 : tie.Need-row-requires-3
 row-requires-3 c κs = search needs

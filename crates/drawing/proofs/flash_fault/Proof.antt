@@ -1,5 +1,4 @@
 -- `drawing::flash_fault` meets its contract: each row is one of `flashFault`.
-use Rattle.drawing.proofs.Counts.{flash-few}
 use Rattle.drawing.specs.Faults.{flashFault}
 use borrow.Author.Needs.{needs}
 use Rattle.drawing.proofs.flash_fault.Statement.{statement}
@@ -12,7 +11,7 @@ flash-items-requires : tie.Need-flash-items-requires
 flash-items-requires c κs = search needs
 
 too-many-requires : tie.Need-too-many-requires
-too-many-requires c κs = let pre = c .before .before .pre in (pre .0, rw (c .flash-items .ensures) (flash-few _ (pre .1)))
+too-many-requires c κs = search needs
 
 row-requires-2 : tie.Need-row-requires-2
 row-requires-2 c κs = search needs

@@ -1,6 +1,6 @@
 -- `draws::draw` meets its contract: the first rule that is broken decides, and where none is, what the D01 draws is put.
 use mathlib.Core.Path.{refl, sym, _∙_}
-use Rattle.draws.proofs.Known.{known-fits, known-kept, known-point, known-target}
+use Rattle.draws.proofs.Known.{known-fits}
 use Rattle.draws.proofs.Drawn.{draw-refused, may-draw, draw-goes}
 use borrow.Author.Needs.{needs}
 use Rattle.draws.proofs.draw.Statement.{statement}
@@ -13,7 +13,7 @@ level-of-requires : tie.Need-level-of-requires
 level-of-requires c κs = search needs
 
 draw-fault-requires : tie.Need-draw-fault-requires
-draw-fault-requires c κs = (rw (c .level-of .ensures) (known-kept _ _ (c .before .before .before .before .before .before .pre .0)), (known-point _ _ (c .before .before .before .before .before .before .pre .0), (known-target _ _ (c .before .before .before .before .before .before .pre .0) _ _ (c .before .before .before .before .before .before .pre .1 .goes), c .before .before .before .before .before .before .pre .1 .centre)))
+draw-fault-requires c κs = search needs
 
 same-length : tie.Need-same-length
 same-length c = search needs

@@ -1,6 +1,6 @@
 -- `draws::flash` meets its contract: the first rule that is broken decides, and where none is, what the D03 draws is put.
 use mathlib.Core.Path.{refl}
-use Rattle.draws.proofs.Known.{known-fits, known-kept, known-few}
+use Rattle.draws.proofs.Known.{known-fits}
 use Rattle.draws.proofs.Flashed.{flash-refused, may-flash, flash-goes}
 use borrow.Author.Needs.{needs}
 use Rattle.draws.proofs.flash.Statement.{statement}
@@ -13,7 +13,7 @@ level-of-requires : tie.Need-level-of-requires
 level-of-requires c κs = search needs
 
 flash-fault-requires : tie.Need-flash-fault-requires
-flash-fault-requires c κs = (rw (c .level-of .ensures) (known-kept _ _ (c .before .before .before .before .before .before .pre .0)), known-few _ _ (c .before .before .before .before .before .before .pre .0))
+flash-fault-requires c κs = search needs
 
 same-length : tie.Need-same-length
 same-length c = search needs

@@ -2,7 +2,6 @@
 -- Assumes nothing.
 use mathlib.Core.Path.{sym, _∙_}
 use Rattle.base.specs.And.{_and_}
-use Rattle.fits.proofs.Near.{near, sum-near}
 use Rattle.fits.specs.Fits.{badCentre, centreOf}
 use borrow.Author.Needs.{needs}
 use Rattle.fits.proofs.bad_centre.Statement.{statement}
@@ -14,21 +13,14 @@ is-circular-requires c κs = search needs
 offset-of-requires : tie.Need-offset-of-requires
 offset-of-requires c κs = search needs
 
-shifted-requires : tie.Need-shifted-requires
-shifted-requires c κs =
-    let pre = c .before .before .before .before .pre in
-    (near _ (pre .0), rw (c .offset-of .ensures) (near _ (pre .1 .1)))
-
 bad-centre-requires : tie.Need-bad-centre-requires
-bad-centre-requires c κs =
-    let pre = c .before .before .before .before .before .pre in
-    (near _ (pre .0), (near _ (pre .1 .0), rw (c .shifted .ensures, c .before .offset-of .ensures) (sum-near _ _ (pre .0) (pre .1 .1))))
+bad-centre-requires c κs = search needs
 
 returns : tie.Need-returns
 unfolding badCentre centreOf _and_
 returns c =
-    rw (sym (c .before .before .before .before .before .is-circular .ensures) ∙ c .before .before .before .before .if1 .taken)
-    (simp (c .bad-centre .ensures, c .before .shifted .ensures, c .before .before .offset-of .ensures))
+    rw (sym (c .before .before .before .before .is-circular .ensures) ∙ c .before .before .before .if1 .taken)
+    (simp (c .bad-centre .ensures, c .before .offset-of .ensures))
 
 returns-2 : tie.Need-returns-2
 unfolding badCentre _and_
@@ -40,7 +32,6 @@ bad-centre-spec =
     (tie.spec
     is-circular-requires
     offset-of-requires
-    shifted-requires
     bad-centre-requires
     returns
     returns-2)
