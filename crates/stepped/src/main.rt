@@ -1,16 +1,24 @@
 // One graphics state stepped through commands, accepted and refused, each by a state that is lent and handed back. A line is the
-// command, its number, and the state behind it. The file `stdout` was worked out by hand, from document 01.
+// command as a file has it, without `%` and `*`, its number, and the state behind it. The file `stdout` was worked out by hand, from
+// document 01.
 use command::Axis;
 use command::Bracket;
 use command::Command;
+use command::Deed;
+use command::Definition;
 use command::Flaw;
 use command::Offset;
 use command::Operation;
 use command::Setting;
+use command::Span;
 use decimal::Amount;
 use graphics::Graphics;
 use graphics::Level;
+use graphics::Selected;
+use lent::Known;
+use lent::Worked;
 use libc::STDOUT_FILENO;
+use points::Point;
 
 fn field(w: u64) {
     io::write_all(STDOUT_FILENO, b" ");
@@ -22,12 +30,14 @@ fn field(w: u64) {
     }
 }
 
-// The point, whether it is set, the mode, whether LP is clear, LS, and whether a region and a contour are open.
+// Whether the point is set, the point, the aperture (0 where none is set), the mode, whether LP is clear, LS, and whether a region and
+// a contour are open.
 fn show(g: Graphics) {
     let at = g.point.at;
     field(sheet::flag_word(g.point.set));
     field(sheet::x_word(at));
     field(sheet::y_word(at));
+    field(g.aperture.number);
     field(g.mode);
     field(sheet::flag_word(g.transform.clear));
     field(g.transform.scale);
@@ -36,22 +46,110 @@ fn show(g: Graphics) {
     io::write_all(STDOUT_FILENO, b"\n");
 }
 
-// The command inside what stands open; `found` is what the stores' rules came to.
-fn take(g: Graphics, text: &[u8], c: Command, inside: u64, found: u64) -> Graphics {
-    let l = Level {
+// What stands open, top level (0), a block (1) or a repeat (2), with so many items.
+fn level(inside: u64, items: u64) -> Level {
+    Level {
         inside,
-        items: 0,
+        items,
         height: 0,
         depth: inside,
         copies: 1,
         sheet: 0,
-    };
-    let t = lent::once(g, l, c, found);
+    }
+}
+
+// No aperture, a round one and a block of one item.
+fn no_aperture() -> Selected {
+    Selected {
+        set: false,
+        number: 0,
+        slot: 0,
+        circle: false,
+        block: false,
+        items: 0,
+        height: 0,
+    }
+}
+
+fn round() -> Selected {
+    Selected {
+        set: true,
+        number: 10,
+        slot: 0,
+        circle: true,
+        block: false,
+        items: 0,
+        height: 0,
+    }
+}
+
+fn block() -> Selected {
+    Selected {
+        set: true,
+        number: 11,
+        slot: 1,
+        circle: false,
+        block: true,
+        items: 1,
+        height: 1,
+    }
+}
+
+// What the stores know: so many entries are left, and this aperture is the one that a Dn names.
+fn stores(entries: u64, aperture: Selected) -> Known {
+    Known {
+        entries,
+        aperture,
+        taken: false,
+        unknown: false,
+        worked: Worked::Fine,
+        full: false,
+    }
+}
+
+// Room for an entry, and nothing else that is asked.
+fn room() -> Known {
+    stores(1, no_aperture())
+}
+
+// A number or a name came before, or there is no room for the record.
+fn named(taken: bool, full: bool) -> Known {
+    let aperture = no_aperture();
+    Known {
+        entries: 1,
+        aperture,
+        taken,
+        unknown: false,
+        worked: Worked::Fine,
+        full,
+    }
+}
+
+// An AD whose macro is not known, or whose parameters come to this.
+fn asked(unknown: bool, worked: Worked) -> Known {
+    let aperture = no_aperture();
+    Known {
+        entries: 1,
+        aperture,
+        taken: false,
+        unknown,
+        worked,
+        full: false,
+    }
+}
+
+fn take(g: Graphics, text: &[u8], l: Level, c: Command, k: Known) -> Graphics {
+    let t = lent::once(g, l, c, k);
     io::write_all(STDOUT_FILENO, text);
     field(t.number);
     let behind = t.graphics;
     show(behind);
     behind
+}
+
+// At the top level of a sheet without items, with room for an entry.
+fn plainly(g: Graphics, text: &[u8], c: Command) -> Graphics {
+    take(g, text, level(0, 0), c, room())
 }
 
 fn set(s: Setting) -> Command {
@@ -76,55 +174,154 @@ fn draw(x: Axis, y: Axis) -> Command {
     Command::Operate(Operation::Draw { x, y, centre })
 }
 
+// An arc.
+fn arc(x: Axis, y: Axis, i: i64, j: i64) -> Command {
+    let centre = Offset::By(Point { x: i, y: j });
+    Command::Operate(Operation::Draw { x, y, centre })
+}
+
+// AD and AM; what their text says the stores know.
+fn define(number: u64) -> Command {
+    let name = Span { from: 0, to: 0 };
+    Command::Define(Definition::Aperture {
+        number,
+        name,
+        parameters: name,
+        rounded: 0,
+    })
+}
+
+fn model() -> Command {
+    let name = Span { from: 0, to: 0 };
+    Command::Define(Definition::Macro {
+        name,
+        blocks: name,
+        deep: false,
+        rounded: 0,
+    })
+}
+
+fn file_attribute() -> Command {
+    let name = Span { from: 0, to: 0 };
+    Command::Attribute(Deed::SetFile { name, value: name })
+}
+
+fn repeat(nx: u64) -> Command {
+    let none = Amount { millionths: 0 };
+    Command::Contain(Bracket::RepeatStart {
+        nx,
+        ny: 1,
+        dx: none,
+        dy: none,
+        rounded: 0,
+    })
+}
+
 fn settings(g: Graphics) -> Graphics {
     let x = Axis::At(1000000);
     let y = Axis::At(1000000);
     let half = Amount { millionths: 500000 };
     let none = Amount { millionths: 0 };
-    let g1 = take(g, b"X1000000Y1000000D02", go(x, y), 0, 0);
-    let g2 = take(g1, b"FSLAX46Y46", set(Setting::Format(6)), 0, 0);
-    let g3 = take(g2, b"FSLAX45Y45", set(Setting::Format(5)), 0, 0);
-    let g4 = take(g3, b"MOMM", set(Setting::Millimetres), 0, 0);
-    let g5 = take(g4, b"LS0.5", scale(half), 0, 0);
-    let g6 = take(g5, b"LS0", scale(none), 0, 0);
-    take(g6, b"LPC", set(Setting::Clear), 0, 0)
+    let g1 = plainly(g, b"X1000000Y1000000D02", go(x, y));
+    let g2 = plainly(g1, b"G01", set(Setting::Linear));
+    let g3 = plainly(g2, b"X1000000Y1000000D01", draw(x, y));
+    let g4 = plainly(g3, b"FSLAX46Y46", set(Setting::Format(4)));
+    let g5 = plainly(g4, b"FSLAX56Y56", set(Setting::Format(5)));
+    let g6 = plainly(g5, b"MOMM", set(Setting::Millimetres));
+    let g7 = plainly(g6, b"LS0.5", scale(half));
+    let g8 = plainly(g7, b"LS0", scale(none));
+    plainly(g8, b"LPC", set(Setting::Clear))
 }
 
-// D10, D03 and AB ask the stores: their number is handed in.
+// What the stores know of apertures and macros decides.
+fn apertures(g: Graphics) -> Graphics {
+    let top = level(0, 0);
+    let taken = named(true, false);
+    let full = named(false, true);
+    let unruly = asked(false, Worked::Unruly);
+    let undefined = asked(false, Worked::Undefined);
+    let unknown = asked(true, Worked::Fine);
+    let g1 = plainly(g, b"D10", Command::Select(10));
+    let g2 = plainly(g1, b"ADD10C,0.5", define(10));
+    let g3 = take(g2, b"ADD10C,0.7", top, define(10), taken);
+    let g4 = take(g3, b"ADD12C,-1", top, define(12), unruly);
+    let g5 = take(g4, b"ADD12M,0", top, define(12), unknown);
+    let g6 = take(g5, b"AMM*1,1,1/$1,0,0", top, model(), full);
+    let g7 = plainly(g6, b"AMM*1,1,1/$1,0,0", model());
+    let g8 = take(g7, b"ADD12M,0", top, define(12), undefined);
+    let g9 = take(g8, b"TF.Part,Single", top, file_attribute(), taken);
+    take(g9, b"D10", top, Command::Select(10), stores(1, round()))
+}
+
 fn places(g: Graphics) -> Graphics {
     let x = Axis::At(5000000);
     let y = Axis::At(-2500000);
     let kept = Axis::Missing;
+    let top = level(0, 0);
+    let none_left = stores(0, no_aperture());
+    let g1 = plainly(g, b"X5000000D02", go(x, kept));
+    let g2 = plainly(g1, b"X5000000Y-2500000D02", go(x, y));
+    let g3 = take(g2, b"X0D03", top, flash(Axis::At(0), kept), none_left);
+    let g4 = plainly(g3, b"X0D03", flash(Axis::At(0), kept));
+    let most = level(0, 1000000000000);
+    let g5 = take(g4, b"X5D03", most, flash(Axis::At(5), kept), room());
+    let g6 = plainly(g5, b"X5000000D01", draw(x, kept));
+    let g7 = plainly(g6, b"G02", set(Setting::Clockwise));
+    let g8 = plainly(g7, b"X0I1J0D01", arc(Axis::At(0), kept, 1, 0));
+    let g9 = plainly(g8, b"G75", set(Setting::MultiQuadrant));
+    let g10 = plainly(g9, b"X0I0J0D01", arc(Axis::At(0), kept, 0, 0));
+    plainly(
+        g10,
+        b"X0I-2500000J0D01",
+        arc(Axis::At(0), kept, -2500000, 0),
+    )
+}
+
+// What stands open decides.
+fn containers(g: Graphics) -> Graphics {
+    let top = level(0, 0);
+    let inside = level(1, 0);
     let opens = Command::Contain(Bracket::BlockStart(11));
     let closes = Command::Contain(Bracket::BlockEnd);
-    let g1 = take(g, b"X5000000D02", go(x, kept), 0, 0);
-    let g2 = take(g1, b"X5000000Y-2500000D02", go(x, y), 0, 0);
-    let g3 = take(g2, b"D10", Command::Select(10), 0, 8);
-    let g4 = take(g3, b"X0D03", flash(Axis::At(0), kept), 0, 11);
-    let g5 = take(g4, b"ABD11", opens, 0, 0);
-    let g6 = take(g5, b"M02", Command::End, 1, 0);
-    take(g6, b"AB", closes, 1, 0)
+    let ends = Command::Contain(Bracket::RepeatEnd);
+    let zero = Axis::At(0);
+    let g1 = plainly(g, b"AB", closes);
+    let g2 = plainly(g1, b"ABD11", opens);
+    let g3 = take(g2, b"SRX2Y1I0J0", inside, repeat(2), room());
+    let g4 = take(g3, b"M02", inside, Command::End, room());
+    let g5 = take(g4, b"AB", inside, closes, room());
+    let g6 = plainly(g5, b"SRX0Y1I0J0", repeat(0));
+    let g7 = plainly(g6, b"SRX2Y1I0J0", repeat(2));
+    let g8 = take(g7, b"SR", level(2, 0), ends, room());
+    let g9 = take(g8, b"D11", top, Command::Select(11), stores(1, block()));
+    plainly(g9, b"X0Y0D03", flash(zero, zero))
 }
 
 fn region(g: Graphics) -> Graphics {
     let x = Axis::At(0);
     let y = Axis::At(-7);
     let kept = Axis::Missing;
-    let g1 = take(g, b"G36", set(Setting::RegionStart), 0, 0);
-    let g2 = take(g1, b"G01", set(Setting::Linear), 0, 0);
-    let g3 = take(g2, b"LPD", set(Setting::Dark), 0, 0);
-    let g4 = take(g3, b"X0Y-7D02", go(x, y), 0, 0);
-    let g5 = take(g4, b"Y0D01", draw(kept, x), 0, 0);
-    let g6 = take(g5, b"G37", set(Setting::RegionEnd), 0, 0);
-    let g7 = take(g6, b"Y-7D01", draw(kept, y), 0, 0);
-    take(g7, b"G37", set(Setting::RegionEnd), 0, 0)
+    let top = level(0, 0);
+    let g1 = plainly(g, b"X0Y0D02", go(x, x));
+    let g2 = plainly(g1, b"G36", set(Setting::RegionStart));
+    let g3 = plainly(g2, b"G01", set(Setting::Linear));
+    let g4 = plainly(g3, b"LPD", set(Setting::Dark));
+    let g5 = take(g4, b"D10", top, Command::Select(10), stores(1, round()));
+    let g6 = plainly(g5, b"Y-7D01", draw(kept, y));
+    let g7 = plainly(g6, b"X0Y-7D02", go(x, y));
+    let g8 = plainly(g7, b"Y0D01", draw(kept, x));
+    let g9 = take(g8, b"Y0D01", top, draw(kept, x), stores(2, no_aperture()));
+    let g10 = plainly(g9, b"G37", set(Setting::RegionEnd));
+    let g11 = plainly(g10, b"Y-7D01", draw(kept, y));
+    plainly(g11, b"G37", set(Setting::RegionEnd))
 }
 
 fn main() {
     let g1 = settings(graphics::start());
-    let g2 = places(g1);
-    let g3 = region(g2);
-    let unknown = Command::Broken(Flaw::NotForm);
-    let g4 = take(g3, b"G05", unknown, 0, 0);
-    take(g4, b"M02", Command::End, 0, 0);
+    let g2 = apertures(g1);
+    let g3 = places(g2);
+    let g4 = containers(g3);
+    let g5 = region(g4);
+    let g6 = plainly(g5, b"G05", Command::Broken(Flaw::NotForm));
+    plainly(g6, b"M02", Command::End);
 }

@@ -1,6 +1,10 @@
--- `lent::next` meets its contract: the first number that is not 0 refuses, and without one the covered change is made.
-use Rattle.lent.proofs.Ways.{refused, refused-by-stores, taken}
+-- `lent::next` meets its contract: a number that is not 0 refuses, and without one the covered change is made.
+-- Assumes nothing.
+use mathlib.Core.Path.{_≡_, refl, sym, _∙_}
+use borrow.Author.Tests.{eq-eqb, ne-eqb}
 use borrow.Author.Needs.{needs}
+use Rattle.graphics.specs.declared.Graphics.{Graphics}
+use Rattle.lent.specs.Stepped.{faultOf, steppedOf}
 use Rattle.lent.proofs.next.Statement.{statement}
 use Rattle.lent.proofs.next.Tie as tie
 
@@ -8,16 +12,26 @@ fault-of-requires : tie.Need-fault-of-requires
 fault-of-requires c κs = search needs
 
 returns : tie.Need-returns
-returns c = refused _ _ _ _ _ (c .before .fault-of .ensures) (c .if1 .taken)
+unfolding steppedOf
+returns c =
+    let a = c .before .before .args in
+    let e = c .before .fault-of .ensures in
+    let kept : a .g ≡ steppedOf (a .g) (a .l) (a .c) (a .k) .graphics =
+    rw (ne-eqb (faultOf (a .g) (a .l) (a .c) (a .k)) 0 (λ z. c .if1 .taken (e ∙ z))) refl in
+    λ i. record { number = e i; graphics = kept i }
+
+behind-requires : tie.Need-behind-requires
+behind-requires c κs = search needs
 
 returns-2 : tie.Need-returns-2
-returns-2 c = refused-by-stores _ _ _ _ _ (c .before .before .fault-of .ensures) (c .before .if1 .left) (c .if2 .taken)
-
-after-requires : tie.Need-after-requires
-after-requires c κs = search needs
-
-returns-3 : tie.Need-returns-3
-returns-3 c = taken _ _ _ _ _ (c .before .before .before .fault-of .ensures) _ (c .before .before .if1 .left) (c .before .if2 .left) (c .after .ensures)
+unfolding steppedOf
+returns-2 c =
+    let a = c .before .before .before .args in
+    let e = c .before .before .fault-of .ensures in
+    let none = sym (c .before .if1 .left) ∙ e in
+    let changed : c .behind .result ≡ steppedOf (a .g) (a .l) (a .c) (a .k) .graphics =
+    rw (eq-eqb (faultOf (a .g) (a .l) (a .c) (a .k)) 0 (sym none)) (c .behind .ensures) in
+    λ i. record { number = none i; graphics = changed i }
 
 pub next-spec : {M : Type 1} → statement M
-next-spec = tie.close (tie.spec fault-of-requires returns returns-2 after-requires returns-3)
+next-spec = tie.close (tie.spec fault-of-requires returns behind-requires returns-2)
