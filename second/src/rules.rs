@@ -700,6 +700,48 @@ mod tests {
         refused("X0Y0D02*G75*G02*G36*D02*|X1Y0I0J0D01*G37*", 12);
     }
 
+    /// The numbers of files of the old edition, 0 for an accepted one.
+    fn old(text: &str) -> u32 {
+        let terms = Terms { edition: Edition::Old, ..Terms::PLAIN };
+        read(text.as_bytes(), terms, Room::UNLIMITED).map_or_else(|refusal| refusal.number, |_| 0)
+    }
+
+    #[test]
+    fn the_old_edition_counts_from_the_last_point() {
+        let terms = Terms { edition: Edition::Old, ..Terms::PLAIN };
+        let file = "%FSTIX23Y23*%G70*%ADD10R,1X1*%G54D10*G1X1Y-01D2*X0001D1*G90Y2D1*M2*";
+        let sheet = read(file.as_bytes(), terms, Room::UNLIMITED).expect("accepted");
+        assert_eq!(sheet.unit, Unit::Inch);
+        let points = [(10_000_000, -1_000_000), (10_010_000, -1_000_000), (10_010_000, 20_000_000)];
+        let [first, second, third] = points.map(|(x, y)| Point::new(x, y));
+        let ends = |k| sheet.item(k).map(|item| (item.kind, item.start, item.end));
+        assert_eq!(ends(0), Some((Kind::Line, first, second)));
+        assert_eq!(ends(1), Some((Kind::Line, second, third)));
+    }
+
+    #[test]
+    fn the_old_edition_has_its_own_refusals() {
+        const OLD_HEAD: &str = "%FSLAX66Y66*%%ADD10C,1*%%ADD11R,1X1*%D10*";
+        let refused = |text: &str, number| {
+            assert_eq!(old(&format!("{OLD_HEAD}{text}M02*")), number, "{text}");
+        };
+        refused("", 6);
+        refused("G71*G91*X999999999999Y0D02*X1D02*", 5);
+        refused("G71*G91*X999999999999Y0D02*X-1D02*", 0);
+        refused("G71*X0Y0D02*G02X10Y10I10J0D01*", 0);
+        refused("G71*X0Y0D02*G02X10Y10I+10J0D01*", 11);
+        refused("G71*X0Y0D02*G02X10Y0I5J0D01*", 31);
+        refused("G71*X0Y0D02*G75*G02X10Y0I0J0D01*", 12);
+        refused("G71*D11*X0Y0D02*G01X10D01*", 0);
+        refused("G71*D11*X0Y0D02*G02X10Y10I10J0D01*", 11);
+        // The operation is judged behind its code, and the fault tested first decides.
+        refused("G71*G01X0Y0D02*G36*X1D01*G37X0Y0D03*", 13);
+        refused("G71*G01X0Y0D02*G36*X1D01*G37X0I1J0D01*", 11);
+        refused("G71*G36X0Y0D03*", 7);
+        refused("G71*G01X0Y0D02*G36*X1D01*X0D01*G37D03*", 0);
+        refused("%IPPOS*%", 30);
+    }
+
     #[test]
     fn a_block_of_height_eight_is_flashed_at_top_level_only() {
         let mut blocks = String::from("%ABD11*%D10*X0Y0D03*%AB*%");
