@@ -12,10 +12,23 @@ use Rattle.reader.specs.Leaves.{Leaves}
 use Rattle.reader.specs.declared.Answer as code
 use Rattle.reader.specs.declared.Answer.the-variants as answer
 
--- document 01's number
+-- document 01's number of each case, and its values: the place, 0 where the file is accepted; the unit and the rounded decimals, 0 where
+-- it is refused
 unfoldable pub numberOf : code.Answer → ℕ
 numberOf (answer.Accepted unit rounded) = 0
 numberOf (answer.Refused number place) = number
+
+unfoldable pub placeOf : code.Answer → ℕ
+placeOf (answer.Accepted unit rounded) = 0
+placeOf (answer.Refused number place) = place
+
+unfoldable pub unitOf : code.Answer → ℕ
+unitOf (answer.Accepted unit rounded) = unit
+unitOf (answer.Refused number place) = 0
+
+unfoldable pub roundedOf : code.Answer → ℕ
+roundedOf (answer.Accepted unit rounded) = rounded
+roundedOf (answer.Refused number place) = 0
 
 -- "A reading refusal zeroes every lent store to its full length"; w is what was lent, w′ what it is at the end
 pub record Zeroed (w w′ : Lent) (head : List ℕ) : Type 0 where
