@@ -1,5 +1,6 @@
 pub mod Built
 pub mod Evaluated
 pub mod Examples
+pub mod Formed
 pub mod Macros
 pub mod Trees

@@ -1,7 +1,9 @@
--- Whatever AM takes for an expression is understood: the walk grows its tree, and the grammar reads the tree to its end.
+-- Whatever AM takes for an expression is understood, the walk grows its tree and the grammar reads the tree to its end; and AM takes every
+-- tree to depth 16 whose numbers and variables are in range.
 -- Assumes nothing.
 use Prim.Native.Nat.{ℕ, _≤_}
 use mathlib.Core.Path.{_≡_, refl, sym, ap, _∙_}
+use mathlib.Core.Bool.{false}
 use mathlib.Core.List.{List, []}
 use lib.IntN.{ℤ}
 use lib.ListN.{length}
@@ -12,6 +14,7 @@ use Rattle.tokens.proofs.Few.{tokens-few}
 use Rattle.form.specs.Expression.{expressionForm}
 use Rattle.expression.specs.Grammar.{plusMinus, timesOver, head, kept}
 use Rattle.expression.specs.Value.{whole, valueOf}
+use Rattle.trees.specs.Formed.{InRange}
 use Rattle.trees.specs.Sound.{Sound}
 use Rattle.trees.specs.Tree.{Expression, deepest}
 use Rattle.trees.specs.Understood.{Understood}
@@ -19,6 +22,7 @@ use Rattle.trees.specs.Worth.{comesTo}
 use Rattle.trees.specs.Written.{written}
 use Rattle.trees.proofs.Built.{tokens-tree}
 use Rattle.trees.proofs.Evaluated.{tree-reads}
+use Rattle.trees.proofs.Formed.{tree-form, tree-shallow}
 
 whole-kept : (r : Reckoned) → whole (kept r []) ≡ r
 unfolding whole kept
@@ -37,4 +41,8 @@ pub understood : (t : List ℕ) → Sound (expressionForm t) → Understood t
 unfolding expressionForm
 understood t s =
     let b = tokens-tree (tokens t) s in
-    record { tree = b .0; text = b .1; value = tree-value t (b .0) (b .1) }
+    record { tree = b .0; text = b .1; form = tree-form t (b .0) (b .1); value = tree-value t (b .0) (b .1) }
+
+-- no 4, no 5 and no 15
+pub taken : (t : List ℕ) (e : Expression deepest) → written deepest e [] ≡ tokens t → InRange deepest e → Sound (expressionForm t) × (expressionForm t .long ≡ false)
+taken t e q r = rw (tree-form t e q) (record { form = r .form; depth = tree-shallow deepest e }, r .range)

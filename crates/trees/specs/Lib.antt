@@ -1,3 +1,4 @@
+pub mod Formed
 pub mod Sound
 pub mod Tree
 pub mod Understood
