@@ -16,6 +16,7 @@ use Rattle.text.proofs.First.{first-from}
 use Rattle.tokens.specs.LineEnds.{withoutLeading}
 use Rattle.text.proofs.Pieces.{pieces-next, pieces-end}
 use Rattle.primitives.specs.Asked.{none, added, asked, amount}
+use Rattle.primitives.proofs.Gathered.{gathered, gathered-is}
 use Rattle.primitives.specs.declared.Asked.{Asked}
 use Rattle.macros.specs.Pen.{penned, pens, laid}
 use Rattle.macros.specs.Says.{Comes, Gathers, reckonedAs}
@@ -25,22 +26,22 @@ use Rattle.macros.specs.declared.Worth.{Worth}
 
 pub record Gathering (all rest : Values) (l₀ l : List ℤ) (p₀ p : Pen) (q : Asked) (at : ℕ) : Type 0 where
   pub fine : rest .fine ≡ all .fine
-  pub asks : asked q (rest .values) ≡ asked none (all .values)
+  pub asks : gathered q (rest .values) ≡ asked none (all .values)
   pub pen : pens (length l₀) p (rest .values) ≡ pens (length l₀) p₀ (all .values)
   pub stores : laid l p (rest .values) ≡ laid l₀ p₀ (all .values)
   pub long : length l ≡ length l₀
   pub counted : q .count ≤ at
 
-pub gathering-starts : (all : Values) (l : List ℤ) (p : Pen) (q : Asked) (at : ℕ) → q ≡ none → Gathering all all l l p p q at
-unfolding none
+pub gathering-starts : (all : Values) (l : List ℤ) (p : Pen) (q : Asked) (at : ℕ) → q ≡ asked none [] → Gathering all all l l p p q at
+unfolding asked
 gathering-starts all l p q at e =
     let n : q .count ≡ 0 = ap (λ x. x .count) e in
-    record { fine = refl; asks = rw e; pen = refl; stores = refl; long = refl; counted = omega arith }
+    record { fine = refl; asks = rw e (gathered-is (all .values)); pen = refl; stores = refl; long = refl; counted = omega arith }
 
 module _ (all : Values) (l₀ l : List ℤ) (p₀ p : Pen) (q : Asked) (at : ℕ) where
   pub gathering-goes : (rest : Values) (z : ℤ) (next : ℕ) → at < next → Gathering all (onward (Value z) rest) l₀ l p₀ p q at →
       Gathering all rest l₀ (set l (p .at) z) p₀ (penned (length l) p) (added q (amount z)) next
-  unfolding onward asked pens laid added
+  unfolding onward gathered pens laid added
   gathering-goes rest z next h g =
       let c = g .counted in
       record {
@@ -54,7 +55,7 @@ module _ (all : Values) (l₀ l : List ℤ) (p₀ p : Pen) (q : Asked) (at : ℕ
 
   pub gathering-ends : (fine : Bool) → Gathering all (record { fine = fine; values = [] }) l₀ l p₀ p q at →
       (fine ≡ all .fine) × (q ≡ asked none (all .values)) × (p ≡ pens (length l₀) p₀ (all .values)) × (l ≡ laid l₀ p₀ (all .values))
-  unfolding asked pens laid
+  unfolding gathered pens laid
   gathering-ends fine g = (g .fine, g .asks, g .pen, g .stores)
 
 -- the next parameter, and those behind it

@@ -1,30 +1,36 @@
 -- What the rules ask of a primitive's parameters, in millionths: how many there are, the first five and the last three of them.
-use Prim.Native.Nat.{_+_}
+use Prim.Native.Nat.{ℕ, _+_}
 use mathlib.Core.Bool.{cond}
-use mathlib.Core.List.{List, [], _∷_}
+use mathlib.Core.List.{List, reverse}
 use lib.Dec.{eqb}
 use lib.IntN.{ℤ, pos}
+use lib.ListN.{length, getD}
 use Rattle.decimal.specs.declared.answers.Amount.{Amount}
 use Rattle.primitives.specs.declared.Asked.{Asked}
 
 abbrev pub amount : ℤ → Amount
 amount z = record { millionths = z }
 
-unfoldable pub none : Asked
-none =
+-- a parameter that is not there
+unfoldable pub none : Amount
+none = amount (pos 0)
+
+unfoldable pub asked : Amount → List ℤ → Asked
+asked absent zs =
+    let nth : List ℤ → ℕ → Amount = λ l i. amount (getD l i (absent .millionths)) in
     record {
-      count = 0;
-      first = amount (pos 0);
-      second = amount (pos 0);
-      third = amount (pos 0);
-      fourth = amount (pos 0);
-      fifth = amount (pos 0);
-      antepenult = amount (pos 0);
-      penult = amount (pos 0);
-      last = amount (pos 0);
+      count = length zs;
+      first = nth zs 0;
+      second = nth zs 1;
+      third = nth zs 2;
+      fourth = nth zs 3;
+      fifth = nth zs 4;
+      antepenult = nth (reverse zs) 2;
+      penult = nth (reverse zs) 1;
+      last = nth (reverse zs) 0;
     }
 
--- with one parameter more
+-- with one parameter more behind them (`added-last`)
 unfoldable pub added : Asked → Amount → Asked
 added q a =
     record {
@@ -38,7 +44,3 @@ added q a =
       penult = q .last;
       last = a;
     }
-
-unfoldable pub asked : Asked → List ℤ → Asked
-asked q [] = q
-asked q (z ∷ zs) = asked (added q (amount z)) zs

@@ -1,11 +1,12 @@
 // The rules of a macro's primitives (10), on what their parameters came to.
 ghost use mathlib.Core.Path.{_≡_};
 ghost use mathlib.Core.Bool.{cond};
+ghost use mathlib.Core.List.{[]};
 ghost use Prim.Native.Nat.{_+_, _<_, _^_};
 ghost use lib.IntN.{natAbs};
 ghost use Rattle.ints.specs.Ints.{eqZ};
 ghost use Rattle.reckon.specs.Thermal.{thermalFits};
-ghost use Rattle.primitives.specs.Asked.{none, added};
+ghost use Rattle.primitives.specs.Asked.{none, asked, added};
 ghost use Rattle.primitives.specs.Rules.{exposure, wholeBetween, circle, vectorLine, centerLine, outline, polygon, thermal, codeOf, keeps};
 use decimal::Amount;
 
@@ -24,7 +25,7 @@ pub struct Asked {
 
 // No parameter.
 pub fn nothing() -> Asked
-    ensures { λ r. ⌜ r ≡ none ⌝ }
+    ensures { λ r. ⌜ r ≡ asked none [] ⌝ }
 {
     let zero = Amount { millionths: 0 };
     Asked {

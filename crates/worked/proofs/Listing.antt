@@ -48,7 +48,7 @@ use Rattle.commands.specs.Commands.{commandsFrom, commandsOf}
 use Rattle.commands.specs.Leads.{leadOfFlaw, leadOfSetting, leadOf}
 use Rattle.commands.specs.Turns.{led, turnOf, tailFault}
 use Rattle.commands.specs.Turns as commands-Turns
-use Rattle.primitives.specs.Asked.{none, added, asked}
+use Rattle.primitives.specs.Asked.{none, asked}
 use Rattle.graphics.specs.Graphics.{origin, unset, noAperture, noRegion, withFormat, withPoint, withAperture, withMode, withQuadrants, withTransform, withRegion}
 use Rattle.graphics.specs.Graphics as graphics-Graphics
 use Rattle.graphics.specs.Orientation.{angleOf, angleAfter, orientation}
@@ -126,7 +126,7 @@ unfolding answer said listed ample strip item output xor run
     leadOfFlaw leadOfSetting leadOf
     led turnOf tailFault
     commands-Turns.turned
-    none added asked
+    none asked
     origin unset noAperture noRegion withFormat withPoint withAperture withMode withQuadrants withTransform withRegion
     graphics-Graphics.start
     angleOf angleAfter orientation
