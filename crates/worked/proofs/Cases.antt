@@ -1,7 +1,7 @@
--- The worked cases of document 01 hold of the definitions: both sides compute to the same answers.
+-- Cases that decisions settle hold of the definitions: both sides compute to the same answers.
 -- Assumes nothing.
 use mathlib.Core.Path.{_≡_, refl}
-use mathlib.Core.List.{[], _∷_, _++_, map}
+use mathlib.Core.List.{map}
 use Rattle.base.specs.And.{_and_}
 use Rattle.base.specs.Or.{_or_}
 use Rattle.ints.specs.Ints.{signed, eqZ, isNeg}
@@ -12,26 +12,12 @@ use Rattle.base.specs.Trimmed.{dropLeading, keptBefore, dropTrailing}
 use Rattle.decimal.specs.Point.{beforePoint, afterPoint}
 use Rattle.decimal.specs.Decimal.{isDecimal, nearest as nearestWhole, inMillionths, isRounded, amountOf, numeralOf, decimalOf}
 use Rattle.reckon.specs.Rounding.{nearest, keptOf, productOf, quotientOf, reckonedRefusal}
-use Rattle.reckon.specs.Thermal.{gapFits, thermalFits}
 use Rattle.reckon.specs.ArcCentre.{seenFrom, parallel, between, strictlyBetween, nonsenseCentre}
 use Rattle.worked.specs.Questions.{worth, reading, readingAt, reckonedAs, answer}
-use Rattle.worked.specs.Table.{said, questionOf, saidOf, numbers, table, further}
-use Rattle.worked.proofs.Listing.{listing-whole}
+use Rattle.worked.specs.Table.{said, answers, saidOf, further}
 
-numbers-hold : map (λ r. answer (questionOf r)) numbers ≡ map (λ r. said (saidOf r)) numbers
-unfolding answer questionOf said saidOf numbers worth reading readingAt reckonedAs
-    isDigit allDigits valueOf hasMinus afterSign dropLeading keptBefore dropTrailing beforePoint afterPoint isDecimal nearestWhole inMillionths isRounded amountOf numeralOf decimalOf
-    signed eqZ isNeg _and_ _or_ nearest keptOf productOf quotientOf reckonedRefusal gapFits thermalFits
-    samePoint seenFrom parallel between strictlyBetween nonsenseCentre
-numbers-hold = refl
-
--- P1 to P10
-pub either-side-of-a-line : map (λ r. answer (questionOf r)) table ≡ map (λ r. said (saidOf r)) table
-unfolding table numbers questionOf saidOf
-either-side-of-a-line = λ i. numbers-hold i ++ (listing-whole i ∷ [])
-
-pub decided : map (λ r. answer (questionOf r)) further ≡ map (λ r. said (saidOf r)) further
-unfolding answer questionOf said saidOf further worth reading readingAt reckonedAs
+pub decided : map answers further ≡ map saidOf further
+unfolding answer answers said saidOf further worth reading readingAt reckonedAs
     isDigit allDigits valueOf hasMinus afterSign dropLeading keptBefore dropTrailing beforePoint afterPoint isDecimal nearestWhole inMillionths isRounded amountOf numeralOf decimalOf
     signed eqZ isNeg _and_ _or_ nearest keptOf productOf quotientOf reckonedRefusal
     samePoint seenFrom parallel between strictlyBetween nonsenseCentre

@@ -1,3 +1,3 @@
-pub mod Listing
 pub mod Cases
 pub mod Numbers
+pub mod Table

@@ -1,10 +1,11 @@
--- What the cases of document 01, "Either side of a line", ask, and what the definitions answer. Numbers stand as document 01
--- writes them, and are read by the definition of a decimal.
+-- What the cases of document 01, "Either side of a line", ask, and what the definitions answer: of numbers as document 01 writes them,
+-- read by the definition of a decimal; and of files, read by the definition of reading.
 use Prim.Native.Nat.{ℕ}
 use Prim.Native.String.{String}
 use mathlib.Core.Bool.{cond}
-use mathlib.Core.List.{List}
-use lib.IntN.{ℤ}
+use mathlib.Core.List.{List, _++_}
+use lib.IntN.{ℤ, pos}
+use lib.ListN.{getD}
 use Rattle.points.specs.Points.{pt}
 use Rattle.points.specs.declared.Point.{Point}
 use Rattle.text.specs.Text.{text}
@@ -32,6 +33,12 @@ pub data Question : Type 0 where
   arc : At → At → At → Question
   -- outer, inner, gap
   thermal : String → String → String → Question
+  -- a file whose AD works out a macro of this one primitive: the number that it keeps at a place (the code is at 0), or whether it is
+  -- accepted
+  kept : String → ℕ → Question
+  primitive : String → Question
+  -- a file that draws this D01 from the origin, clockwise
+  drawn : String → Question
   -- a file
   listing : String → Question
 
@@ -67,7 +74,22 @@ unfoldable pub listed : file.Answer → Answer
 listed (file.accepted s) = lists (plain (s .marks))
 listed (file.refused n place) = refused n
 
--- more room than the file needs
+-- its numbers, and whether it is accepted
+unfoldable pub keeping : ℕ → file.Answer → Answer
+keeping i (file.accepted s) = value (getD (s .numbers) i (pos 0))
+keeping i (file.refused n place) = refused n
+
+unfoldable pub judged : file.Answer → Answer
+judged (file.accepted s) = accepted
+judged (file.refused n place) = refused n
+
+unfoldable pub macroFile : String → List ℕ
+macroFile s = text "%FSLAX36Y36*%%MOMM*%%AMT*" ++ (text s ++ text "*%%ADD10T*%M02*")
+
+unfoldable pub arcFile : String → List ℕ
+arcFile s = text "%FSLAX36Y36*%%MOMM*%%ADD10C,1*%D10*G75*G02*X0Y0D02*" ++ (text s ++ text "M02*")
+
+-- more room than the files need
 unfoldable pub ample : Room
 ample = record { entries = 100; apertures = 100; macros = 100; numbers = 100 }
 
@@ -77,4 +99,7 @@ answer (product s t) = reading s (λ a. reading t (λ b. reckonedAs (productOf a
 answer (quotient s t) = reading s (λ a. reading t (λ b. reckonedAs (quotientOf a b)))
 answer (arc from to centre) = readingAt from (λ s. readingAt to (λ e. readingAt centre (λ c. cond (nonsenseCentre s e c) (refused 12) accepted)))
 answer (thermal outer inner gap) = reading outer (λ o. reading inner (λ i. reading gap (λ g. cond (thermalFits o i g) accepted (refused 10))))
+answer (kept s i) = keeping i (file.reading ample (macroFile s))
+answer (primitive s) = judged (file.reading ample (macroFile s))
+answer (drawn s) = judged (file.reading ample (arcFile s))
 answer (listing s) = listed (file.reading ample (text s))

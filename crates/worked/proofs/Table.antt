@@ -1,7 +1,8 @@
--- P10: the file of "The listing, whole" is read by the definition of reading, and its items are those of the output.
+-- P1 to P10: each side computes, the numbers by the definitions of rounding, arcs and thermals, the files by the definition of reading.
 -- Assumes nothing.
 use mathlib.Core.Path.{_≡_, refl}
 use mathlib.Core.Bool.{xor}
+use mathlib.Core.List.{map}
 use Rattle.base.specs.Run.{run}
 use Rattle.base.specs.And.{_and_}
 use Rattle.base.specs.Bytes.{sameBytes}
@@ -80,11 +81,26 @@ use Rattle.place.specs.Copies.{step, copies}
 use Rattle.place.specs.Outer.{brought, flashedBy}
 use Rattle.place.specs.Placing.{placed, moved, movedIf, turnedAngle, swapped}
 use Rattle.place.specs.Item.{hasStart, hasEnd, isArc, isOriented}
-use Rattle.worked.specs.Questions.{listing, answer, listed, ample}
-use Rattle.worked.specs.Table.{prints, said, strip, item, output}
+use Rattle.ints.specs.Ints.{eqZ}
+use Rattle.reckon.specs.Rounding as rounding
+use Rattle.reckon.specs.Thermal.{gapFits, thermalFits}
+use Rattle.reckon.specs.ArcCentre.{seenFrom, parallel, between, strictlyBetween, nonsenseCentre}
+use Rattle.tokens.specs.Words as tokens-Words
+use Rattle.tokens.specs.Tokens as tokens-Tokens
+use Rattle.form.specs.Blocks as form-Blocks
+use Rattle.form.specs.Expression as form-Expression
+use Rattle.form.specs.Macro.{headed, macroOf}
+use Rattle.expression.specs.Grammar as grammar
+use Rattle.expression.specs.Value as value
+use Rattle.primitives.specs.Rules as primitive
+use Rattle.macros.specs.Given as macros-Given
+use Rattle.macros.specs.Work as work
+use Rattle.worked.specs.Questions.{worth, reading, readingAt, reckonedAs, listed, keeping, macroFile, arcFile, answer, ample}
+use Rattle.worked.specs.Questions as asked-Questions
+use Rattle.worked.specs.Table.{said, answers, saidOf, numbers, strip, item, output, table}
 
-pub listing-whole : answer (listing strip) ≡ said (prints output)
-unfolding answer said listed ample strip item output xor run
+pub either-side-of-a-line : map answers table ≡ map saidOf table
+unfolding answer answers said saidOf numbers table worth reading readingAt reckonedAs listed keeping asked-Questions.judged macroFile arcFile ample strip item output xor run
     _and_
     sameBytes
     _or_
@@ -155,4 +171,15 @@ unfolding answer said listed ample strip item output xor run
     flashedBy brought
     placed moved movedIf turnedAngle swapped
     hasStart hasEnd isArc isOriented
-listing-whole = refl
+    eqZ rounding.nearest rounding.keptOf rounding.sumOf rounding.differenceOf rounding.productOf rounding.quotientOf rounding.reckonedRefusal
+    gapFits thermalFits seenFrom parallel between strictlyBetween nonsenseCentre
+    tokens-Words.numeral tokens-Words.joins tokens-Words.onto tokens-Words.words tokens-Tokens.variableOf tokens-Tokens.tokenOf tokens-Tokens.tokens
+    form-Blocks.good form-Blocks.joined form-Blocks.gathered form-Blocks.parameterForm form-Blocks.primitiveForm form-Blocks.numbered form-Blocks.assignmentForm form-Blocks.blockForm form-Blocks.blocksForm
+    form-Expression.start form-Expression.afterOperand form-Expression.afterOperator form-Expression.opened form-Expression.closed form-Expression.unknown form-Expression.step form-Expression.walked form-Expression.finished form-Expression.expressionForm
+    headed macroOf
+    grammar.head grammar.tail grammar.plusMinus grammar.timesOver grammar.sumBy grammar.productBy grammar.following grammar.after grammar.kept grammar.joined grammar.chain grammar.negated grammar.leading grammar.isClose grammar.closed grammar.leafOf grammar.begun grammar.factor grammar.term grammar.expression grammar.expressionAt
+    value.whole value.valueOf
+    primitive.exposure primitive.wholeBetween primitive.circle primitive.vectorLine primitive.centerLine primitive.outline primitive.polygon primitive.thermal primitive.codeOf primitive.keeps
+    macros-Given.given macros-Given.variablesOf
+    work.onward work.valuesOf work.verdict work.primitiveDone work.assigned work.assignmentDone work.blockDone work.behind work.workedOut
+either-side-of-a-line = refl
