@@ -399,7 +399,7 @@ static int answered(const struct lent *l, uint64_t *run, struct put *out)
     if (number == SHEET_NOT_SHEET) {
         expect(total == 0, "a total of no sheet is 0", total);
         expect(items_at(l, 0, run, words) == SHEET_NOT_SHEET && zeros(run, 0, words), "a run of no sheet is zeros", 0);
-        expect(item_at(l, 0, one, 15) == SHEET_NOT_SHEET && zeros(one, 0, 15), "an item of no sheet is zeros", 0);
+        expect(item_at(l, 0, one) == SHEET_NOT_SHEET && zeros(one, 0, 15), "an item of no sheet is zeros", 0);
         summed(l, NULL);
         return 0;
     }
@@ -411,7 +411,7 @@ static int answered(const struct lent *l, uint64_t *run, struct put *out)
     expect(memcmp(run, out->items, out->count * 120) == 0, "the items are those of the expansion", total);
     expect(item_at(l, total, one) == SHEET_PAST && zeros(one, 0, 15), "past the total", total);
     if (total != 0)
-        expect(item_at(l, total - 1, one, 15) == 0 && one[0] >= 1 && one[0] <= 8, "the last item", total);
+        expect(item_at(l, total - 1, one) == 0 && one[0] >= 1 && one[0] <= 8, "the last item", total);
     if (total < SLOTS)
         summed(l, out);
     return 1;
