@@ -26,7 +26,7 @@ use Rattle.sheet.proofs.Parts.{partAs, partOf, parts, sheetParts}
 use Rattle.addresses.specs.Positions.{stands, standsAt, spanAs, spanOf, spanAt}
 use Rattle.addresses.specs.Chains.{chainsAs, entryChains, before, chains}
 use Rattle.addresses.specs.Addresses.{raised, addressesAs, entryAddresses, sheetAddresses}
-use Rattle.addresses.specs.Marks.{Address, under, inCopy, positions, addressesIn, padded, wordsOf}
+use Rattle.addresses.specs.Marks.{Address, under, inCopy, positions, addressesIn, padded, wordsOf, partAddresses}
 use Rattle.addresses.proofs.Fitting.{no-repeat}
 use Rattle.addresses.proofs.Length.{used-low, used-block, body-nine, body-sound}
 
@@ -266,8 +266,8 @@ module _ (head e a : List ℕ) (v : valid head e a ≡ true) where
         go Unknown q = refl
 
   -- of the sheet
-  pub addresses-are : map wordsOf (addressesIn 1 (sheetParts head e a)) ≡ sheetAddresses head e a
-  unfolding sheetAddresses sheetParts
+  pub addresses-are : partAddresses (sheetParts head e a) ≡ sheetAddresses head e a
+  unfolding partAddresses sheetAddresses sheetParts
   addresses-are = unfold parts in
       pieces-addressed wordsOf (λ i. partOf a (parts e a 9) (entryOf e i)) (spanAt e) (λ b i. entryAddresses e a b (entryOf e i)) (topOf head .first) (topOf head .len) 0
       entry-spans (λ i c l. entry-addressed i l c)

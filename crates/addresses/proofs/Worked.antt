@@ -11,7 +11,7 @@ use Rattle.place.specs.Kind as kind
 use Rattle.place.specs.Parts.{_then_}
 use Rattle.place.specs.Mark.{Mark, draw, contour, edge, flash, begin, finish, block, repeat, partsOf, put, closed, marked, written, partsFrom}
 use Rattle.place.proofs.Worked.{item, marks}
-use Rattle.addresses.specs.Marks.{under, inCopy, positions, addressesIn, padded, wordsOf, addressesOf}
+use Rattle.addresses.specs.Marks.{under, inCopy, positions, addressesIn, padded, wordsOf, partAddresses, addressesOf}
 
 -- a block of two items flashed in a repeat of two: copy 1 and copy 2, the first position, the block's first and second item
 strip :
@@ -21,7 +21,7 @@ strip :
     ∷ (2 ∷ 1 ∷ 1 ∷ 0 ∷ 0 ∷ 0 ∷ 0 ∷ 0 ∷ 0 ∷ 0 ∷ [])
     ∷ (2 ∷ 1 ∷ 2 ∷ 0 ∷ 0 ∷ 0 ∷ 0 ∷ 0 ∷ 0 ∷ 0 ∷ [])
     ∷ []
-unfolding marks addressesOf wordsOf padded addressesIn positions inCopy under partsFrom written marked closed put partsOf _then_ run
+unfolding marks addressesOf partAddresses wordsOf padded addressesIn positions inCopy under partsFrom written marked closed put partsOf _then_ run
 strip = refl
 
 unfoldable dot : Mark

@@ -42,5 +42,9 @@ padded (suc n) (p ∷ c) = p ∷ padded n c
 unfoldable pub wordsOf : Address → List ℕ
 wordsOf w = w .copy ∷ padded 9 (w .chain)
 
+-- of all that stands on a sheet, from position 1 on
+unfoldable pub partAddresses : Parts → List (List ℕ)
+partAddresses ps = map wordsOf (addressesIn 1 ps)
+
 unfoldable pub addressesOf : List Mark → List (List ℕ)
-addressesOf ms = map wordsOf (addressesIn 1 (partsFrom ms))
+addressesOf ms = partAddresses (partsFrom ms)

@@ -2,7 +2,7 @@
 -- Assumes nothing.
 use Prim.Native.Nat.{ℕ, _≤_}
 use mathlib.Core.Path.{_≡_, sym, ap, _∙_}
-use mathlib.Core.List.{List, map}
+use mathlib.Core.List.{List}
 use mathlib.Core.Bool.{true}
 use native.Mathlib.Omega.{arith}
 use lib.Dec.{lit≤}
@@ -21,7 +21,7 @@ use Rattle.drawing.specs.Counts.{most}
 use Rattle.close.specs.Closed.{headOf, Ended}
 use Rattle.shown.proofs.Ends.{is-sheet, is-from-marks, is-plain}
 use Rattle.addresses.specs.Addresses.{sheetAddresses}
-use Rattle.addresses.specs.Marks.{addressesIn, wordsOf, addressesOf}
+use Rattle.addresses.specs.Marks.{partAddresses, addressesOf}
 use Rattle.addresses.proofs.Parts.{addresses-are}
 use Rattle.reading.specs.State.{State}
 use Rattle.progress.specs.Lent.{Lent}
@@ -94,7 +94,7 @@ module _ (w : Lent) (p : Progress) (s : State) (k : Knows w p s) (kept : endFaul
   unfolding addressesOf
   addressed =
       sym (addresses-are head e′ (w .apertures) is-valid)
-      ∙ ap (λ ps. map wordsOf (addressesIn 1 ps))
+      ∙ ap partAddresses
       (is-from-marks (s .marks) (w .entries) e′ (w .apertures) (p .apertures) (p .builder) (k .shows) ten items-few rooms ended
       (p .graphics .format .unit) (p .macros) (p .numbers) low high)
 
