@@ -13,8 +13,9 @@ use Rattle.digest.specs.Runs.{started, fed, finished}
 use Rattle.digest.specs.Md5.{md5}
 use Rattle.digest.proofs.Cuts.{finished-md5}
 use Rattle.base.specs.Breaks.{isBreak}
+use Rattle.text.specs.First.{skipped}
 use Rattle.scan.specs.Permitted.{printable}
-use Rattle.scan.specs.Scan.{skipped, nextCommand}
+use Rattle.scan.specs.Scan.{nextCommand}
 use Rattle.scan.specs.Tail.{tailOf}
 use Rattle.scan.specs.declared.Letters.the-variants.{Old}
 use Rattle.scan.specs.declared.Scan.{Scan}

@@ -6,9 +6,8 @@ use mathlib.Core.List.{List, [], _∷_}
 use lib.Dec.{ltb, leb}
 use lib.ListN.{length, take}
 use Rattle.base.specs.And.{_and_}
-use Rattle.text.specs.First.{place}
+use Rattle.text.specs.First.{place, skipped}
 use Rattle.text.specs.Text.{_begins_}
-use Rattle.scan.specs.Scan.{skipped}
 use Rattle.scan.specs.declared.Kind.{Kind}
 use Rattle.scan.specs.declared.Kind.the-variants.{Word, Extended, Macro}
 use Rattle.base.specs.Choose.{pick, choose}

@@ -10,7 +10,7 @@ fn is_one_block(s: &[u8], star: usize) -> bool
     ensures { λ r. ⌜ r ≡ oneBlock (now (s .entry)) star ⌝ }
 {
     if star < s.len() {
-        return s.len() <= scan::skip(s, star + 1);
+        return s.len() <= text::past_breaks(s, star + 1);
     }
     false
 }

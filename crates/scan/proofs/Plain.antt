@@ -13,13 +13,13 @@ use Rattle.base.specs.And.{_and_}
 use Rattle.base.specs.Bytes.{sameBytes}
 use Rattle.base.specs.Or.{_or_}
 use Rattle.base.proofs.And.{and-l, and-r}
-use Rattle.text.specs.First.{firstIn}
+use Rattle.text.specs.First.{firstIn, skipped}
 use Rattle.text.proofs.First.{in-from}
 use Rattle.fields.proofs.Ahead.{first-here, first-later}
 use Rattle.scan.specs.Fields.{inField}
 use Rattle.scan.specs.Permitted.{printable, permitted, badIn}
 use Rattle.scan.specs.Plain.{inner, stops, plainTo}
-use Rattle.scan.specs.Scan.{kindOf, textFrom, endOf, ends, cutBy, commandIn, skipped, nextCommand}
+use Rattle.scan.specs.Scan.{kindOf, textFrom, endOf, ends, cutBy, commandIn, nextCommand}
 use Rattle.scan.specs.declared.Kind.{Kind}
 use Rattle.scan.specs.declared.Kind.the-variants.{Word, Extended, Macro}
 use Rattle.scan.specs.declared.Letters.{Letters}

@@ -11,12 +11,12 @@ use lib.Dec.{ltb}
 use lib.ListN.{length, drop, getD}
 use lib.Seq.{getD-drop}
 use borrow.Author.Tests.{ltb-false, le-ltb}
-use Rattle.text.specs.First.{firstIn}
+use Rattle.text.specs.First.{firstIn, skipped}
 use Rattle.letters.specs.Table.{wholeOf, letterIn}
 use Rattle.letters.proofs.Table.{lead-none}
 use Rattle.scan.specs.Fields.{inField}
 use Rattle.scan.specs.Permitted.{printable, permitted, letterHere, badIn}
-use Rattle.scan.specs.Scan.{kindOf, textFrom, ends, cutBy, commandIn, skipped, nextCommand}
+use Rattle.scan.specs.Scan.{kindOf, textFrom, ends, cutBy, commandIn, nextCommand}
 use Rattle.scan.specs.declared.Kind.{Kind}
 use Rattle.scan.specs.declared.Letters.the-variants.{Old, New}
 use Rattle.scan.specs.declared.Scan.{Scan}

@@ -13,7 +13,7 @@ use borrow.Author.Tests.{eqb-true}
 use Rattle.base.specs.And.{_and_}
 use Rattle.base.specs.Breaks.{isBreak}
 use Rattle.base.specs.Bytes.{sameBytes}
-use Rattle.text.specs.First.{firstIn}
+use Rattle.text.specs.First.{firstIn, skipped}
 use Rattle.text.specs.Text.{_begins_}
 use Rattle.fields.specs.Parts.{partAfter, opensMacro}
 use Rattle.fields.specs.declared.Part.the-variants.{Start, Mark, MarkA, Plain}
@@ -23,7 +23,7 @@ use Rattle.fields.proofs.Opened.{word-field, mark-field, begins-none, begins-ne
 use Rattle.letters.specs.Table.{nothing, follows}
 use Rattle.scan.specs.Fields.{isNew, inField}
 use Rattle.scan.specs.Permitted.{printable, permitted, badIn}
-use Rattle.scan.specs.Scan.{kindOf, textFrom, endOf, ends, cutBy, commandIn, skipped, nextCommand}
+use Rattle.scan.specs.Scan.{kindOf, textFrom, endOf, ends, cutBy, commandIn, nextCommand}
 use Rattle.scan.specs.Ways.{kindAfter, stand, idle, fresh, moved, within, inside, opening, step, ended, run}
 use Rattle.scan.specs.declared.Kind.{Kind}
 use Rattle.scan.specs.declared.Kind.the-variants.{Word, Extended, Macro}

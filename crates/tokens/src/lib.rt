@@ -33,15 +33,7 @@ pub struct Lexeme {
 pub fn without_leading(t: &[u8]) -> &[u8]
     ensures { λ r. ⌜ now r ≡ withoutLeading (now (t .entry)) ⌝ }
 {
-    let mut i: usize = 0;
-    while i < t.len() {
-        if base::is_break(t[i]) {
-            i += 1;
-        } else {
-            return base::from_on(t, i);
-        }
-    }
-    base::from_on(t, i)
+    base::from_on(t, text::past_breaks(t, 0))
 }
 
 // The text up to its last byte that is no line end.
