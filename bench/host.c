@@ -64,7 +64,7 @@ static double reading(struct text t, struct store *s)
     double best = 1e9;
     for (int i = 0; i < ROUNDS; i++) {
         double from = now();
-        read_into(s, (const uint8_t *)t.at, t.count);
+        read_into(s, SHEET_OLD_LETTERS, (const uint8_t *)t.at, t.count);
         double took = now() - from;
         if (s->number != 0) {
             printf("refused %" PRIu64 " at %" PRIu64 "\n", s->number, s->place);

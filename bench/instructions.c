@@ -26,7 +26,7 @@ static __attribute__((noinline)) struct naive_list naive_counted(const uint8_t *
 
 static __attribute__((noinline)) void reading_counted(struct store *s, const uint8_t *file, size_t bytes)
 {
-    read_into(s, file, bytes);
+    read_into(s, SHEET_OLD_LETTERS, file, bytes);
 }
 
 /* Head words 2 to 5 say how much room a reading used (docs/SHEET.md). */
@@ -44,7 +44,7 @@ int main(int words, char **word)
                                            .apertures = sheet_apertures_for(t.count),
                                            .macros = sheet_macros_for(t.count),
                                            .numbers = t.count});
-    read_into(&safe, file, t.count);
+    read_into(&safe, SHEET_OLD_LETTERS, file, t.count);
     struct store lean = lent(used(&safe));
     reading_counted(&lean, file, t.count);
     if (lean.number != 0) {

@@ -9,10 +9,11 @@
  *                                       greatest x and y
  *   imager numbers                      a line for each AD: its aperture, then the numbers kept
  *   imager attribute TA|TO PLACE NAME   attribute, place, length of the value (`attr` answers with attr)
+ *   imager verify                       signed and the digest that the file bears
  *   imager batch [--room E,A,M,N]       for each file named on standard input: name, sheet or refusal, hash of its first 2000 lines
  *
  * The file stands on standard input but for batch; fields are parted by tabs. A refusal prints refused, number and place; of an
- * attribute, refused and number. */
+ * attribute, refused and number. Every mode takes --letters old|new behind its words: the rule of letters, old where it is not said. */
 #include <errno.h>
 #include <inttypes.h>
 #include <stdio.h>
@@ -37,12 +38,15 @@ static void fail(const char *what)
     exit(1);
 }
 
-/* A stream's bytes, up to one more than a file may have. */
-static struct bytes all_of(FILE *in)
+/* The rule of letters that every mode reads by. */
+static uint64_t letters = SHEET_OLD_LETTERS;
+
+/* A stream's bytes, up to one more than a limit. */
+static struct bytes bytes_of(FILE *in, size_t limit)
 {
     struct bytes b = {NULL, 0};
     size_t room = 0, got = 1;
-    while (got != 0 && b.count <= SHEET_FILE_LIMIT) {
+    while (got != 0 && b.count <= limit) {
         if (b.count == room) {
             room = room ? 2 * room : 65536;
             b.at = realloc(b.at, room);
@@ -54,9 +58,15 @@ static struct bytes all_of(FILE *in)
     }
     if (ferror(in))
         fail("the file cannot be read");
-    if (b.count > SHEET_FILE_LIMIT)
-        b.count = SHEET_FILE_LIMIT + 1;
+    if (b.count > limit)
+        b.count = limit + 1;
     return b;
+}
+
+/* As many of a file as tell whether it is too long to be read. */
+static struct bytes all_of(FILE *in)
+{
+    return bytes_of(in, SHEET_FILE_LIMIT);
 }
 
 /* Room for any file of that length. */
@@ -75,7 +85,7 @@ static struct room room_for(size_t n)
 static struct store read_sheet(struct bytes file, const struct room *asked)
 {
     struct store s = lent(asked ? *asked : room_for(file.count));
-    read_into(&s, file.at, file.count);
+    read_into(&s, letters, file.at, file.count);
     return s;
 }
 
@@ -253,13 +263,28 @@ static void attribute(struct bytes file, const char *mode, int of_aperture, size
 {
     uint64_t at, count, number;
     if (of_aperture)
-        number = sheet_aperture_attribute(file.at, file.count, place, (const uint8_t *)name, strlen(name), &at, &count);
+        number = sheet_aperture_attribute(letters, file.at, file.count, place, (const uint8_t *)name, strlen(name), &at, &count);
     else
-        number = sheet_object_attribute(file.at, file.count, place, (const uint8_t *)name, strlen(name), &at, &count);
+        number = sheet_object_attribute(letters, file.at, file.count, place, (const uint8_t *)name, strlen(name), &at, &count);
     if (number == SHEET_ACCEPTED)
         printf("%s\t%" PRIu64 "\t%" PRIu64 "\n", mode, at, count);
     else
         printf("refused\t%" PRIu64 "\n", number);
+}
+
+/* A signature is judged whatever the file's length. */
+static void verify(struct bytes file)
+{
+    uint8_t digest[SHEET_DIGEST_BYTES];
+    uint64_t place, number = sheet_signature(letters, file.at, file.count, &place, digest);
+    if (number != SHEET_ACCEPTED) {
+        printf("refused\t%" PRIu64 "\t%" PRIu64 "\n", number, place);
+        return;
+    }
+    printf("signed\t");
+    for (size_t i = 0; i < sizeof digest; i++)
+        printf("%02x", digest[i]);
+    putchar('\n');
 }
 
 /* A file's line of the batch. */
@@ -302,7 +327,7 @@ static void batch(const struct room *room)
 static int usage(void)
 {
     fputs("usage: imager list|sheet|batch [--room E,A,M,N], items K COUNT, address K, number COPY [POSITION..], summary [--rows N], "
-          "numbers, attribute TA|TO PLACE NAME\n", stderr);
+          "numbers, attribute TA|TO PLACE NAME, verify; all with [--letters old|new]\n", stderr);
     return 2;
 }
 
@@ -345,8 +370,28 @@ static int with_room(const char *mode, int words, char **word)
     return 0;
 }
 
+/* Takes `--letters old|new` out of the words; 0 where something else follows. */
+static int take_letters(int *words, char **word)
+{
+    int kept = 0;
+    for (int i = 0; i < *words; i++) {
+        if (!is(word[i], "--letters")) {
+            word[kept++] = word[i];
+            continue;
+        }
+        i++;
+        if (i == *words || (!is(word[i], "old") && !is(word[i], "new")))
+            return 0;
+        letters = is(word[i], "new") ? SHEET_NEW_LETTERS : SHEET_OLD_LETTERS;
+    }
+    *words = kept;
+    return 1;
+}
+
 int main(int argc, char **argv)
 {
+    if (!take_letters(&argc, argv))
+        return usage();
     const char *mode = argc > 1 ? argv[1] : "";
     uint64_t k = 0, count = 0;
     if (is(mode, "list") || is(mode, "sheet") || is(mode, "batch"))
@@ -354,6 +399,12 @@ int main(int argc, char **argv)
     if ((is(mode, "attribute") || is(mode, "attr")) && argc == 5 && (is(argv[2], "TA") || is(argv[2], "TO")) && whole(argv[3], &k)) {
         struct bytes file = all_of(stdin);
         attribute(file, mode, is(argv[2], "TA"), (size_t)k, argv[4]);
+        free(file.at);
+        return 0;
+    }
+    if (is(mode, "verify") && argc == 2) {
+        struct bytes file = bytes_of(stdin, SIZE_MAX - 1);
+        verify(file);
         free(file.at);
         return 0;
     }

@@ -9,6 +9,8 @@
  *     pointer is not null and is aligned as its type asks, for a length of 0 too.
  *   - Nothing that is lent to be written overlaps anything else that is lent to the same call, and nobody else writes to any of it
  *     meanwhile. That is all that a call trusts its host in: any bytes, any words and any lengths are answered.
+ *   - Every call that is given a file names the rule of letters (enum sheet_letters); another number is answered with 101, before all
+ *     else, and zeros in all that is lent to be written.
  *   - A call answers a number: 0, or why not (enum sheet_number). It sets everything that it was lent to be written, whatever it
  *     answers.
  *
@@ -16,7 +18,8 @@
  *   size_t e = sheet_entries_for(n) * SHEET_ENTRY_WORDS, a = sheet_apertures_for(n) * SHEET_APERTURE_WORDS;
  *   size_t m = sheet_macros_for(n) * SHEET_MACRO_WORDS, v = numbers;
  *   .. lend entries of e words, apertures of a, macros of m, numbers of v ..
- *   if (sheet_read(file, n, head, entries, e, apertures, a, macros, m, values, v, &place, &unit, &rounded) == SHEET_ACCEPTED)
+ *   if (sheet_read(SHEET_OLD_LETTERS, file, n, head, entries, e, apertures, a, macros, m, values, v, &place, &unit, &rounded) ==
+ *       SHEET_ACCEPTED)
  *       sheet_item(head, entries, e, apertures, a, 40000, item);
  */
 #ifndef SHEET_H
@@ -29,11 +32,11 @@
 extern "C" {
 #endif
 
-/* Document 01, "Numbers the reader answers", and document 02. */
+/* Document 01, "Numbers the reader answers", and document 02; those from 100 on are the host calls' own. */
 enum sheet_number {
     SHEET_ACCEPTED = 0,         /* accepted */
     SHEET_TOO_LONG = 1,         /* file longer than 16,777,216 bytes; place 0 */
-    SHEET_BYTE = 2,             /* a byte outside 32 to 126, not a permitted CR or LF; place of that byte */
+    SHEET_BYTE = 2,             /* a byte outside 32 to 126, not a permitted CR or LF and in no permitted letter; place of that byte */
     SHEET_ENDS = 3,             /* file ends inside a command or before M02; place is the length */
     SHEET_FORM = 4,             /* command unknown or not of its form */
     SHEET_RANGE = 5,            /* number too long or outside its range */
@@ -55,9 +58,16 @@ enum sheet_number {
     SHEET_NOT_SHEET = 21,       /* lent store is not a sheet */
     SHEET_NO_COMMAND = 22,      /* no command begins at the place asked */
     SHEET_NOT_HELD = 23,        /* attribute name not held there */
+    SHEET_OTHER_DIGEST = 24,    /* the signature is not the digest of the file (document 02, [2]) */
+    SHEET_UNSIGNED = 25,        /* no signature just before M02 */
     SHEET_OWN_MOVE = 29,        /* in a region, a first D01 without a D02 since its G36; after 11 and before 12 (document 02, [7]) */
-    SHEET_NO_ADDRESS = 32       /* an address that names nothing (document 02, [12]) */
+    SHEET_NO_ADDRESS = 32,      /* an address that names nothing (document 02, [12]) */
+    SHEET_NO_LETTERS = 101      /* the number names no rule of letters; before all else, place 0 (decision 420) */
 };
+
+/* Which letters may stand in the fields of TF, TA and TO and in the text of G04: of ASCII alone, or well-formed UTF-8 too (document 02,
+ * [8]). A file that the old rule accepts, the new one accepts with the same sheet. */
+enum sheet_letters { SHEET_OLD_LETTERS = 1, SHEET_NEW_LETTERS = 2 };
 
 enum sheet_unit { SHEET_NO_UNIT = 0, SHEET_MM = 1, SHEET_INCH = 2 };
 
@@ -83,6 +93,7 @@ enum sheet_kind {
 #define SHEET_ADDRESS_WORDS 10
 #define SHEET_ROW_WORDS 5
 #define SHEET_SCRATCH_WORDS 8
+#define SHEET_DIGEST_BYTES 16
 #define SHEET_FILE_LIMIT 16777216
 
 size_t sheet_entry_words(void);
@@ -144,6 +155,7 @@ static inline size_t sheet_macros_for(size_t n) { return n / 8; }
 static inline size_t sheet_numbers_for(size_t n) { return n / 2 + n * n / 72; }
 
 /* The reading.
+ *   letters                       the rule of letters
  *   file, file_bytes              the file
  *   head                          SHEET_HEAD_WORDS words
  *   entries, entries_words        room for entries_words / SHEET_ENTRY_WORDS entries
@@ -152,9 +164,9 @@ static inline size_t sheet_numbers_for(size_t n) { return n / 2 + n * n / 72; }
  *   numbers, numbers_count        room for so many numbers
  *   place, unit, rounded          one word each
  * Answers 0 (then unit is 1 mm or 2 inch, rounded how many decimals of the file have more than six digits after the point, each counted
- * once, place 0, and head, entries and apertures are a sheet; words not used are 0), or 1 to 19 or 29 (then place says where, unit and
+ * once, place 0, and head, entries and apertures are a sheet; words not used are 0), or 1 to 19, 29 or 101 (then place says where, unit and
  * rounded are 0, and every word lent is 0 to its full length). */
-uint64_t sheet_read(const uint8_t *file, size_t file_bytes, uint64_t *head, uint64_t *entries, size_t entries_words,
+uint64_t sheet_read(uint64_t letters, const uint8_t *file, size_t file_bytes, uint64_t *head, uint64_t *entries, size_t entries_words,
                     uint64_t *apertures, size_t apertures_words, uint64_t *macros, size_t macros_words, int64_t *numbers,
                     size_t numbers_count, uint64_t *place, uint64_t *unit, uint64_t *rounded);
 
@@ -229,15 +241,24 @@ uint64_t sheet_summary(const uint64_t *head, const uint64_t *entries, size_t ent
 
 /* The value of an attribute at the command that begins at a place of the file: TA (taken at AD, at an AB opening and at a contour's
  * first D01) or TO.
+ *   letters                 the rule of letters
  *   file, file_bytes        the file, any bytes
  *   place                   where a command begins, as the place of an item
  *   name, name_bytes        the attribute's name, with its leading point if it has one
  *   value_at, value_bytes   one word each: where the value lies in the file, and its length; 0 and 0 without one
- * Answers 0; or 1 to 4, 18, 22 or 23, and zeros. */
-uint64_t sheet_aperture_attribute(const uint8_t *file, size_t file_bytes, size_t place, const uint8_t *name, size_t name_bytes,
-                                  uint64_t *value_at, uint64_t *value_bytes);
-uint64_t sheet_object_attribute(const uint8_t *file, size_t file_bytes, size_t place, const uint8_t *name, size_t name_bytes,
-                                uint64_t *value_at, uint64_t *value_bytes);
+ * Answers 0; or 1 to 4, 18, 22, 23 or 101, and zeros. */
+uint64_t sheet_aperture_attribute(uint64_t letters, const uint8_t *file, size_t file_bytes, size_t place, const uint8_t *name,
+                                  size_t name_bytes, uint64_t *value_at, uint64_t *value_bytes);
+uint64_t sheet_object_attribute(uint64_t letters, const uint8_t *file, size_t file_bytes, size_t place, const uint8_t *name,
+                                size_t name_bytes, uint64_t *value_at, uint64_t *value_bytes);
+
+/* Whether a file is signed: whether the `.MD5` just before M02 is the digest of what stands before it (document 02, [2]).
+ *   letters             the rule of letters
+ *   file, file_bytes    the file, of any length
+ *   place               one word: where it is refused, 0 where it is not
+ *   digest              SHEET_DIGEST_BYTES bytes: the digest, zeros where the file is refused
+ * Answers 0; or 2, 3, 24, 25 or 101. */
+uint64_t sheet_signature(uint64_t letters, const uint8_t *file, size_t file_bytes, uint64_t *place, uint8_t *digest);
 
 #ifdef __cplusplus
 }

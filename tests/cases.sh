@@ -1,6 +1,6 @@
 #!/usr/bin/env bash
 # Every question of the cases that stand beside the repository, where they do, asked of the sample host, and of the program verify what it
-# answers: the answers are the expected ones.
+# answers, which is by the old letters: the answers are the expected ones.
 set -eu
 cd "$(dirname "$0")/.."
 mapfile -t imager < <(./run --say imager)
@@ -12,9 +12,8 @@ tests/unpack "$room"
 
 # The answer to a question about the file on standard input.
 answer() { # WORDS
-    if [ "$1" = verify ]; then
-        shift
-        "${verify[@]}" "$@"
+    if [ "$*" = verify ]; then
+        "${verify[@]}"
     else
         "${imager[@]}" "$@"
     fi

@@ -73,8 +73,8 @@ static void soil(uint64_t *p, size_t words)
         p[i] = garbage;
 }
 
-/* A reading with so many words of each room. The rooms end at their fences, so the words lent are their last ones. */
-static void read_with(struct lent *l, const uint8_t *file, size_t bytes)
+/* A reading by a rule of letters with so many words of each room. The rooms end at their fences, so the words lent are their last ones. */
+static void read_by(uint64_t letters, struct lent *l, const uint8_t *file, size_t bytes)
 {
     soil(l->head, SHEET_HEAD_WORDS);
     soil(l->entries, l->e);
@@ -82,11 +82,16 @@ static void read_with(struct lent *l, const uint8_t *file, size_t bytes)
     soil(l->macros, l->m);
     soil(l->numbers, l->n);
     l->place = l->unit = l->rounded = garbage;
-    l->number = sheet_read(file, bytes, l->head, l->entries, l->e, l->apertures, l->a, l->macros, l->m, (int64_t *)(void *)l->numbers,
-                           l->n, &l->place, &l->unit, &l->rounded);
+    l->number = sheet_read(letters, file, bytes, l->head, l->entries, l->e, l->apertures, l->a, l->macros, l->m,
+                           (int64_t *)(void *)l->numbers, l->n, &l->place, &l->unit, &l->rounded);
     expect(guards_hold(l->head) && guards_hold(l->entries) && guards_hold(l->apertures) && guards_hold(l->macros) &&
                guards_hold(l->numbers),
            "a guard word was written", l->number);
+}
+
+static void read_with(struct lent *l, const uint8_t *file, size_t bytes)
+{
+    read_by(SHEET_OLD_LETTERS, l, file, bytes);
 }
 
 static int zeros(const uint64_t *p, size_t from, size_t to)
@@ -505,9 +510,9 @@ static void ask(int of_aperture, const char *file, size_t place, const char *nam
     uint64_t a = garbage, b = garbage, n;
     const uint8_t *f = (const uint8_t *)file, *t = (const uint8_t *)name;
     if (of_aperture)
-        n = sheet_aperture_attribute(f, strlen(file), place, t, strlen(name), &a, &b);
+        n = sheet_aperture_attribute(SHEET_OLD_LETTERS, f, strlen(file), place, t, strlen(name), &a, &b);
     else
-        n = sheet_object_attribute(f, strlen(file), place, t, strlen(name), &a, &b);
+        n = sheet_object_attribute(SHEET_OLD_LETTERS, f, strlen(file), place, t, strlen(name), &a, &b);
     expect(n == number && a == at && b == bytes, "an attribute's answer", number);
 }
 
@@ -528,6 +533,36 @@ static void attributes(void)
     ask(0, "M02*x", 0, "o", SHEET_AFTER_END, 0, 0);
 }
 
+/* The two rules of letters, and numbers that name none: 101, and zeros in all that is lent. */
+static void letters(void)
+{
+    static const char file[] = "%FSLAX26Y26*%%MOMM*%G04 \303\251*%TO.C,\342\202\254*%X0Y0D02*M02*";
+    static const uint64_t none[] = {0, 3, 100, 101, UINT64_MAX};
+    const uint8_t *f = (const uint8_t *)file;
+    size_t bytes = sizeof file - 1;
+    uint64_t at, count, place;
+    uint8_t digest[SHEET_DIGEST_BYTES], zero[SHEET_DIGEST_BYTES] = {0};
+    struct lent l = rooms(30, 16, 16, 4);
+    read_by(SHEET_OLD_LETTERS, &l, f, bytes);
+    expect(l.number == SHEET_BYTE && l.place == 24 && all_zeros(&l), "a letter is 2 under the old rule", l.place);
+    read_by(SHEET_NEW_LETTERS, &l, f, bytes);
+    expect(l.number == SHEET_ACCEPTED && l.unit == SHEET_MM, "and stands under the new one", l.number);
+    expect(sheet_object_attribute(SHEET_NEW_LETTERS, f, bytes, 38, (const uint8_t *)".C", 2, &at, &count) == 0 && at == 33 && count == 3,
+           "a value of three bytes", at);
+    expect(sheet_signature(SHEET_NEW_LETTERS, f, bytes, &place, digest) == SHEET_UNSIGNED && place == bytes - 4, "no signature", place);
+    for (size_t i = 0; i < sizeof none / sizeof none[0]; i++) {
+        read_by(none[i], &l, f, bytes);
+        expect(l.number == SHEET_NO_LETTERS && l.place == 0 && l.unit == 0 && l.rounded == 0 && all_zeros(&l), "no rule of letters", none[i]);
+        at = count = place = garbage;
+        memset(digest, 165, sizeof digest);
+        expect(sheet_object_attribute(none[i], f, bytes, 38, f, 1, &at, &count) == SHEET_NO_LETTERS && at == 0 && count == 0, "nor of a TO", none[i]);
+        at = count = garbage;
+        expect(sheet_aperture_attribute(none[i], f, bytes, 38, f, 1, &at, &count) == SHEET_NO_LETTERS && at == 0 && count == 0, "nor of a TA", none[i]);
+        expect(sheet_signature(none[i], f, bytes, &place, digest) == SHEET_NO_LETTERS && place == 0 && memcmp(digest, zero, sizeof zero) == 0,
+               "nor of a signature", none[i]);
+    }
+}
+
 int main(void)
 {
     expect(sheet_entry_words() == SHEET_ENTRY_WORDS, "the width of an entry", sheet_entry_words());
@@ -546,6 +581,7 @@ int main(void)
     summaries(&l);
     damaged(&l);
     attributes();
+    letters();
     printf("host: %u tried, %u faults\n", tried, faults);
     return faults != 0;
 }

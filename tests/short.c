@@ -34,7 +34,7 @@ int main(int words, char **word)
     for (size_t length = 0; length <= longest; length++) {
         uint8_t file[LONGEST + 1] = {0};
         do {
-            uint64_t number = sheet_read(file, length, head, none, 0, none, 0, none, 0, numbers, 0, &place, &unit, &rounded);
+            uint64_t number = sheet_read(SHEET_OLD_LETTERS, file, length, head, none, 0, none, 0, none, 0, numbers, 0, &place, &unit, &rounded);
             hash = with_byte(with_byte(hash, number), place);
             count++;
         } while (next(file, length));

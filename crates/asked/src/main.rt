@@ -1,4 +1,4 @@
-// Attributes asked of the file on standard input: three names, as TA and as TO, at every place. A line for each answer but 22: what
+// Attributes asked of the file on standard input, by the old rule of letters: three names, as TA and as TO, at every place. A line for each answer but 22: what
 // was asked, then the answer as the second reader writes it.
 use attribute::Answer;
 use libc::STDOUT_FILENO;
@@ -25,7 +25,7 @@ fn answered(a: Answer) {
 
 // One question and its answer, if a command begins at the place.
 fn ask(file: &[u8], kind: Kind, letters: &[u8], place: usize, name: &[u8]) {
-    let a = attribute::attribute(file, kind, place, name);
+    let a = attribute::attribute(book::ascii(), file, kind, place, name);
     if a.number == 22 {
         return;
     }

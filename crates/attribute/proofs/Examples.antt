@@ -10,6 +10,7 @@ use Rattle.base.specs.Bytes.{sameBytes}
 use Rattle.text.specs.First.{firstIn}
 use Rattle.text.specs.Name.{letter, nameStart, nameByte, nameBytes, isName}
 use Rattle.text.specs.Text.{text, among}
+use Rattle.book.specs.Books.{ascii}
 use Rattle.scan.specs.Permitted.{fits, printable, breaksAfter, mayBreak, permitted, letterHere, badIn}
 use Rattle.scan.specs.Scan.{kindOf, textFrom, endOf, cutBy, commandIn, nextCommand}
 use Rattle.scan.specs.Tail.{tailOf}
@@ -48,7 +49,7 @@ asked =
     ∷ (Object, 36, "a", 23, 0, 0)
     ∷ []
 
-asked-answered : map (λ row. attributeOf file (row .0) (row .1) (text (row .2))) asked ≡ map (λ row. record { number = row .3; place = row .4; length = row .5 }) asked
+asked-answered : map (λ row. attributeOf ascii file (row .0) (row .1) (text (row .2))) asked ≡ map (λ row. record { number = row .3; place = row .4; length = row .5 }) asked
 unfolding attributeOf answerIn answerFor answerAt held heardWith heardIn later kept before fromOn takenAt isDraw isMove regionAfter beginsContour sayingOf spoken saying asksTA valueIn commandsOf commandsFrom turnOf turned led leadOf leadOfSetting leadOfFlaw tailFault tailOf fits cutBy commandIn nextCommand inField letterHere letters-Table.letterIn letters-Table.wholeOf letters-Table.leadOf letters-Table.leadIn letters-Table.table letters-Table.follows letters-Table.within kindOf textFrom endOf badIn permitted printable mayBreak breaksAfter commandOf wordOf codeOf extendedOf dataOf oneBlock blockOf recognised valueOf deletionOf isName nameStart nameByte nameBytes letter pick firstIn among sameBytes _and_ _or_
 asked-answered = refl
 
@@ -60,6 +61,6 @@ pour = text "%TAa,1*%G36*D01*D01*%TAa,2*%D02*D01*%TDa*%D02*D01*G37*D01*M02*"
 abbrev poured : List (ℕ × ℕ × ℕ × ℕ)
 poured = (12, 0, 5, 1) ∷ (16, 23, 0, 0) ∷ (32, 0, 5, 1) ∷ (46, 23, 0, 0) ∷ (54, 23, 0, 0) ∷ []
 
-pour-answered : map (λ row. attributeOf pour Aperture (row .0) (text "a")) poured ≡ map (λ row. record { number = row .1; place = row .2; length = row .3 }) poured
+pour-answered : map (λ row. attributeOf ascii pour Aperture (row .0) (text "a")) poured ≡ map (λ row. record { number = row .1; place = row .2; length = row .3 }) poured
 unfolding attributeOf answerIn answerFor answerAt held heardWith heardIn later kept before fromOn takenAt isDraw isMove regionAfter beginsContour sayingOf spoken saying asksTA valueIn commandsOf commandsFrom turnOf turned led leadOf leadOfSetting leadOfFlaw tailFault tailOf fits cutBy commandIn nextCommand inField letterHere letters-Table.letterIn letters-Table.wholeOf letters-Table.leadOf letters-Table.leadIn letters-Table.table letters-Table.follows letters-Table.within kindOf textFrom endOf badIn permitted printable mayBreak breaksAfter commandOf wordOf codeOf extendedOf dataOf oneBlock blockOf recognised valueOf deletionOf isName nameStart nameByte nameBytes letter pick firstIn among sameBytes _and_ _or_ drawOf moveOf draw plain judged fieldsOf fieldsIn fieldAt digitLimit missing broken tooLong alone axisOf offsetOf
 pour-answered = refl

@@ -5,6 +5,7 @@ use Prim.Native.Nat.{ℕ}
 use mathlib.Core.Bool.{true, false}
 use mathlib.Core.List.{List, [], _∷_}
 use lib.Dec.{eqb}
+use Rattle.book.specs.declared.Book.{Book}
 use Rattle.text.specs.Text.{_is_}
 use Rattle.base.specs.Choose.{pick, choose}
 use Rattle.commands.specs.Commands.{Sequence, commandsOf}
@@ -90,5 +91,5 @@ answerIn file kind place name l =
     (answerFor file kind (fromOn place cs) (heardIn file kind name nothing (before place cs)))
     (refused (l .fault .number))
 
-unfoldable pub attributeOf : List ℕ → Kind → ℕ → List ℕ → Answer
-attributeOf file kind place name = answerIn file kind place name (commandsOf file)
+unfoldable pub attributeOf : Book → List ℕ → Kind → ℕ → List ℕ → Answer
+attributeOf book file kind place name = answerIn file kind place name (commandsOf book file)

@@ -5,6 +5,7 @@ ghost use Prim.Native.Nat.{suc};
 ghost use Rattle.commands.specs.Commands.{commandsFrom};
 ghost use Rattle.attribute.specs.Attribute.{refused, later, kept, nothing, heardWith, held, answerAt, answerIn, attributeOf};
 ghost use Rattle.attribute.specs.Pass.{met, judged};
+use book::Book;
 use commands::Placed;
 use commands::Turn;
 use sayings::Kind;
@@ -162,15 +163,15 @@ fn judged(number: u64, found: Found) -> Answer
 }
 
 // The answer, in one pass over the file's commands.
-fn pass(file: &[u8], kind: Kind, place: usize, name: &[u8]) -> Answer
-    ensures { λ r. ⌜ r ≡ answerIn (now (file .entry)) kind place (now (name .entry)) (commandsFrom (suc (length (now (file .entry)))) 0 (now (file .entry)) 0) ⌝ }
+fn pass(book: Book, file: &[u8], kind: Kind, place: usize, name: &[u8]) -> Answer
+    ensures { λ r. ⌜ r ≡ answerIn (now (file .entry)) kind place (now (name .entry)) (commandsFrom book (suc (length (now (file .entry)))) 0 (now (file .entry)) 0) ⌝ }
 {
     let mut n: usize = 0;
     let mut at: usize = 0;
     let mut heard = nothing();
     let mut found = Found::NotYet;
     loop {
-        let t = commands::turn_at(n, file, at);
+        let t = commands::turn_at(book, n, file, at);
         match t {
             Turn::Fault(f) => {
                 return judged(f.number, found);
@@ -193,12 +194,12 @@ fn pass(file: &[u8], kind: Kind, place: usize, name: &[u8]) -> Answer
     }
 }
 
-// The attribute of this kind and name at the command that begins at the place.
-pub fn attribute(file: &[u8], kind: Kind, place: usize, name: &[u8]) -> Answer
-    ensures { λ r. ⌜ r ≡ attributeOf (now (file .entry)) kind place (now (name .entry)) ⌝ }
+// The attribute of this kind and name at the command that begins at the place, by a book.
+pub fn attribute(book: Book, file: &[u8], kind: Kind, place: usize, name: &[u8]) -> Answer
+    ensures { λ r. ⌜ r ≡ attributeOf book (now (file .entry)) kind place (now (name .entry)) ⌝ }
 {
     if scan::file_fits(file) {
-        return pass(file, kind, place, name);
+        return pass(book, file, kind, place, name);
     }
     refused(1)
 }

@@ -10,6 +10,7 @@ use Rattle.base.specs.Bytes.{sameBytes}
 use Rattle.text.specs.First.{firstIn}
 use Rattle.text.specs.Name.{letter, nameStart, nameByte, nameBytes, isName}
 use Rattle.text.specs.Text.{text, among}
+use Rattle.book.specs.Books.{ascii}
 use Rattle.scan.specs.Permitted.{fits, printable, breaksAfter, mayBreak, permitted, letterHere, badIn}
 use Rattle.scan.specs.Scan.{kindOf, textFrom, endOf, cutBy, commandIn, nextCommand}
 use Rattle.scan.specs.Tail.{tailOf}
@@ -45,6 +46,6 @@ files =
     ∷ ("%FSLAX36Y36*%%TDa*\n%M02*", at 0 1 12 (Set (Format 3)) ∷ at 13 14 19 (Attribute (Delete (span 2 3))) ∷ at 20 20 23 End ∷ [], 0, 0)
     ∷ []
 
-files-read : map (λ row. commandsOf (text (row .0))) files ≡ map (λ row. record { commands = row .1; fault = refusal (row .2) (row .3) }) files
+files-read : map (λ row. commandsOf ascii (text (row .0))) files ≡ map (λ row. record { commands = row .1; fault = refusal (row .2) (row .3) }) files
 unfolding commandsOf commandsFrom turnOf turned led leadOf leadOfFlaw leadOfSetting tailFault tailOf fits cutBy commandIn nextCommand inField letterHere letters-Table.letterIn letters-Table.wholeOf letters-Table.leadOf letters-Table.leadIn letters-Table.table letters-Table.follows letters-Table.within kindOf textFrom endOf badIn permitted printable mayBreak breaksAfter commandOf wordOf codeOf extendedOf dataOf oneBlock formatOf deletionOf isName nameStart nameByte nameBytes letter pick firstIn among sameBytes _and_ _or_
 files-read = refl

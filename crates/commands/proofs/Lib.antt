@@ -1,3 +1,4 @@
 pub mod Examples
 pub mod Rounded
 pub mod Walk
+pub mod Rules

@@ -7,7 +7,7 @@ use native.Mathlib.Omega.{arith}
 use lib.ListN.{length}
 use lib.Seq.{slice}
 use Rattle.scan.specs.Scan.{nextCommand}
-use Rattle.scan.specs.declared.Letters.the-variants.{Old}
+use Rattle.book.specs.declared.Book.{Book}
 use Rattle.scan.specs.Tail.{tailOf}
 use Rattle.scan.specs.declared.Scan.{Scan}
 use Rattle.scan.specs.declared.Scan.the-variants as scan
@@ -43,42 +43,42 @@ turned-onward n file at (scan.Command kind place from end next) (h, k, l, e, m) 
 turned-onward n file at (scan.BadByte place) w = tt
 turned-onward n file at (scan.Ended place) w = tt
 
-turn-onward : (n : ℕ) (file : List ℕ) (at : ℕ) → at ≤ length file → Onward (length file) at (turnOf n file at)
+turn-onward : (book : Book) (n : ℕ) (file : List ℕ) (at : ℕ) → at ≤ length file → Onward (length file) at (turnOf book n file at)
 unfolding turnOf
-turn-onward n file at h = turned-onward n file at (nextCommand Old file at) (next-within Old file at h)
+turn-onward book n file at h = turned-onward n file at (nextCommand book file at) (next-within book file at h)
 
 -- the number of turns does not matter where it is enough for the bytes left
-enough : (file : List ℕ) (k j n at : ℕ) → at ≤ length file → length file < k + at → length file < j + at → commandsFrom k n file at ≡ commandsFrom j n file at
+enough : (book : Book) (file : List ℕ) (k j n at : ℕ) → at ≤ length file → length file < k + at → length file < j + at → commandsFrom book k n file at ≡ commandsFrom book j n file at
 unfolding commandsFrom
-enough file zero j n at h p q = absurd (omega arith)
-enough file (suc k) zero n at h p q = absurd (omega arith)
-enough file (suc k) (suc j) n at h p q = go (λ m next. enough file k j m next) (turnOf n file at) refl (turn-onward n file at h)
+enough book file zero j n at h p q = absurd (omega arith)
+enough book file (suc k) zero n at h p q = absurd (omega arith)
+enough book file (suc k) (suc j) n at h p q = go (λ m next. enough book file k j m next) (turnOf book n file at) refl (turn-onward book n file at h)
   where
-    go : ((m next : ℕ) → next ≤ length file → length file < k + next → length file < j + next → commandsFrom k m file next ≡ commandsFrom j m file next) →
-        (t : Turn) → turnOf n file at ≡ t → Onward (length file) at t → commandsFrom (suc k) n file at ≡ commandsFrom (suc j) n file at
+    go : ((m next : ℕ) → next ≤ length file → length file < k + next → length file < j + next → commandsFrom book k m file next ≡ commandsFrom book j m file next) →
+        (t : Turn) → turnOf book n file at ≡ t → Onward (length file) at t → commandsFrom book (suc k) n file at ≡ commandsFrom book (suc j) n file at
     go ih (Fault f) e o = rw (e, commandsFrom)
     go ih (Last c next) e o = rw (e, commandsFrom)
     go ih (More c m next) e (l, u) = rw (e, commandsFrom, ih m next u (omega arith) (omega arith))
 
 -- what is listed from `at` on
-abbrev pub walk : ℕ → List ℕ → ℕ → Sequence
-walk n file at = commandsFrom (suc (length file)) n file at
+abbrev pub walk : Book → ℕ → List ℕ → ℕ → Sequence
+walk book n file at = commandsFrom book (suc (length file)) n file at
 
-module _ (n : ℕ) (file : List ℕ) (at : ℕ) where
-  pub walk-fault : {f : Refusal} → turnOf n file at ≡ Fault f → walk n file at ≡ stopped f
+module _ (book : Book) (n : ℕ) (file : List ℕ) (at : ℕ) where
+  pub walk-fault : {f : Refusal} → turnOf book n file at ≡ Fault f → walk book n file at ≡ stopped f
   unfolding commandsFrom
   walk-fault e = rw (e, commandsFrom)
 
-  pub walk-last : {c : Placed} {next : ℕ} → turnOf n file at ≡ Last c next → walk n file at ≡ followed c (stopped (tailFault (tailOf file next)))
+  pub walk-last : {c : Placed} {next : ℕ} → turnOf book n file at ≡ Last c next → walk book n file at ≡ followed c (stopped (tailFault (tailOf file next)))
   unfolding commandsFrom
   walk-last e = rw (e, commandsFrom)
 
-  module _ {c : Placed} {m next : ℕ} (h : at ≤ length file) (e : turnOf n file at ≡ More c m next) where
+  module _ {c : Placed} {m next : ℕ} (h : at ≤ length file) (e : turnOf book n file at ≡ More c m next) where
     pub more-onward : (at < next) × (next ≤ length file)
-    more-onward = rw e at (turn-onward n file at h)
+    more-onward = rw e at (turn-onward book n file at h)
 
-    pub walk-more : walk n file at ≡ followed c (walk m file next)
+    pub walk-more : walk book n file at ≡ followed c (walk book m file next)
     unfolding commandsFrom
     walk-more =
         let o = more-onward in
-        rw (e, commandsFrom, enough file (length file) (suc (length file)) m next (o .1) (omega (arith, o .0)) (omega arith))
+        rw (e, commandsFrom, enough book file (length file) (suc (length file)) m next (o .1) (omega (arith, o .0)) (omega arith))

@@ -3,6 +3,7 @@ use Prim.Native.Nat.{ℕ, zero, suc}
 use mathlib.Core.Bool.{cond}
 use mathlib.Core.List.{List, [], _∷_}
 use lib.ListN.{length}
+use Rattle.book.specs.declared.Book.{Book}
 use Rattle.scan.specs.Permitted.{fits}
 use Rattle.scan.specs.Tail.{tailOf}
 use Rattle.commands.specs.Turns.{refusal, turnOf, tailFault}
@@ -24,15 +25,15 @@ abbrev pub followed : Placed → Sequence → Sequence
 followed c l = record { commands = c ∷ l .commands; fault = l .fault }
 
 -- from `at` on, in at most k turns, after FS with this n, 0 before it; a file that ends before M02 is 3 at its length
-unfoldable pub commandsFrom : ℕ → ℕ → List ℕ → ℕ → Sequence
-commandsFrom zero n file at = stopped (refusal 3 (length file))
-commandsFrom (suc k) n file at =
-    elim (turnOf n file at) [
+unfoldable pub commandsFrom : Book → ℕ → ℕ → List ℕ → ℕ → Sequence
+commandsFrom book zero n file at = stopped (refusal 3 (length file))
+commandsFrom book (suc k) n file at =
+    elim (turnOf book n file at) [
       | Fault f ↦ stopped f
       | Last c next ↦ followed c (stopped (tailFault (tailOf file next)))
-      | More c m next ↦ followed c (commandsFrom k m file next)
+      | More c m next ↦ followed c (commandsFrom book k m file next)
     ]
 
 -- each command takes a byte at least, and so a turn more than there are bytes is enough
-unfoldable pub commandsOf : List ℕ → Sequence
-commandsOf file = cond (fits file) (commandsFrom (suc (length file)) 0 file 0) (stopped (refusal 1 0))
+unfoldable pub commandsOf : Book → List ℕ → Sequence
+commandsOf book file = cond (fits file) (commandsFrom book (suc (length file)) 0 file 0) (stopped (refusal 1 0))

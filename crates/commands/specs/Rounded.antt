@@ -2,6 +2,7 @@
 -- (02, [1]). A macro's stand in its AM, and are counted there alone.
 use Prim.Native.Nat.{ℕ, _+_}
 use mathlib.Core.List.{List, [], _∷_}
+use Rattle.book.specs.declared.Book.{Book}
 use Rattle.command.specs.Rounded.{roundedOf}
 use Rattle.commands.specs.Commands.{commandsOf}
 use Rattle.commands.specs.declared.Placed.{Placed}
@@ -10,5 +11,5 @@ unfoldable pub roundedAmong : List Placed → ℕ
 roundedAmong [] = 0
 roundedAmong (c ∷ cs) = roundedOf (c .command) + roundedAmong cs
 
-unfoldable pub roundedIn : List ℕ → ℕ
-roundedIn file = roundedAmong (commandsOf file .commands)
+unfoldable pub roundedIn : Book → List ℕ → ℕ
+roundedIn book file = roundedAmong (commandsOf book file .commands)

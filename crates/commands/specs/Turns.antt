@@ -3,7 +3,7 @@ use Prim.Native.Nat.{ℕ}
 use mathlib.Core.List.{List}
 use lib.Seq.{slice}
 use Rattle.scan.specs.Scan.{nextCommand}
-use Rattle.scan.specs.declared.Letters.the-variants.{Old}
+use Rattle.book.specs.declared.Book.{Book}
 use Rattle.scan.specs.declared.Scan.{Scan}
 use Rattle.scan.specs.declared.Scan.the-variants as scan
 use Rattle.scan.specs.declared.Tail.{Tail}
@@ -37,9 +37,9 @@ turned n file (scan.Command kind place from end next) =
 turned n file (scan.BadByte place) = Fault (refusal 2 place)
 turned n file (scan.Ended place) = Fault (refusal 3 place)
 
--- what stands next from `at` on, after FS with this n, 0 before it
-unfoldable pub turnOf : ℕ → List ℕ → ℕ → Turn
-turnOf n file at = turned n file (nextCommand Old file at)
+-- what stands next from `at` on by this book, after FS with this n, 0 before it
+unfoldable pub turnOf : Book → ℕ → List ℕ → ℕ → Turn
+turnOf book n file at = turned n file (nextCommand book file at)
 
 -- what follows M02 is CR and LF, else 2 or 18; 0 at 0 is no fault
 unfoldable pub tailFault : Tail → Refusal

@@ -3,10 +3,10 @@ ghost use mathlib.Core.Path.{_≡_};
 ghost use Rattle.scan.specs.Tail.{tailOf};
 ghost use Rattle.commands.specs.Leads.{leadOfFlaw, leadOfSetting, leadOf};
 ghost use Rattle.commands.specs.Turns.{led, turnOf, tailFault};
+use book::Book;
 use command::Command;
 use command::Flaw;
 use command::Setting;
-use scan::Letters;
 use scan::Scan;
 use scan::Tail;
 
@@ -118,11 +118,11 @@ fn led(n: usize, c: Placed, lead: Lead, next: usize) -> Turn
     }
 }
 
-// What stands next from a place on; n is that of FS, 0 before it.
-pub fn turn_at(n: usize, file: &[u8], at: usize) -> Turn
-    ensures { λ r. ⌜ r ≡ turnOf n (now (file .entry)) at ⌝ }
+// What stands next from a place on, by a book; n is that of FS, 0 before it.
+pub fn turn_at(book: Book, n: usize, file: &[u8], at: usize) -> Turn
+    ensures { λ r. ⌜ r ≡ turnOf book n (now (file .entry)) at ⌝ }
 {
-    let s = scan::next_command(Letters::Old, file, at);
+    let s = scan::next_command(book, file, at);
     match s {
         Scan::Command {
             kind,

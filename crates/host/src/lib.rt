@@ -8,9 +8,9 @@ use summary::Outcome;
 ghost use mathlib.Core.Path.{_≡_};
 ghost use lib.ListN.{length};
 ghost use Rattle.sayings.specs.declared.Kind.the-variants.{Aperture, Object};
-ghost use Rattle.reading.specs.Reading.{reading};
 ghost use Rattle.progress.specs.Lent.{lentOf, roomOf};
-ghost use Rattle.attribute.specs.Attribute.{attributeOf};
+ghost use Rattle.numbered.specs.Choice.{choiceOf};
+ghost use Rattle.numbered.specs.Calls.{attributeBy, signatureBy, readingBy, roundedBy};
 ghost use Rattle.descend.specs.Answers.{totalOf, totalNumber, totalValue, answerOf, answerNumber, answerItem};
 ghost use Rattle.descend.specs.Slots.{itemWords, fetchOf, fetchNumber, fetched};
 ghost use Rattle.address.specs.Answers.{replyOf};
@@ -19,9 +19,11 @@ ghost use Rattle.summary.specs.Answers.{outcomeOf, outcomeNumber, summed};
 ghost use Rattle.host.specs.Reads.{ReadsInto};
 ghost use Rattle.host.specs.Widths.{ItemsAre, EntriesAre, AperturesAre, MacrosAre, RowsAre, ScratchIs};
 
-// Reads a file into the lent words: a sheet, with its unit and how many decimals were rounded; or document 01's number and the place, and zeros in every word.
+// Reads a file by the rule of letters that the number names into the lent words: a sheet, with its unit and how many decimals were rounded;
+// or document 01's number and the place, or 101, and zeros in every word.
 #[no_mangle]
 pub extern "C" fn sheet_read(
+    letters: u64,
     file: &[u8],
     head: &mut [u64; 8],
     entries: &mut [u64],
@@ -32,11 +34,12 @@ pub extern "C" fn sheet_read(
     unit: &mut u64,
     rounded: &mut u64,
 ) -> u64
-    ensures { λ r. ⌜ ReadsInto (reading (roomOf (lentOf (now (file .entry)) (now (entries .entry)) (now (apertures .entry)) (now (macros .entry)) (now (numbers .entry)))) (now (file .entry)))
+    ensures { λ r. ⌜ ReadsInto (roundedBy (choiceOf letters) (now (file .entry)))
+        (readingBy (choiceOf letters) (roomOf (lentOf (now (file .entry)) (now (entries .entry)) (now (apertures .entry)) (now (macros .entry)) (now (numbers .entry)))) (now (file .entry)))
         (lentOf (now (file .entry)) (now (entries .entry)) (now (apertures .entry)) (now (macros .entry)) (now (numbers .entry)))
         (lentOf (now (file .entry)) (now (entries .exit)) (now (apertures .exit)) (now (macros .exit)) (now (numbers .exit))) (now (head .exit)) r (now (place .exit)) (now (unit .exit)) (now (rounded .exit)) ⌝ }
 {
-    let a = reader::read(file, head, entries, apertures, macros, numbers);
+    let a = numbered::read(letters, file, head, entries, apertures, macros, numbers);
     match a {
         Answer::Accepted {
             unit: u,
@@ -185,17 +188,18 @@ pub extern "C" fn sheet_item(
 // The aperture attribute of this name at the command that begins at the place: where its value stands in the file, and its length.
 #[no_mangle]
 pub extern "C" fn sheet_aperture_attribute(
+    letters: u64,
     file: &[u8],
     place: usize,
     name: &[u8],
     at: &mut u64,
     size: &mut u64,
 ) -> u64
-    ensures { λ r. ⌜ (r ≡ attributeOf (now (file .entry)) Aperture place (now (name .entry)) .number)
-        × (now (at .exit) ≡ attributeOf (now (file .entry)) Aperture place (now (name .entry)) .place)
-        × (now (size .exit) ≡ attributeOf (now (file .entry)) Aperture place (now (name .entry)) .length) ⌝ }
+    ensures { λ r. ⌜ (r ≡ attributeBy (choiceOf letters) (now (file .entry)) Aperture place (now (name .entry)) .number)
+        × (now (at .exit) ≡ attributeBy (choiceOf letters) (now (file .entry)) Aperture place (now (name .entry)) .place)
+        × (now (size .exit) ≡ attributeBy (choiceOf letters) (now (file .entry)) Aperture place (now (name .entry)) .length) ⌝ }
 {
-    let a = attribute::attribute(file, Kind::Aperture, place, name);
+    let a = numbered::attribute(letters, file, Kind::Aperture, place, name);
     *at = a.place as u64;
     *size = a.length as u64;
     a.number
@@ -204,20 +208,40 @@ pub extern "C" fn sheet_aperture_attribute(
 // The object attribute of this name there.
 #[no_mangle]
 pub extern "C" fn sheet_object_attribute(
+    letters: u64,
     file: &[u8],
     place: usize,
     name: &[u8],
     at: &mut u64,
     size: &mut u64,
 ) -> u64
-    ensures { λ r. ⌜ (r ≡ attributeOf (now (file .entry)) Object place (now (name .entry)) .number)
-        × (now (at .exit) ≡ attributeOf (now (file .entry)) Object place (now (name .entry)) .place)
-        × (now (size .exit) ≡ attributeOf (now (file .entry)) Object place (now (name .entry)) .length) ⌝ }
+    ensures { λ r. ⌜ (r ≡ attributeBy (choiceOf letters) (now (file .entry)) Object place (now (name .entry)) .number)
+        × (now (at .exit) ≡ attributeBy (choiceOf letters) (now (file .entry)) Object place (now (name .entry)) .place)
+        × (now (size .exit) ≡ attributeBy (choiceOf letters) (now (file .entry)) Object place (now (name .entry)) .length) ⌝ }
 {
-    let a = attribute::attribute(file, Kind::Object, place, name);
+    let a = numbered::attribute(letters, file, Kind::Object, place, name);
     *at = a.place as u64;
     *size = a.length as u64;
     a.number
+}
+
+// Whether a file is signed: its digest, or document 01's number with the place, or 101, and a digest of zeros.
+#[no_mangle]
+pub extern "C" fn sheet_signature(
+    letters: u64,
+    file: &[u8],
+    place: &mut u64,
+    digest: &mut [u8; 16],
+) -> u64
+    ensures { λ r. ⌜ (r ≡ signatureBy (choiceOf letters) (now (file .entry)) .number)
+        × (now (place .exit) ≡ signatureBy (choiceOf letters) (now (file .entry)) .place)
+        × (now (digest .exit) ≡ signatureBy (choiceOf letters) (now (file .entry)) .digest) ⌝ }
+{
+    let s = numbered::signature(letters, file);
+    let d = s.digest;
+    *place = s.place as u64;
+    *digest = d;
+    s.number
 }
 
 // The words of an item in a run.

@@ -17,7 +17,7 @@ use Rattle.text.specs.First.{skipped}
 use Rattle.scan.specs.Permitted.{printable}
 use Rattle.scan.specs.Scan.{nextCommand}
 use Rattle.scan.specs.Tail.{tailOf}
-use Rattle.scan.specs.declared.Letters.the-variants.{Old}
+use Rattle.book.specs.declared.Book.{Book}
 use Rattle.scan.specs.declared.Scan.{Scan}
 use Rattle.scan.specs.declared.Scan.the-variants.{Command, BadByte, Ended}
 use Rattle.scan.specs.declared.Tail.{Tail}
@@ -38,7 +38,7 @@ use Rattle.intake.proofs.Commands.{run, outcome, next-run}
 use Rattle.intake.proofs.Stands.{along, between, part, goes, bare-none}
 use Rattle.intake.proofs.Steps.{taken-end, taken-next, bad-stays, past-stays}
 
-module _ (file : List ℕ) (short : length file < 2 ^ 64) where
+module _ (book : Book) (file : List ℕ) (short : length file < 2 ^ 64) where
   abbrev at-break : ℕ → Bool
   at-break i = isBreak (getD file i 0)
 
@@ -64,7 +64,7 @@ module _ (file : List ℕ) (short : length file < 2 ^ 64) where
       ending (Unprintable bad) = refused 2 bad
 
       abbrev Ends : ℕ → Type 0
-      Ends i = run file short from at Over place i ≡ ending (tailOf file i)
+      Ends i = run book file short from at Over place i ≡ ending (tailOf file i)
 
       tail-end : (i : ℕ) → length file ≤ i → tailOf file i ≡ Clean
       unfolding tailOf
@@ -85,17 +85,17 @@ module _ (file : List ℕ) (short : length file < 2 ^ 64) where
       over-one : (i : ℕ) → place ≤ i → i < length file → (t : Bool) → at-break i ≡ t → (u : Bool) → printable (getD file i 0) ≡ u → Ends (i + 1) → Ends i
       unfolding begins stageAfter over
       over-one i l h true e u p rest =
-          rw (taken-next (along file Over from at place i) file i h, goes file short from at i h Over place l refl, e, tail-on i h e) rest
+          rw (taken-next (along book file Over from at place i) file i h, goes book file short from at i h Over place l refl, e, tail-on i h e) rest
       over-one i l h false e true p rest =
-          rw (taken-next (along file Over from at place i) file i h, goes file short from at i h Over place l refl, e, p, tail-more i h e p)
-          (past-stays (drop (i + 1) file) (along file Past from at place (i + 1)) refl)
+          rw (taken-next (along book file Over from at place i) file i h, goes book file short from at i h Over place l refl, e, p, tail-more i h e p)
+          (past-stays (drop (i + 1) file) (along book file Past from at place (i + 1)) refl)
       over-one i l h false e false p rest =
-          rw (taken-next (along file Over from at place i) file i h, goes file short from at i h Over place l refl, e, p, tail-bad i h e p)
-          (bad-stays (drop (i + 1) file) (along file (Cut (Bad i)) from at place (i + 1)) refl)
+          rw (taken-next (along book file Over from at place i) file i h, goes book file short from at i h Over place l refl, e, p, tail-bad i h e p)
+          (bad-stays (drop (i + 1) file) (along book file (Cut (Bad i)) from at place (i + 1)) refl)
 
       over-end : (i : ℕ) → length file ≤ i → Ends i
       unfolding told
-      over-end i h = rw (taken-end (along file Over from at place i) file i h, tail-end i h)
+      over-end i h = rw (taken-end (along book file Over from at place i) file i h, tail-end i h)
 
       over-run : (n i : ℕ) → length file ≤ i + n → i ≤ length file → place ≤ i → Ends i
       over-run zero i h k l = over-end i (omega arith)
@@ -121,22 +121,22 @@ module _ (file : List ℕ) (short : length file < 2 ^ 64) where
 
   -- from command to command
   abbrev Walks : ℕ → Type 0
-  Walks n = (from at : ℕ) (q : Piece) → at ≤ length file → length file < at + n → told (taken (between file from at at q) (drop at file)) ≡ walked n file from at
+  Walks n = (from at : ℕ) (q : Piece) → at ≤ length file → length file < at + n → told (taken (between book file from at at q) (drop at file)) ≡ walked book n file from at
 
   walks-on : (n : ℕ) → Walks n → Walks (suc n)
   unfolding walked settled
-  walks-on n rest from at q h k = next-run file short from at at h q ∙ go (nextCommand Old file at) refl
+  walks-on n rest from at q h k = next-run book file short from at at h q ∙ go (nextCommand book file at) refl
     where
-      go : (r : Scan) → nextCommand Old file at ≡ r → outcome file short from at (nextCommand Old file at) ≡ walked (suc n) file from at
+      go : (r : Scan) → nextCommand book file at ≡ r → outcome book file short from at (nextCommand book file at) ≡ walked book (suc n) file from at
       go (BadByte place) e = rw (walked, e)
       go (Ended place) e = rw (walked, e)
       go (Command kind place text end next) e = rw (walked, e) (by-end (isEnd (bare file place next)) refl)
         where
           w : Within (length file) at (Command kind place text end next)
-          w = rw e at (next-within Old file at h)
+          w = rw e at (next-within book file at h)
 
-          by-end : (t : Bool) → isEnd (bare file place next) ≡ t → outcome file short from at (Command kind place text end next)
-              ≡ elim (isEnd (bare file place next)) [ true ↦ atEnd file from at place next | false ↦ walked n file place next ]
+          by-end : (t : Bool) → isEnd (bare file place next) ≡ t → outcome book file short from at (Command kind place text end next)
+              ≡ elim (isEnd (bare file place next)) [ true ↦ atEnd file from at place next | false ↦ walked book n file place next ]
           by-end true f = rw f (over-run from at place (length file) next (omega arith) (w .4) (omega (arith, w .1, w .2, w .3)) ∙ at-end from at place next)
           by-end false f = rw f (rest place next (part file from at) (w .4) (omega (arith, w .0, w .1, w .2, w .3)))
 
@@ -145,7 +145,7 @@ module _ (file : List ℕ) (short : length file < 2 ^ 64) where
   walks (suc n) from at q h k = walks-on n (walks n) from at q h k
 
   -- one run
-  pub one-run : told (taken empty file) ≡ signatureOf file
+  pub one-run : told (taken (empty book) file) ≡ signatureOf book file
   unfolding empty signatureOf fed notedAll
   one-run = rw (bare-none file 0) at (walks (suc (length file)) 0 0 (piece 0 started nothing) (omega arith) (omega arith))
 
@@ -160,6 +160,6 @@ unfolding inRuns taken flatten
 any-cut s [] = refl
 any-cut s (t ∷ ts) = any-cut (taken s t) ts ∙ sym (taken-append s t (flatten ts))
 
--- the answer is that of the whole file, wherever it was cut
-pub any-cut-signature : (ts : List (List ℕ)) → length (flatten ts) < 2 ^ 64 → told (inRuns empty ts) ≡ signatureOf (flatten ts)
-any-cut-signature ts short = ap told (any-cut empty ts) ∙ one-run (flatten ts) short
+-- the answer is that of the whole file, wherever it was cut, through a letter too
+pub any-cut-signature : (book : Book) (ts : List (List ℕ)) → length (flatten ts) < 2 ^ 64 → told (inRuns (empty book) ts) ≡ signatureOf book (flatten ts)
+any-cut-signature book ts short = ap told (any-cut (empty book) ts) ∙ one-run book (flatten ts) short

@@ -15,7 +15,7 @@ use Rattle.digest.proofs.Runs.{fed-append}
 use Rattle.digest.proofs.Text.{unbroken-append}
 use Rattle.base.specs.Breaks.{isBreak}
 use Rattle.scan.specs.Ways.{step}
-use Rattle.scan.specs.declared.Letters.the-variants.{Old}
+use Rattle.book.specs.declared.Book.{Book}
 use Rattle.scan.specs.declared.Way.the-variants.{Between}
 use Rattle.signature.specs.declared.Held.{Held}
 use Rattle.signature.specs.Held.{nothing, noted, notedAll}
@@ -52,14 +52,14 @@ abbrev pub part : List ℕ → ℕ → ℕ → Piece
 part file place to = piece place (fed started (bare file 0 place)) (notedAll nothing (bare file place to))
 
 -- in a command that begins at `place`, before the byte at i; the command before it stands from `from` up to `at`
-abbrev pub along : List ℕ → Stage → ℕ → ℕ → ℕ → ℕ → Intake
-along file stage from at place i = intake stage i (fed started (bare file 0 i)) (part file place i) (part file from at)
+abbrev pub along : Book → List ℕ → Stage → ℕ → ℕ → ℕ → ℕ → Intake
+along book file stage from at place i = intake book stage i (fed started (bare file 0 i)) (part file place i) (part file from at)
 
 -- between commands, before the byte at i; the last one stands from `from` up to `at`, and q is what is kept of the one before
-abbrev pub between : List ℕ → ℕ → ℕ → ℕ → Piece → Intake
-between file from at i q = intake (Cut Between) i (fed started (bare file 0 i)) (part file from at) q
+abbrev pub between : Book → List ℕ → ℕ → ℕ → ℕ → Piece → Intake
+between book file from at i q = intake book (Cut Between) i (fed started (bare file 0 i)) (part file from at) q
 
-module _ (file : List ℕ) (short : length file < 2 ^ 64) (from at i : ℕ) (inside : i < length file) where
+module _ (book : Book) (file : List ℕ) (short : length file < 2 ^ 64) (from at i : ℕ) (inside : i < length file) where
   abbrev b : ℕ
   b = getD file i 0
 
@@ -77,20 +77,20 @@ module _ (file : List ℕ) (short : length file < 2 ^ 64) (from at i : ℕ) (ins
 
   -- a byte with which no command begins
   pub goes : (stage : Stage) (place : ℕ) → place ≤ i → begins stage b ≡ false →
-      pushed (along file stage from at place i) b ≡ along file (stageAfter stage b i (isEnd (bare file place (i + 1)))) from at place (i + 1)
+      pushed (along book file stage from at place i) b ≡ along book file (stageAfter book stage b i (isEnd (bare file place (i + 1)))) from at place (i + 1)
   unfolding pushed
   goes stage place h e = rw (e, grows place h, digested, counted, end-held (bare file place (i + 1)))
 
   -- the first byte of a command
   pub starts : (q : Piece) → isBreak b ≡ false →
-      pushed (between file from at i q) b ≡ along file (settled (step Old Between b i) (isEnd (bare file i (i + 1)))) from at i (i + 1)
+      pushed (between book file from at i q) b ≡ along book file (settled (step book Between b i) (isEnd (bare file i (i + 1)))) from at i (i + 1)
   unfolding pushed begins opens stageAfter notedAll
   starts q e =
       let new : grown (piece i (fed started (bare file 0 i)) nothing) (b ∷ []) ≡ part file i (i + 1) = rw (bare-none file i) at (grows i (omega arith)) in
       rw (e, new, digested, counted, end-held (bare file i (i + 1)))
 
   -- CR or LF between commands
-  pub skips : (q : Piece) → isBreak b ≡ true → pushed (between file from at i q) b ≡ between file from at (i + 1) q
+  pub skips : (q : Piece) → isBreak b ≡ true → pushed (between book file from at i q) b ≡ between book file from at (i + 1) q
   unfolding pushed begins opens stageAfter step settled grown unbroken notedAll
   skips q e =
       let none : unbroken (b ∷ []) ≡ [] = rw (unbroken, e) in

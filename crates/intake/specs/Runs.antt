@@ -2,6 +2,7 @@
 use Prim.Native.Nat.{ℕ, _+_, _%_, _^_}
 use mathlib.Core.Bool.{Bool, cond}
 use mathlib.Core.List.{List, [], _∷_}
+use Rattle.book.specs.declared.Book.{Book}
 use Rattle.digest.specs.declared.State.{State}
 use Rattle.digest.specs.Runs.{started, fed, finished}
 use Rattle.digest.specs.Text.{unbroken}
@@ -22,12 +23,12 @@ use Rattle.intake.specs.Stages.{stageAfter, begins, stopped}
 abbrev pub piece : ℕ → State → Held → Piece
 piece place before text = record { place = place; before = before; text = text }
 
--- how far the file is cut; its length so far, modulo 2 ^ 64, and its digest; the command at hand, or the last one; the one before that
-abbrev pub intake : Stage → ℕ → State → Piece → Piece → Intake
-intake stage at digest this last = record { stage = stage; at = at; digest = digest; this = this; last = last }
+-- the book; how far the file is cut; its length so far, modulo 2 ^ 64, and its digest; the command at hand, or the last one; the one before that
+abbrev pub intake : Book → Stage → ℕ → State → Piece → Piece → Intake
+intake book stage at digest this last = record { book = book; stage = stage; at = at; digest = digest; this = this; last = last }
 
-unfoldable pub empty : Intake
-empty = intake (Cut Between) 0 started (piece 0 started nothing) (piece 0 started nothing)
+unfoldable pub empty : Book → Intake
+empty book = intake book (Cut Between) 0 started (piece 0 started nothing) (piece 0 started nothing)
 
 -- a run more of a command
 unfoldable pub grown : Piece → List ℕ → Piece
@@ -39,7 +40,8 @@ pushed s b =
     let new : Bool = begins (s .stage) b in
     let this : Piece = grown (cond new (piece (s .at) (s .digest) nothing) (s .this)) (b ∷ []) in
     intake
-    (stageAfter (s .stage) b (s .at) (isEnd (textOf (this .text))))
+    (s .book)
+    (stageAfter (s .book) (s .stage) b (s .at) (isEnd (textOf (this .text))))
     ((s .at + 1) % 2 ^ 64)
     (fed (s .digest) (unbroken (b ∷ [])))
     this

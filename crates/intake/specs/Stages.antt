@@ -5,7 +5,7 @@ use Rattle.base.specs.Breaks.{isBreak}
 use Rattle.scan.specs.Permitted.{printable}
 use Rattle.scan.specs.Scan.{numberOf, placeOf}
 use Rattle.scan.specs.Ways.{step}
-use Rattle.scan.specs.declared.Letters.the-variants.{Old}
+use Rattle.book.specs.declared.Book.{Book}
 use Rattle.scan.specs.declared.Scan.{Scan}
 use Rattle.scan.specs.declared.Way.{Way}
 use Rattle.scan.specs.declared.Way.the-variants.{Between, Inside, Complete, Bad}
@@ -26,10 +26,10 @@ settled (Complete kind) end = cond end Over (Cut Between)
 settled (Bad place) end = Cut (Bad place)
 
 -- a byte more, at `at`; `end` says whether the command at hand is M02 with it
-unfoldable pub stageAfter : Stage → ℕ → ℕ → Bool → Stage
-stageAfter (Cut way) b at end = settled (step Old way b at) end
-stageAfter Over b at end = over b at
-stageAfter Past b at end = Past
+unfoldable pub stageAfter : Book → Stage → ℕ → ℕ → Bool → Stage
+stageAfter book (Cut way) b at end = settled (step book way b at) end
+stageAfter book Over b at end = over b at
+stageAfter book Past b at end = Past
 
 -- a command begins with this byte
 unfoldable pub opens : Way → ℕ → Bool

@@ -1,6 +1,6 @@
 // The signature of a file that comes in runs of any length, such as blocks of standard input: the file is not held.
+use book::Book;
 use digest::State;
-use scan::Letters;
 use scan::Scan;
 use scan::Way;
 use signature::Answer;
@@ -29,8 +29,9 @@ pub struct Piece {
     text: Held,
 }
 
-// What is kept between two runs: the stage, the length and the digest so far, the last command begun, and the one before it.
+// What is kept between two runs: the book, the stage, the length and the digest so far, the last command begun, and the one before it.
 pub struct Intake {
+    book: Book,
     stage: Stage,
     at: usize,
     digest: State,
@@ -69,11 +70,11 @@ fn settle(way: Way, end: bool) -> Stage
 }
 
 // A byte more, with which the command at hand is M02 or not.
-fn stage_after(stage: Stage, b: u8, at: usize, end: bool) -> Stage
-    ensures { λ r. ⌜ r ≡ stageAfter stage b at end ⌝ }
+fn stage_after(book: Book, stage: Stage, b: u8, at: usize, end: bool) -> Stage
+    ensures { λ r. ⌜ r ≡ stageAfter book stage b at end ⌝ }
 {
     match stage {
-        Stage::Cut(way) => settle(scan::way_after(Letters::Old, way, b, at), end),
+        Stage::Cut(way) => settle(scan::way_after(book, way, b, at), end),
         Stage::Over => stage_over(b, at),
         Stage::Past => Stage::Past,
     }
@@ -138,14 +139,15 @@ fn fresh(place: usize, before: State) -> Piece
     }
 }
 
-// No byte yet.
-pub fn start() -> Intake
-    ensures { λ r. ⌜ r ≡ empty ⌝ }
+// No byte yet, of a file that is read by a book.
+pub fn start(book: Book) -> Intake
+    ensures { λ r. ⌜ r ≡ empty book ⌝ }
 {
     let digest = digest::start();
     let none = fresh(0, digest);
     let stage = Stage::Cut(Way::Between);
     Intake {
+        book: book,
         stage: stage,
         at: 0,
         digest: digest,
@@ -158,6 +160,7 @@ pub fn start() -> Intake
 fn push(s: Intake, b: u8) -> Intake
     ensures { λ r. ⌜ r ≡ pushed s b ⌝ }
 {
+    let book = s.book;
     let stage = s.stage;
     let before = s.digest;
     let old = s.this;
@@ -166,10 +169,11 @@ fn push(s: Intake, b: u8) -> Intake
     let new = does_begin(stage, b);
     let this = grow(pick(new, fresh(s.at, before), old), &run);
     let text = this.text;
-    let next = stage_after(stage, b, s.at, signature::holds_end(text));
+    let next = stage_after(book, stage, b, s.at, signature::holds_end(text));
     let digest = digest::feed_text(before, &run);
     let last = pick(new, old, older);
     Intake {
+        book: book,
         stage: next,
         at: wrapping_add_usize(s.at, 1),
         digest: digest,

@@ -71,7 +71,7 @@ fn is_more() -> bool {
     io::read_full(STDIN_FILENO, &mut block) > 0
 }
 
-// Reads and lists a file, in the room of decision 266.
+// Reads and lists a file by the old rule of letters, in the room of decision 266.
 fn read(file: &[u8]) {
     let mut head = [0u64; 8];
     let mut entries = [0u64; 245760];
@@ -79,6 +79,7 @@ fn read(file: &[u8]) {
     let mut macros = [0u64; 65536];
     let mut numbers = [0i64; 131072];
     let a = reader::read(
+        book::ascii(),
         file,
         &mut head,
         &mut entries,

@@ -10,6 +10,7 @@ use Rattle.base.specs.Bytes.{sameBytes}
 use Rattle.text.specs.First.{firstIn}
 use Rattle.text.specs.Name.{letter, nameStart, nameByte, nameBytes, isName}
 use Rattle.text.specs.Text.{text, among}
+use Rattle.book.specs.Books.{ascii}
 use Rattle.scan.specs.Permitted.{printable, breaksAfter, mayBreak, permitted, letterHere, badIn}
 use Rattle.scan.specs.Scan.{kindOf, textFrom, endOf, cutBy, commandIn, nextCommand}
 use Rattle.scan.specs.Fields.{inField}
@@ -31,6 +32,6 @@ files =
     ∷ ("%TFa*%\0%TFa*%", 13)
     ∷ []
 
-files-looked : map (λ row. twiceAt (text (row .0))) files ≡ map (λ row. row .1) files
+files-looked : map (λ row. twiceAt ascii (text (row .0))) files ≡ map (λ row. row .1) files
 unfolding twiceAt twiceFrom namedFrom lookAt looked seen setsOf setsBy isAmong nextCommand commandIn cutBy inField letterHere kindOf textFrom endOf badIn permitted printable mayBreak breaksAfter commandOf wordOf codeOf extendedOf dataOf oneBlock attributeOf valueOf isName nameStart nameByte nameBytes letter pick firstIn among sameBytes _and_ _or_
 files-looked = refl

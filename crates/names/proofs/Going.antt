@@ -10,6 +10,7 @@ use lib.Dec.{ltb}
 use lib.ListN.{length}
 use lib.Seq.{slice}
 use borrow.Author.Tests.{ltb-true, ltb-false}
+use Rattle.book.specs.declared.Book.{Book}
 use Rattle.index.specs.declared.Search.{Search}
 use Rattle.index.specs.declared.Search.the-variants.{At, Free}
 use Rattle.index.specs.Names.{named}
@@ -27,21 +28,21 @@ use Rattle.names.proofs.Parted.{twice-from, in-parts}
 use Rattle.names.proofs.Held.{Held, held-start, held-again, held-new, held-more}
 
 -- what is left to find: all names are kept so far; or there was no room for those from `rest` on
-pub data Left (file : List ℕ) (room used from at rest : ℕ) (names : List (List ℕ)) : Type 0 where
-  all : rest ≡ length file → twiceIn file at names ≡ twiceIn file from [] → Left file room used from at rest names
-  some : room ≤ used → from + used ≤ rest → rest ≤ at → min (firstIn file at names) (twiceIn file rest []) ≡ twiceIn file from [] → Left file room used from at rest names
+pub data Left (book : Book) (file : List ℕ) (room used from at rest : ℕ) (names : List (List ℕ)) : Type 0 where
+  all : rest ≡ length file → twiceIn book file at names ≡ twiceIn book file from [] → Left book file room used from at rest names
+  some : room ≤ used → from + used ≤ rest → rest ≤ at → min (firstIn book file at names) (twiceIn book file rest []) ≡ twiceIn book file from [] → Left book file room used from at rest names
 
-pub record Going (file s : List ℕ) (used from at rest : ℕ) : Type 0 where
+pub record Going (book : Book) (file s : List ℕ) (used from at rest : ℕ) : Type 0 where
   pub names : List (List ℕ)
   pub starts : from < length file
   pub room : 8 ≤ length s
   pub onward : from + used ≤ at
   pub inside : at ≤ length file
-  pub left : Left file (length s / 8) used from at rest names
+  pub left : Left book file (length s / 8) used from at rest names
   pub held : Held file s used names
 
-pub going-start : (file s : List ℕ) (from : ℕ) → from < length file → 8 ≤ length s → Going file s 0 from from (length file)
-going-start file s from h k = record {
+pub going-start : (book : Book) (file s : List ℕ) (from : ℕ) → from < length file → 8 ≤ length s → Going book file s 0 from from (length file)
+going-start book file s from h k = record {
   names = [];
   starts = h;
   room = k;
@@ -70,53 +71,53 @@ kept-long file s used from to = go (named file s used (slice from to file))
     go (Free link) = long s used link (macroWords (nameAt from to)) (eight from to) (ltb used (length s / 8)) refl
 
 -- what follows from how the name of the TF at a place is noted, the next command standing from `next` on
-abbrev pub Follows : List ℕ → ℕ → ℕ → ℕ → ℕ → ℕ → ℕ → List ℕ → Noted → Type 0
-Follows file used from at rest place next s Again = Passed file from (record { found = place; rest = rest })
-Follows file used from at rest place next s (New more) = Going file s more from next rest
-Follows file used from at rest place next s Full = Going file s used from next (min rest at)
+abbrev pub Follows : Book → List ℕ → ℕ → ℕ → ℕ → ℕ → ℕ → ℕ → List ℕ → Noted → Type 0
+Follows book file used from at rest place next s Again = Passed book file from (record { found = place; rest = rest })
+Follows book file used from at rest place next s (New more) = Going book file s more from next rest
+Follows book file used from at rest place next s Full = Going book file s used from next (min rest at)
 
-module _ (file s : List ℕ) (used from at rest : ℕ) (g : Going file s used from at rest) where
+module _ (book : Book) (file s : List ℕ) (used from at rest : ℕ) (g : Going book file s used from at rest) where
   -- a TF was found, or the end: the first of those kept
-  passed : (found : ℕ) → firstIn file at (g .names) ≡ found → (twiceIn file at (g .names) ≡ found) → found ≤ length file → Passed file from (record { found = found; rest = rest })
+  passed : (found : ℕ) → firstIn book file at (g .names) ≡ found → (twiceIn book file at (g .names) ≡ found) → found ≤ length file → Passed book file from (record { found = found; rest = rest })
   passed found f t h = go (g .left)
     where
-      go : Left file (length s / 8) used from at rest (g .names) → Passed file from (record { found = found; rest = rest })
-      go (all r q) = record { onward = rw r (g .starts); inside = omega arith; least = let p = twice-from file rest [] (omega arith) in omega (arith, g .starts) }
+      go : Left book file (length s / 8) used from at rest (g .names) → Passed book file from (record { found = found; rest = rest })
+      go (all r q) = record { onward = rw r (g .starts); inside = omega arith; least = let p = twice-from book file rest [] (omega arith) in omega (arith, g .starts) }
       go (some r o i q) = record { onward = omega (arith, g .room); inside = omega (arith, g .inside); least = rw f at q }
 
-  pub going-end : lookAt file at ≡ End → Passed file from (record { found = length file; rest = rest })
-  going-end e = passed (length file) (first-end file at (g .names) e) (twice-end file at (g .names) e) (omega arith)
+  pub going-end : lookAt book file at ≡ End → Passed book file from (record { found = length file; rest = rest })
+  going-end e = passed (length file) (first-end book file at (g .names) e) (twice-end book file at (g .names) e) (omega arith)
 
-  pub going-other : {next : ℕ} → lookAt file at ≡ Other next → Going file s used from next rest
+  pub going-other : {next : ℕ} → lookAt book file at ≡ Other next → Going book file s used from next rest
   going-other {next} e = record {
     names = g .names;
     starts = g .starts;
     room = g .room;
-    onward = let o = other-onward file at (g .inside) e in omega (arith, o .0, g .onward);
-    inside = other-onward file at (g .inside) e .1;
+    onward = let o = other-onward book file at (g .inside) e in omega (arith, o .0, g .onward);
+    inside = other-onward book file at (g .inside) e .1;
     left = go (g .left);
     held = g .held;
   }
     where
-      go : Left file (length s / 8) used from at rest (g .names) → Left file (length s / 8) used from next rest (g .names)
-      go (all r q) = all r (sym (twice-other file at (g .names) (g .inside) e) ∙ q)
-      go (some r o i q) = some r o (let p = other-onward file at (g .inside) e in omega (arith, p .0)) (rw (first-other file at (g .names) (g .inside) e) at q)
+      go : Left book file (length s / 8) used from at rest (g .names) → Left book file (length s / 8) used from next rest (g .names)
+      go (all r q) = all r (sym (twice-other book file at (g .names) (g .inside) e) ∙ q)
+      go (some r o i q) = some r o (let p = other-onward book file at (g .inside) e in omega (arith, p .0)) (rw (first-other book file at (g .names) (g .inside) e) at q)
 
-  module _ {place begins to next : ℕ} (e : lookAt file at ≡ Naming place begins to next) where
+  module _ {place begins to next : ℕ} (e : lookAt book file at ≡ Naming place begins to next) where
     abbrev name : List ℕ
     name = slice begins to file
 
     -- one of those kept
-    again : isAmong name (g .names) ≡ true → Passed file from (record { found = place; rest = rest })
+    again : isAmong name (g .names) ≡ true → Passed book file from (record { found = place; rest = rest })
     again a =
-        let o = naming-onward file at (g .inside) e in
-        passed place (first-here file at (g .names) (g .inside) e a) (twice-again file at (g .names) (g .inside) e a) (omega (arith, o .1, o .2))
+        let o = naming-onward book file at (g .inside) e in
+        passed place (first-here book file at (g .names) (g .inside) e a) (twice-again book file at (g .names) (g .inside) e a) (omega (arith, o .1, o .2))
 
     -- new, and there is room
     kept : (s′ : List ℕ) → length s′ ≡ length s → used < length s / 8 → isAmong name (g .names) ≡ false → Held file s′ (suc used) (name ∷ g .names) →
-        Going file s′ (suc used) from next rest
+        Going book file s′ (suc used) from next rest
     kept s′ l r a held =
-        let o = naming-onward file at (g .inside) e in
+        let o = naming-onward book file at (g .inside) e in
         record {
           names = name ∷ g .names;
           starts = g .starts;
@@ -127,14 +128,14 @@ module _ (file s : List ℕ) (used from at rest : ℕ) (g : Going file s used fr
           held = held;
         }
       where
-        go : Left file (length s / 8) used from at rest (g .names) → Left file (length s′ / 8) (suc used) from next rest (name ∷ g .names)
-        go (all r q) = all r (sym (twice-new file at (g .names) (g .inside) e a) ∙ q)
+        go : Left book file (length s / 8) used from at rest (g .names) → Left book file (length s′ / 8) (suc used) from next rest (name ∷ g .names)
+        go (all r q) = all r (sym (twice-new book file at (g .names) (g .inside) e a) ∙ q)
         go (some full o i q) = absurd (omega arith)
 
     -- new, and there is none
-    without-room : length s / 8 ≤ used → isAmong name (g .names) ≡ false → Going file s used from next (min rest at)
+    without-room : length s / 8 ≤ used → isAmong name (g .names) ≡ false → Going book file s used from next (min rest at)
     without-room full a =
-        let o = naming-onward file at (g .inside) e in
+        let o = naming-onward book file at (g .inside) e in
         record {
           names = g .names;
           starts = g .starts;
@@ -145,32 +146,32 @@ module _ (file s : List ℕ) (used from at rest : ℕ) (g : Going file s used fr
           held = g .held;
         }
       where
-        at-rest : (r : ℕ) → r ≡ min rest at → from + used ≤ r → r ≤ at → min (firstIn file at (g .names)) (twiceIn file r []) ≡ twiceIn file from [] →
-            Left file (length s / 8) used from next (min rest at) (g .names)
+        at-rest : (r : ℕ) → r ≡ min rest at → from + used ≤ r → r ≤ at → min (firstIn book file at (g .names)) (twiceIn book file r []) ≡ twiceIn book file from [] →
+            Left book file (length s / 8) used from next (min rest at) (g .names)
         at-rest r k o i q =
-            let p = naming-onward file at (g .inside) e in
-            some full (omega arith) (omega (arith, p .0, p .1)) (rw (← k) (rw (first-on file at (g .names) (g .inside) e a) at q))
+            let p = naming-onward book file at (g .inside) e in
+            some full (omega arith) (omega (arith, p .0, p .1)) (rw (← k) (rw (first-on book file at (g .names) (g .inside) e a) at q))
 
-        go : Left file (length s / 8) used from at rest (g .names) → Left file (length s / 8) used from next (min rest at) (g .names)
-        go (all r q) = at-rest at (omega (arith, g .inside)) (g .onward) (omega arith) (sym (in-parts file at (g .names) (g .inside)) ∙ q)
+        go : Left book file (length s / 8) used from at rest (g .names) → Left book file (length s / 8) used from next (min rest at) (g .names)
+        go (all r q) = at-rest at (omega (arith, g .inside)) (g .onward) (omega arith) (sym (in-parts book file at (g .names) (g .inside)) ∙ q)
         go (some _ o i q) = at-rest rest (omega arith) o i q
 
     not-found : (link : ℕ) → named file s used name ≡ Free link → (t : Bool) → ltb used (length s / 8) ≡ t
-        → Follows file used from at rest place next (added s used link (macroWords (nameAt begins to))) (noted s used (Free link))
+        → Follows book file used from at rest place next (added s used link (macroWords (nameAt begins to))) (noted s used (Free link))
     unfolding noted hasRoom added
     not-found link f true r =
         let room = ltb-true used (length s / 8) r in
         rw (r, add-one) (kept _ (rw (r, added) at (long s used link (macroWords (nameAt begins to)) (eight begins to) true r)) room (held-new file s used (g .names) (g .held) name link f) (rw (r, added) at (held-more file s used (g .names) (g .held) begins to link room f)))
     not-found link f false r = rw r (without-room (ltb-false used (length s / 8) r) (held-new file s used (g .names) (g .held) name link f))
 
-    follows : (x : Search) → named file s used name ≡ x → Follows file used from at rest place next (keptAt s used begins to x) (noted s used x)
+    follows : (x : Search) → named file s used name ≡ x → Follows book file used from at rest place next (keptAt s used begins to x) (noted s used x)
     unfolding keptAt noted
     follows (At i) f = again (held-again file s used (g .names) (g .held) name i f)
     follows (Free link) f = not-found link f (ltb used (length s / 8)) refl
 
-    going-kept : Follows file used from at rest place next (keptOf file s used begins to) (notedOf file s used begins to)
+    going-kept : Follows book file used from at rest place next (keptOf file s used begins to) (notedOf file s used begins to)
     unfolding keptOf notedOf
     going-kept = follows (named file s used name) refl
 
-    pub going-naming : {s′ : List ℕ} {n : Noted} → n ≡ notedOf file s used begins to → s′ ≡ keptOf file s used begins to → Follows file used from at rest place next s′ n
+    pub going-naming : {s′ : List ℕ} {n : Noted} → n ≡ notedOf file s used begins to → s′ ≡ keptOf file s used begins to → Follows book file used from at rest place next s′ n
     going-naming q p = rw (q, p) going-kept

@@ -11,7 +11,7 @@ use lib.ListN.{length}
 use lib.Seq.{slice, length-slice}
 use Rattle.base.proofs.Lists.{part-of-part}
 use Rattle.scan.specs.Scan.{nextCommand}
-use Rattle.scan.specs.declared.Letters.the-variants.{Old}
+use Rattle.book.specs.declared.Book.{Book}
 use Rattle.scan.specs.declared.Scan.{Scan}
 use Rattle.scan.specs.declared.Scan.the-variants as scan
 use Rattle.scan.proofs.Within.{Within, next-within}
@@ -34,12 +34,12 @@ use Rattle.names.proofs.Inside.{Inside, sets-inside}
 use Rattle.names.proofs.Known.{Known, known-other, known-naming, by-walk, by-look}
 
 -- the look sees what the turn does, and a name lies in the command's text
-pub record Same (file : List ℕ) (at next : ℕ) (c : Placed) : Type 0 where
-  pub look : lookAt file at ≡ seen (c .place) (c .from) next (setsOf (c .command))
+pub record Same (book : Book) (file : List ℕ) (at next : ℕ) (c : Placed) : Type 0 where
+  pub look : lookAt book file at ≡ seen (c .place) (c .from) next (setsOf (c .command))
   pub ordered : c .from ≤ c .end
   pub inside : Inside (c .end - c .from) (setsOf (c .command))
 
-module _ (n : ℕ) (file : List ℕ) (at : ℕ) where
+module _ (book : Book) (n : ℕ) (file : List ℕ) (at : ℕ) where
   more-command : (n : ℕ) (c d : Placed) (way : Lead) (m next to : ℕ) → led n c way to ≡ turn.More d m next → (c ≡ d) × (to ≡ next)
   unfolding led
   more-command n c d lead.Broken m next to e = let z : _≡_ {A = ℕ} 0 1 = cc in absurd (omega arith)
@@ -47,14 +47,14 @@ module _ (n : ℕ) (file : List ℕ) (at : ℕ) where
   more-command n c d (lead.Format k) m next to e = (cc, cc)
   more-command n c d lead.Plain m next to e = (cc, cc)
 
-  same-scan : (c : Placed) (m next : ℕ) (s : Scan) → nextCommand Old file at ≡ s → Within (length file) at s → turned n file s ≡ turn.More c m next → Same file at next c
+  same-scan : (c : Placed) (m next : ℕ) (s : Scan) → nextCommand book file at ≡ s → Within (length file) at s → turned n file s ≡ turn.More c m next → Same book file at next c
   unfolding turned lookAt looked
   same-scan c m next (scan.Command k place from end to) f (h, i, j, q, l) e =
       let t : List ℕ = slice from end file in
       let d : Placed = record { place = place; from = from; end = end; command = commandOf n k t } in
       let p = more-command n d c (leadOf (commandOf n k t)) m next to e in
       let long : length t ≡ end - from = length-slice from end file (omega arith) in
-      let here : Same file at to d = record {
+      let here : Same book file at to d = record {
         look = ap (looked file) f ∙ ap (seen place from to) (sym (sets-any n k t));
         ordered = j;
         inside = rw long at (sets-inside t (commandOf n k t) (bounded n k t));
@@ -63,23 +63,23 @@ module _ (n : ℕ) (file : List ℕ) (at : ℕ) where
   same-scan c m next (scan.BadByte place) f w e = let z : _≡_ {A = ℕ} 0 1 = cc in absurd (omega arith)
   same-scan c m next (scan.Ended place) f w e = let z : _≡_ {A = ℕ} 0 1 = cc in absurd (omega arith)
 
-  module _ {c : Placed} {m next : ℕ} (h : at ≤ length file) (e : turnOf n file at ≡ turn.More c m next) where
-    same : Same file at next c
+  module _ {c : Placed} {m next : ℕ} (h : at ≤ length file) (e : turnOf book n file at ≡ turn.More c m next) where
+    same : Same book file at next c
     unfolding turnOf
-    same = same-scan c m next (nextCommand Old file at) refl (next-within Old file at h) e
+    same = same-scan c m next (nextCommand book file at) refl (next-within book file at h) e
 
-    module _ (names : List (List ℕ)) (k : Known file at names) where
+    module _ (names : List (List ℕ)) (k : Known book file at names) where
       -- a command that sets no name
-      pub known-past : setsOf (c .command) ≡ Nothing → Known file next names
+      pub known-past : setsOf (c .command) ≡ Nothing → Known book file next names
       unfolding seen
-      known-past q = known-other file at names h k (rw q at (same .look))
+      known-past q = known-other book file at names h k (rw q at (same .look))
 
       -- one that sets this name
       module _ {name : Span} (q : setsOf (c .command) ≡ Name name) where
         abbrev part : List ℕ
         part = slice (name .from) (name .to) (slice (c .from) (c .end) file)
 
-        look : lookAt file at ≡ Naming (c .place) (c .from + name .from) (c .from + name .to) next
+        look : lookAt book file at ≡ Naming (c .place) (c .from + name .from) (c .from + name .to) next
         unfolding seen
         look = rw q at (same .look)
 
@@ -88,11 +88,11 @@ module _ (n : ℕ) (file : List ℕ) (at : ℕ) where
             let i : Inside (c .end - c .from) (Name name) = rw q at (same .inside) in
             sym (part-of-part (name .from) (name .to) (c .from) (c .end) file (omega (arith, i .1, same .ordered)))
 
-        pub known-set : isAmong part names ≡ false → Known file next (part ∷ names)
-        known-set a = rw here-is at (known-naming file at names h k look (rw here-is a))
+        pub known-set : isAmong part names ≡ false → Known book file next (part ∷ names)
+        known-set a = rw here-is at (known-naming book file at names h k look (rw here-is a))
 
-        pub by-first : eqb (firstAt file part) (c .place) ≡ not (isAmong part names)
-        by-first = rw here-is at (by-walk file at names h k look)
+        pub by-first : eqb (firstAt book file part) (c .place) ≡ not (isAmong part names)
+        by-first = rw here-is at (by-walk book file at names h k look)
 
-        pub by-twice : eqb (c .place) (twiceAt file) ≡ isAmong part names
-        by-twice = rw here-is at (by-look file at names h k look)
+        pub by-twice : eqb (c .place) (twiceAt book file) ≡ isAmong part names
+        by-twice = rw here-is at (by-look book file at names h k look)

@@ -7,6 +7,7 @@ use mathlib.Core.Bool.{Bool, true, false}
 use mathlib.Core.List.{List, [], _∷_, _++_}
 use native.Mathlib.Omega.{arith}
 use lib.ListN.{length}
+use Rattle.book.specs.declared.Book.{Book}
 use Rattle.base.specs.Or.{_or_}
 use Rattle.base.specs.Bytes.{sameBytes}
 use Rattle.reading.specs.Apertures.{isAmong}
@@ -24,16 +25,16 @@ sooner : (from to none : ℕ) (ns : List Named) → from ≤ to → Ordered to n
 sooner from to none [] h o = omega arith
 sooner from to none (n ∷ ns) h (o, os) = (omega arith, os)
 
-ordered : (file : List ℕ) (k at : ℕ) → at ≤ length file → Ordered at (length file) (namedFrom k file at)
+ordered : (book : Book) (file : List ℕ) (k at : ℕ) → at ≤ length file → Ordered at (length file) (namedFrom book k file at)
 unfolding namedFrom
-ordered file zero at h = h
-ordered file (suc k) at h = go (ordered file k) (lookAt file at) refl (look-onward file at h)
+ordered book file zero at h = h
+ordered book file (suc k) at h = go (ordered book file k) (lookAt book file at) refl (look-onward book file at h)
   where
-    go : ((next : ℕ) → next ≤ length file → Ordered next (length file) (namedFrom k file next)) →
-        (l : Look) → lookAt file at ≡ l → Onward (length file) at l → Ordered at (length file) (namedFrom (suc k) file at)
+    go : ((next : ℕ) → next ≤ length file → Ordered next (length file) (namedFrom book k file next)) →
+        (l : Look) → lookAt book file at ≡ l → Onward (length file) at l → Ordered at (length file) (namedFrom book (suc k) file at)
     go ih End e o = rw (e, namedFrom) h
-    go ih (Other next) e (a, b) = rw (e, namedFrom) (sooner at next (length file) (namedFrom k file next) (omega arith) (ih next b))
-    go ih (Naming place from to next) e (a, b, c, d, f) = rw (e, namedFrom) (a, sooner place next (length file) (namedFrom k file next) (omega arith) (ih next c))
+    go ih (Other next) e (a, b) = rw (e, namedFrom) (sooner at next (length file) (namedFrom book k file next) (omega arith) (ih next b))
+    go ih (Naming place from to next) e (a, b, c, d, f) = rw (e, namedFrom) (a, sooner place next (length file) (namedFrom book k file next) (omega arith) (ih next c))
 
 -- none is found before that place
 module _ (none : ℕ) where
@@ -85,13 +86,13 @@ module _ (none : ℕ) where
   first-none [] = refl
   first-none (n ∷ ns) = first-none ns
 
-module _ (file : List ℕ) (at : ℕ) (names : List (List ℕ)) (h : at ≤ length file) where
-  pub twice-from : at ≤ twiceIn file at names
-  twice-from = twice-least (length file) at _ names (ordered file (suc (length file)) at h)
+module _ (book : Book) (file : List ℕ) (at : ℕ) (names : List (List ℕ)) (h : at ≤ length file) where
+  pub twice-from : at ≤ twiceIn book file at names
+  twice-from = twice-least (length file) at _ names (ordered book file (suc (length file)) at h)
 
-  pub in-parts : twiceIn file at names ≡ min (firstIn file at names) (twiceIn file at [])
-  in-parts = parts (length file) at _ [] names (ordered file (suc (length file)) at h)
+  pub in-parts : twiceIn book file at names ≡ min (firstIn book file at names) (twiceIn book file at [])
+  in-parts = parts (length file) at _ [] names (ordered book file (suc (length file)) at h)
 
 -- a place in the file, or its length
-pub twice-inside : (file : List ℕ) (at : ℕ) → at ≤ length file → min (length file) (twiceIn file at []) ≡ twiceIn file at []
-twice-inside file at h = sym (in-parts file at [] h ∙ ap (λ (k : ℕ). min k (twiceIn file at [])) (first-none (length file) _))
+pub twice-inside : (book : Book) (file : List ℕ) (at : ℕ) → at ≤ length file → min (length file) (twiceIn book file at []) ≡ twiceIn book file at []
+twice-inside book file at h = sym (in-parts book file at [] h ∙ ap (λ (k : ℕ). min k (twiceIn book file at [])) (first-none (length file) _))

@@ -5,6 +5,7 @@ use mathlib.Core.Bool.{cond}
 use mathlib.Core.List.{List, []}
 use lib.ListN.{length}
 use lib.Seq.{slice}
+use Rattle.book.specs.declared.Book.{Book}
 use Rattle.index.specs.Names.{named}
 use Rattle.index.specs.declared.Search.{Search}
 use Rattle.index.specs.declared.Search.the-variants.{At, Free}
@@ -38,7 +39,7 @@ keptOf file s used from to = keptAt s used from to (named file s used (slice fro
 
 -- a walk from `from` on: the first repeat is either the TF that was found, which sets one of the names that were kept, or one from `rest`
 -- on, where the first name stands that there was no room for
-pub record Passed (file : List ℕ) (from : ℕ) (p : Pass) : Type 0 where
+pub record Passed (book : Book) (file : List ℕ) (from : ℕ) (p : Pass) : Type 0 where
   pub onward : from < p .rest
   pub inside : p .rest ≤ length file
-  pub least : min (p .found) (twiceIn file (p .rest) []) ≡ twiceIn file from []
+  pub least : min (p .found) (twiceIn book file (p .rest) []) ≡ twiceIn book file from []

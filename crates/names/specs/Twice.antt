@@ -6,7 +6,7 @@ use mathlib.Core.List.{List, [], _∷_}
 use lib.ListN.{length}
 use lib.Seq.{slice}
 use Rattle.scan.specs.Scan.{nextCommand}
-use Rattle.scan.specs.declared.Letters.the-variants.{Old}
+use Rattle.book.specs.declared.Book.{Book}
 use Rattle.scan.specs.declared.Scan.{Scan}
 use Rattle.scan.specs.declared.Scan.the-variants as scan
 use Rattle.recognise.specs.Commands.{commandOf}
@@ -29,8 +29,8 @@ looked file (scan.BadByte place) = End
 looked file (scan.Ended place) = End
 
 -- what stands next from `at` on
-unfoldable pub lookAt : List ℕ → ℕ → Look
-lookAt file at = looked file (nextCommand Old file at)
+unfoldable pub lookAt : Book → List ℕ → ℕ → Look
+lookAt book file at = looked file (nextCommand book file at)
 
 -- a TF: its place, and the name that it sets
 pub record Named : Type 0 where
@@ -38,18 +38,18 @@ pub record Named : Type 0 where
   pub name : List ℕ
 
 -- every TF from `at` on, in at most k commands
-unfoldable pub namedFrom : ℕ → List ℕ → ℕ → List Named
-namedFrom zero file at = []
-namedFrom (suc k) file at =
-    elim (lookAt file at) [
+unfoldable pub namedFrom : Book → ℕ → List ℕ → ℕ → List Named
+namedFrom book zero file at = []
+namedFrom book (suc k) file at =
+    elim (lookAt book file at) [
       | End ↦ []
-      | Other next ↦ namedFrom k file next
-      | Naming place from to next ↦ record { place = place; name = slice from to file } ∷ namedFrom k file next
+      | Other next ↦ namedFrom book k file next
+      | Naming place from to next ↦ record { place = place; name = slice from to file } ∷ namedFrom book k file next
     ]
 
 -- each command takes a byte at least, and so a turn more than there are bytes is enough
-abbrev pub namedIn : List ℕ → ℕ → List Named
-namedIn file at = namedFrom (suc (length file)) file at
+abbrev pub namedIn : Book → List ℕ → ℕ → List Named
+namedIn book file at = namedFrom book (suc (length file)) file at
 
 -- the place of the first TF that sets a name set before, these names being set; where there is none, another place
 unfoldable pub twiceFrom : ℕ → List Named → List (List ℕ) → ℕ
@@ -58,20 +58,20 @@ twiceFrom none (n ∷ ns) names =
     elim (isAmong (n .name) names) [ true ↦ n .place | false ↦ twiceFrom none ns (n .name ∷ names) ]
 
 -- from `at` on; the length of the file where there is none
-abbrev pub twiceIn : List ℕ → ℕ → List (List ℕ) → ℕ
-twiceIn file at names = twiceFrom (length file) (namedIn file at) names
+abbrev pub twiceIn : Book → List ℕ → ℕ → List (List ℕ) → ℕ
+twiceIn book file at names = twiceFrom (length file) (namedIn book file at) names
 
-unfoldable pub twiceAt : List ℕ → ℕ
-twiceAt file = twiceIn file 0 []
+unfoldable pub twiceAt : Book → List ℕ → ℕ
+twiceAt book file = twiceIn book file 0 []
 
 -- the place of the first TF that sets one of these names
 unfoldable pub firstFrom : ℕ → List Named → List (List ℕ) → ℕ
 firstFrom none [] names = none
 firstFrom none (n ∷ ns) names = elim (isAmong (n .name) names) [ true ↦ n .place | false ↦ firstFrom none ns names ]
 
-abbrev pub firstIn : List ℕ → ℕ → List (List ℕ) → ℕ
-firstIn file at names = firstFrom (length file) (namedIn file at) names
+abbrev pub firstIn : Book → List ℕ → ℕ → List (List ℕ) → ℕ
+firstIn book file at names = firstFrom (length file) (namedIn book file at) names
 
 -- that sets this name
-unfoldable pub firstAt : List ℕ → List ℕ → ℕ
-firstAt file name = firstIn file 0 (name ∷ [])
+unfoldable pub firstAt : Book → List ℕ → List ℕ → ℕ
+firstAt book file name = firstIn book file 0 (name ∷ [])

@@ -8,12 +8,12 @@ ghost use Rattle.recognise.specs.Commands.{commandOf};
 ghost use Rattle.names.specs.Sets.{setsBy, setsOf};
 ghost use Rattle.names.specs.Twice.{lookAt, firstAt, twiceAt};
 ghost use Rattle.names.specs.Kept.{notedOf, keptOf, Passed};
+use book::Book;
 use command::Command;
 use command::Deed;
 use command::Span;
 use index::Search;
 use scan::Kind;
-use scan::Letters;
 use scan::Scan;
 use tables::Macro;
 
@@ -97,12 +97,12 @@ fn sets_in(kind: Kind, s: &[u8]) -> Sets
     }
 }
 
-// What stands next from a place on.
-fn look_at(file: &[u8], at: usize) -> Look
+// What stands next from a place on, by a book.
+fn look_at(book: Book, file: &[u8], at: usize) -> Look
     requires { ⌜ at ≤ length (now file) ⌝ }
-    ensures { λ r. ⌜ r ≡ lookAt (now (file .entry)) at ⌝ }
+    ensures { λ r. ⌜ r ≡ lookAt book (now (file .entry)) at ⌝ }
 {
-    let s = scan::next_command(Letters::Old, file, at);
+    let s = scan::next_command(book, file, at);
     match s {
         Scan::Command {
             kind,
@@ -128,12 +128,12 @@ fn look_at(file: &[u8], at: usize) -> Look
 }
 
 // The place of the first TF that sets a name, found by a walk from the file's first byte on; the length of the file where none does.
-pub fn first_at(file: &[u8], name: &[u8]) -> usize
-    ensures { λ r. ⌜ r ≡ firstAt (now (file .entry)) (now (name .entry)) ⌝ }
+pub fn first_at(book: Book, file: &[u8], name: &[u8]) -> usize
+    ensures { λ r. ⌜ r ≡ firstAt book (now (file .entry)) (now (name .entry)) ⌝ }
 {
     let mut at: usize = 0;
     loop {
-        let l = look_at(file, at);
+        let l = look_at(book, file, at);
         match l {
             Look::End => {
                 return file.len();
@@ -185,15 +185,15 @@ fn nearer(a: usize, b: usize) -> usize
 }
 
 // A walk from a place on: keeps the names while there is room, and finds the first TF that sets one of those kept.
-fn walk_from(file: &[u8], s: &mut [u64], from: usize) -> Pass
+fn walk_from(book: Book, file: &[u8], s: &mut [u64], from: usize) -> Pass
     requires { ⌜ (from < length (now file)) × (8 ≤ length (now s)) ⌝ }
-    ensures { λ r. ⌜ Passed (now (file .entry)) from r × (length (now (s .exit)) ≡ length (now (s .entry))) ⌝ }
+    ensures { λ r. ⌜ Passed book (now (file .entry)) from r × (length (now (s .exit)) ≡ length (now (s .entry))) ⌝ }
 {
     let mut used: usize = 0;
     let mut at: usize = from;
     let mut rest: usize = file.len();
     loop {
-        let l = look_at(file, at);
+        let l = look_at(book, file, at);
         match l {
             Look::End => {
                 return Pass {
@@ -231,14 +231,14 @@ fn walk_from(file: &[u8], s: &mut [u64], from: usize) -> Pass
 
 // The place of the first TF whose name was set before, the length of the file where there is none: a walk for as many names as there is
 // room for.
-fn repeat_in(file: &[u8], s: &mut [u64]) -> usize
+fn repeat_in(book: Book, file: &[u8], s: &mut [u64]) -> usize
     requires { ⌜ 8 ≤ length (now s) ⌝ }
-    ensures { λ r. ⌜ (r ≡ twiceAt (now (file .entry))) × (length (now (s .exit)) ≡ length (now (s .entry))) ⌝ }
+    ensures { λ r. ⌜ (r ≡ twiceAt book (now (file .entry))) × (length (now (s .exit)) ≡ length (now (s .entry))) ⌝ }
 {
     let mut at: usize = 0;
     let mut found: usize = file.len();
     while at < found {
-        let p = walk_from(file, s, at);
+        let p = walk_from(book, file, s, at);
         found = nearer(found, p.found);
         at = p.rest;
     }
@@ -246,22 +246,22 @@ fn repeat_in(file: &[u8], s: &mut [u64]) -> usize
 }
 
 // The same over room of its own, for 4,096 names.
-fn own_repeat_in(file: &[u8]) -> usize
-    ensures { λ r. ⌜ r ≡ twiceAt (now (file .entry)) ⌝ }
+fn own_repeat_in(book: Book, file: &[u8]) -> usize
+    ensures { λ r. ⌜ r ≡ twiceAt book (now (file .entry)) ⌝ }
 {
     let mut own = [0u64; 32768];
-    repeat_in(file, &mut own)
+    repeat_in(book, file, &mut own)
 }
 
 // The same for those who lend room for the names, which holds zeros afterwards; where it is small, it is not used for the names.
-pub fn first_repeat(file: &[u8], scratch: &mut [u64]) -> usize
-    ensures { λ r. ⌜ (r ≡ twiceAt (now (file .entry))) × (now (scratch .exit) ≡ replicate (length (now (scratch .entry))) 0) ⌝ }
+pub fn first_repeat(book: Book, file: &[u8], scratch: &mut [u64]) -> usize
+    ensures { λ r. ⌜ (r ≡ twiceAt book (now (file .entry))) × (now (scratch .exit) ≡ replicate (length (now (scratch .entry))) 0) ⌝ }
 {
     if scratch.len() < 32768 {
         base::clear(scratch);
-        return own_repeat_in(file);
+        return own_repeat_in(book, file);
     }
-    let place = repeat_in(file, scratch);
+    let place = repeat_in(book, file, scratch);
     base::clear(scratch);
     place
 }

@@ -6,6 +6,7 @@ use mathlib.Core.Bool.{true, false}
 use mathlib.Core.List.{List}
 use lib.IntN.{pos}
 use lib.ListN.{length, replicate, length-replicate}
+use Rattle.book.specs.declared.Book.{Book}
 use Rattle.scan.specs.Permitted.{fits}
 use Rattle.commands.specs.Commands.{commandsOf}
 use Rattle.commands.specs.Rounded.{roundedAmong, roundedIn}
@@ -60,44 +61,44 @@ module _ (w₀ w : Lent) (file-is : w .file ≡ w₀ .file) (e : w .entries ≡ 
   }
 
 -- the rooms matter by their lengths alone
-pub same-answer : (w₀ w : Lent) → w .file ≡ w₀ .file → AsLong w₀ w → answerOf w ≡ answerOf w₀
+pub same-answer : (book : Book) (w₀ w : Lent) → w .file ≡ w₀ .file → AsLong w₀ w → answerOf book w ≡ answerOf book w₀
 unfolding answerOf
-same-answer w₀ w f l = λ i. readOn (same-room w₀ w l i) (f i) (walked (f i) .commands) (walked (f i) .fault) begun
+same-answer book w₀ w f l = λ i. readOn (same-room w₀ w l i) (f i) (walked book (f i) .commands) (walked book (f i) .fault) begun
 
 -- a run that ends, and one that asks
-pub came : (w₀ w₁ w₂ : Lent) (look : Repeat) (o : Outcome) {x : End} → w₁ .file ≡ w₀ .file → AsLong w₀ w₁ → Comes (answerOf w₁) w₂ look o → o ≡ outcome.Ends x →
-    Ends (answerOf w₀) w₂ x
+pub came : (book : Book) (w₀ w₁ w₂ : Lent) (look : Repeat) (o : Outcome) {x : End} → w₁ .file ≡ w₀ .file → AsLong w₀ w₁ → Comes book (answerOf book w₁) w₂ look o → o ≡ outcome.Ends x →
+    Ends book (answerOf book w₀) w₂ x
 unfolding Comes
-came w₀ w₁ w₂ look o {x} f l k q = subst (λ (a : Answer). Ends a w₂ x) (same-answer w₀ w₁ f l) (subst (Comes (answerOf w₁) w₂ look) q k)
+came book w₀ w₁ w₂ look o {x} f l k q = subst (λ (a : Answer). Ends book a w₂ x) (same-answer book w₀ w₁ f l) (subst (Comes book (answerOf book w₁) w₂ look) q k)
 
-pub asks-first : (answer : Answer) (w : Lent) (look : Repeat) (o : Outcome) → Comes answer w look o → o ≡ outcome.Asks → look ≡ repeat.Unknown
+pub asks-first : (book : Book) (answer : Answer) (w : Lent) (look : Repeat) (o : Outcome) → Comes book answer w look o → o ≡ outcome.Asks → look ≡ repeat.Unknown
 unfolding Comes
-asks-first answer w look o k q = subst (Comes answer w look) q k
+asks-first book answer w look o k q = subst (Comes book answer w look) q k
 
 -- a file that is not too long, and one that is
-reading-fits : (w : Lent) → fits (w .file) ≡ true → answerOf w ≡ reading (roomOf w) (w .file)
+reading-fits : (book : Book) (w : Lent) → fits (w .file) ≡ true → answerOf book w ≡ reading book (roomOf w) (w .file)
 unfolding answerOf reading commandsOf
-reading-fits w q = rw (q, reading, commandsOf)
+reading-fits book w q = rw (q, reading, commandsOf)
 
-rounded-fits : (file : List ℕ) → fits file ≡ true → roundedAmong (walked file .commands) ≡ roundedIn file
+rounded-fits : (book : Book) (file : List ℕ) → fits file ≡ true → roundedAmong (walked book file .commands) ≡ roundedIn book file
 unfolding roundedIn commandsOf
-rounded-fits file q = rw (q, commandsOf)
+rounded-fits book file q = rw (q, commandsOf)
 
-reading-long : (w : Lent) → fits (w .file) ≡ false → reading (roomOf w) (w .file) ≡ refused 1 0
+reading-long : (book : Book) (w : Lent) → fits (w .file) ≡ false → reading book (roomOf w) (w .file) ≡ refused 1 0
 unfolding reading commandsOf readOn
-reading-long w q = rw (q, commandsOf)
+reading-long book w q = rw (q, commandsOf)
 
-pub reads-long : (w w′ : Lent) (head : List ℕ) → fits (w .file) ≡ false → Zeroed w w′ head → Reads (reading (roomOf w) (w .file)) w w′ head (answer.Refused 1 0)
+pub reads-long : (book : Book) (w w′ : Lent) (head : List ℕ) → fits (w .file) ≡ false → Zeroed w w′ head → Reads (roundedIn book (w .file)) (reading book (roomOf w) (w .file)) w w′ head (answer.Refused 1 0)
 unfolding Reads
-reads-long w w′ head q z = subst (λ (x : Answer). Reads x w w′ head (answer.Refused 1 0)) (sym (reading-long w q)) (refl, z)
+reads-long book w w′ head q z = subst (λ (x : Answer). Reads (roundedIn book (w .file)) x w w′ head (answer.Refused 1 0)) (sym (reading-long book w q)) (refl, z)
 
-module _ (w₀ w : Lent) (head : List ℕ) (r : End) (short : fits (w₀ .file) ≡ true) (long : AsLong w₀ w) (ends : Ends (answerOf w₀) w r) where
+module _ (book : Book) (w₀ w : Lent) (head : List ℕ) (r : End) (short : fits (w₀ .file) ≡ true) (long : AsLong w₀ w) (ends : Ends book (answerOf book w₀) w r) where
   -- a refusal, and every room cleared behind it
-  pub reads-refused : {f : Refusal} (w′ : Lent) → r ≡ Fault f → Zeroed w w′ head → Reads (reading (roomOf w₀) (w₀ .file)) w₀ w′ head (answer.Refused (f .number) (f .place))
+  pub reads-refused : {f : Refusal} (w′ : Lent) → r ≡ Fault f → Zeroed w w′ head → Reads (roundedIn book (w₀ .file)) (reading book (roomOf w₀) (w₀ .file)) w₀ w′ head (answer.Refused (f .number) (f .place))
   unfolding Ends Reads
   reads-refused {f} w′ q z =
-      let is : answerOf w₀ ≡ refused (f .number) (f .place) = subst (Ends (answerOf w₀) w) q ends in
-      subst (λ (x : Answer). Reads x w₀ w′ head (answer.Refused (f .number) (f .place))) (sym is ∙ reading-fits w₀ short) (
+      let is : answerOf book w₀ ≡ refused (f .number) (f .place) = subst (Ends book (answerOf book w₀) w) q ends in
+      subst (λ (x : Answer). Reads (roundedIn book (w₀ .file)) x w₀ w′ head (answer.Refused (f .number) (f .place))) (sym is ∙ reading-fits book w₀ short) (
         refl,
         record {
           head-is = z .head-is;
@@ -110,20 +111,20 @@ module _ (w₀ w : Lent) (head : List ℕ) (r : End) (short : fits (w₀ .file) 
 
   -- a sheet
   module _ {p : Progress} {rounded : ℕ} (q : r ≡ Sheet p rounded) where
-    sheeted : Sheeted (answerOf w₀) w p rounded
+    sheeted : Sheeted book (answerOf book w₀) w p rounded
     unfolding Ends
-    sheeted = subst (Ends (answerOf w₀) w) q ends
+    sheeted = subst (Ends book (answerOf book w₀) w) q ends
 
     pub sheet-fits : p .builder .closed + p .builder .high ≤ entryRoom (w .entries)
     sheet-fits = sheeted .knows .shows .fits
 
     pub reads-accepted : (e′ : List ℕ) → w .file ≡ w₀ .file → head ≡ headOf (p .graphics .format .unit) (p .builder) (p .apertures) (p .macros) (p .numbers) →
-        Ended (w .entries) e′ (p .builder) → Reads (reading (roomOf w₀) (w₀ .file)) w₀ (withEntries e′ w) head (answer.Accepted (p .graphics .format .unit) rounded)
+        Ended (w .entries) e′ (p .builder) → Reads (roundedIn book (w₀ .file)) (reading book (roomOf w₀) (w₀ .file)) w₀ (withEntries e′ w) head (answer.Accepted (p .graphics .format .unit) rounded)
     unfolding Reads withEntries
     reads-accepted e′ file-is h ended =
         let s = sheeted in
-        let all : rounded ≡ roundedIn (w₀ .file) = s .counted ∙ ap (λ (f : List ℕ). roundedAmong (walked f .commands)) file-is ∙ rounded-fits (w₀ .file) short in
-        subst (λ (x : Answer). Reads x w₀ (withEntries e′ w) head (answer.Accepted (p .graphics .format .unit) rounded)) (sym (s .is) ∙ reading-fits w₀ short) (
+        let all : rounded ≡ roundedIn book (w₀ .file) = s .counted ∙ ap (λ (f : List ℕ). roundedAmong (walked book f .commands)) file-is ∙ rounded-fits book (w₀ .file) short in
+        subst (λ (x : Answer). Reads (roundedIn book (w₀ .file)) x w₀ (withEntries e′ w) head (answer.Accepted (p .graphics .format .unit) rounded)) (sym (s .is) ∙ reading-fits book w₀ short) (
           (λ i. answer.Accepted (s .knows .graphics i .format .unit) (all i)),
           record {
             entries-long = ended .as-long ∙ long .entries-long;

@@ -5,7 +5,6 @@ use mathlib.Core.List.{List}
 use lib.IntN.{pos}
 use lib.ListN.{length, replicate}
 use Rattle.reading.specs.Reading.{Answer, accepted, refused}
-use Rattle.commands.specs.Rounded.{roundedIn}
 use Rattle.progress.specs.Lent.{Lent}
 pub use Rattle.running.specs.Ends.{AsLong}
 use Rattle.reader.specs.Leaves.{Leaves}
@@ -39,7 +38,7 @@ pub record Zeroed (w w′ : Lent) (head : List ℕ) : Type 0 where
   pub numbers-are : w′ .numbers ≡ replicate (length (w .numbers)) (pos 0)
 
 -- "An accepted reading also gives the unit, mm or inch", 1 or 2, and "reports how many decimals were rounded" (02, [1])
-unfoldable pub Reads : Answer → Lent → Lent → List ℕ → code.Answer → Type 0
-Reads (accepted s) w w′ head r =
-    (r ≡ answer.Accepted (s .graphics .format .unit) (roundedIn (w .file))) × AsLong w w′ × Leaves (w .file) head (w′ .entries) (w′ .apertures) (w′ .macros) (w′ .numbers) s
-Reads (refused number place) w w′ head r = (r ≡ answer.Refused number place) × Zeroed w w′ head
+unfoldable pub Reads : ℕ → Answer → Lent → Lent → List ℕ → code.Answer → Type 0
+Reads rounded (accepted s) w w′ head r =
+    (r ≡ answer.Accepted (s .graphics .format .unit) rounded) × AsLong w w′ × Leaves (w .file) head (w′ .entries) (w′ .apertures) (w′ .macros) (w′ .numbers) s
+Reads rounded (refused number place) w w′ head r = (r ≡ answer.Refused number place) × Zeroed w w′ head

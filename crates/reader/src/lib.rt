@@ -7,10 +7,12 @@ ghost use lib.ListN.{length, replicate};
 ghost use Rattle.scan.specs.Permitted.{fits};
 ghost use Rattle.sheet.specs.Records.{entryRoom};
 ghost use Rattle.close.specs.Closed.{headOf, Ended};
+ghost use Rattle.commands.specs.Rounded.{roundedIn};
 ghost use Rattle.reading.specs.Reading.{reading};
 ghost use Rattle.progress.specs.Lent.{lentOf, roomOf};
 ghost use Rattle.running.specs.Ends.{AsLong, answerOf, Ends};
 ghost use Rattle.reader.specs.Reads.{Reads};
+use book::Book;
 use progress::Progress;
 use running::End;
 use running::Outcome;
@@ -35,7 +37,7 @@ fn clear_numbers(numbers: &mut [i64])
 }
 
 // Zeros in every room.
-fn clear(e: &mut [u64], a: &mut [u64], m: &mut [u64], numbers: &mut [i64])
+pub fn clear(e: &mut [u64], a: &mut [u64], m: &mut [u64], numbers: &mut [i64])
     ensures { λ _. ⌜ (now (e .exit) ≡ replicate (length (now (e .entry))) 0)
         × (now (a .exit) ≡ replicate (length (now (a .entry))) 0)
         × (now (m .exit) ≡ replicate (length (now (m .entry))) 0)
@@ -49,22 +51,29 @@ fn clear(e: &mut [u64], a: &mut [u64], m: &mut [u64], numbers: &mut [i64])
 
 // The commands of a file in order, over rooms that are cleared first. A reading that asks where a name is set twice is begun anew with
 // the answer.
-fn run_over(file: &[u8], e: &mut [u64], a: &mut [u64], m: &mut [u64], numbers: &mut [i64]) -> End
+fn run_over(
+    book: Book,
+    file: &[u8],
+    e: &mut [u64],
+    a: &mut [u64],
+    m: &mut [u64],
+    numbers: &mut [i64],
+) -> End
     ensures { λ r. ⌜ AsLong (lentOf (now (file .entry)) (now (e .entry)) (now (a .entry)) (now (m .entry)) (now (numbers .entry)))
         (lentOf (now (file .entry)) (now (e .exit)) (now (a .exit)) (now (m .exit)) (now (numbers .exit)))
-        × Ends (answerOf (lentOf (now (file .entry)) (now (e .entry)) (now (a .entry)) (now (m .entry)) (now (numbers .entry))))
+        × Ends book (answerOf book (lentOf (now (file .entry)) (now (e .entry)) (now (a .entry)) (now (m .entry)) (now (numbers .entry))))
         (lentOf (now (file .entry)) (now (e .exit)) (now (a .exit)) (now (m .exit)) (now (numbers .exit))) r ⌝ }
 {
     let mut repeat = Repeat::Unknown;
     loop {
         clear(e, a, m, numbers);
-        let r = running::run(file, e, a, m, numbers, repeat);
+        let r = running::run(book, file, e, a, m, numbers, repeat);
         match r {
             Outcome::Ends(x) => {
                 return x;
             }
             Outcome::Asks => {
-                repeat = Repeat::At(names::first_repeat(file, e));
+                repeat = Repeat::At(names::first_repeat(book, file, e));
             }
         }
     }
@@ -89,6 +98,7 @@ fn finish(e: &mut [u64], p: Progress) -> [u64; 8]
 
 // A file that is not too long, over a head of zeros.
 fn read_file(
+    book: Book,
     file: &[u8],
     head: &mut [u64; 8],
     e: &mut [u64],
@@ -98,11 +108,11 @@ fn read_file(
 ) -> Answer
     requires { ⌜ now head ≡ replicate 8 0 ⌝ }
     requires { ⌜ fits (now file) ≡ true ⌝ }
-    ensures { λ r. ⌜ Reads (reading (roomOf (lentOf (now (file .entry)) (now (e .entry)) (now (a .entry)) (now (m .entry)) (now (numbers .entry)))) (now (file .entry)))
+    ensures { λ r. ⌜ Reads (roundedIn book (now (file .entry))) (reading book (roomOf (lentOf (now (file .entry)) (now (e .entry)) (now (a .entry)) (now (m .entry)) (now (numbers .entry)))) (now (file .entry)))
         (lentOf (now (file .entry)) (now (e .entry)) (now (a .entry)) (now (m .entry)) (now (numbers .entry)))
         (lentOf (now (file .entry)) (now (e .exit)) (now (a .exit)) (now (m .exit)) (now (numbers .exit))) (now (head .exit)) r ⌝ }
 {
-    let r = run_over(file, e, a, m, numbers);
+    let r = run_over(book, file, e, a, m, numbers);
     match r {
         End::Fault(f) => {
             clear(e, a, m, numbers);
@@ -119,8 +129,10 @@ fn read_file(
     }
 }
 
-// Reads a file into the lent words: a sheet with its unit and how many decimals were rounded, or the number and the place of the first rule broken and zeros in every word.
+// Reads a file by a book into the lent words: a sheet with its unit and how many decimals were rounded, or the number and the place of the
+// first rule broken and zeros in every word.
 pub fn read(
+    book: Book,
     file: &[u8],
     head: &mut [u64; 8],
     e: &mut [u64],
@@ -128,13 +140,13 @@ pub fn read(
     m: &mut [u64],
     numbers: &mut [i64],
 ) -> Answer
-    ensures { λ r. ⌜ Reads (reading (roomOf (lentOf (now (file .entry)) (now (e .entry)) (now (a .entry)) (now (m .entry)) (now (numbers .entry)))) (now (file .entry)))
+    ensures { λ r. ⌜ Reads (roundedIn book (now (file .entry))) (reading book (roomOf (lentOf (now (file .entry)) (now (e .entry)) (now (a .entry)) (now (m .entry)) (now (numbers .entry)))) (now (file .entry)))
         (lentOf (now (file .entry)) (now (e .entry)) (now (a .entry)) (now (m .entry)) (now (numbers .entry)))
         (lentOf (now (file .entry)) (now (e .exit)) (now (a .exit)) (now (m .exit)) (now (numbers .exit))) (now (head .exit)) r ⌝ }
 {
     *head = [0u64; 8];
     if scan::file_fits(file) {
-        return read_file(file, head, e, a, m, numbers);
+        return read_file(book, file, head, e, a, m, numbers);
     }
     clear(e, a, m, numbers);
     Answer::Refused {

@@ -1,2 +1,3 @@
 pub mod SmallFiles
 pub mod Outcomes
+pub mod Rules

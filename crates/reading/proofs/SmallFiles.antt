@@ -17,6 +17,7 @@ use Rattle.base.specs.Trimmed.{dropLeading, keptBefore, dropTrailing}
 use Rattle.text.specs.First.{firstIn, beforeByte, afterByte}
 use Rattle.text.specs.Name.{letter, nameStart, nameByte, nameBytes, isName}
 use Rattle.text.specs.Text.{among}
+use Rattle.book.specs.Books.{ascii}
 use Rattle.scan.specs.Permitted.{fits, printable, breaksAfter, mayBreak, permitted, letterHere, badIn}
 use Rattle.scan.specs.Scan.{textFrom, endOf, cutBy, commandIn, nextCommand}
 use Rattle.scan.specs.Scan as scan-Scan
@@ -58,7 +59,7 @@ unfoldable pub room : Room
 room = record { entries = 1; apertures = 1; macros = 1; numbers = 1 }
 
 pub small-files :
-    map (λ s. reading-Reading.reading room (text s))
+    map (λ s. reading-Reading.reading ascii room (text s))
     ("" ∷ "D9*M02*" ∷ "M02*" ∷ "D10*M02*" ∷ "%FSLAX26Y26*%%MOMM*%G36*M02*" ∷ "%FSLAX26Y26*%%MOMM*%M02*A" ∷ "%FSLAX26Y26*%%MOIN*%M02*" ∷ [])
     ≡ refused 3 0 ∷ refused 4 0 ∷ refused 6 0 ∷ refused 8 0 ∷ refused 7 24 ∷ refused 18 24
     ∷ accepted (withGraphics (withFormat (record { digits = 2; unit = 2 }) graphics-Graphics.start) begun) ∷ []

@@ -4,6 +4,7 @@ use mathlib.Core.Bool.{true, false}
 use mathlib.Core.List.{List, [], _∷_}
 use lib.Dec.{eqb}
 use lib.Seq.{slice}
+use Rattle.book.specs.declared.Book.{Book}
 use Rattle.commands.specs.Commands.{commandsOf}
 use Rattle.commands.specs.declared.Placed.{Placed}
 use Rattle.commands.specs.declared.Refusal.{Refusal}
@@ -28,5 +29,5 @@ readOn room file (c ∷ cs) f s =
       | false ↦ refused (stepAt room file c s .fault) (c .place)
     ]
 
-unfoldable pub reading : Room → List ℕ → Answer
-reading room file = readOn room file (commandsOf file .commands) (commandsOf file .fault) begun
+unfoldable pub reading : Book → Room → List ℕ → Answer
+reading book room file = readOn room file (commandsOf book file .commands) (commandsOf book file .fault) begun

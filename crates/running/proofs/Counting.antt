@@ -5,6 +5,7 @@ use mathlib.Core.Path.{_≡_, refl, ap}
 use mathlib.Core.List.{List}
 use native.Mathlib.Omega.{arith}
 use lib.ListN.{length}
+use Rattle.book.specs.declared.Book.{Book}
 use Rattle.command.specs.Rounded.{roundedOf}
 use Rattle.command.specs.declared.Command.the-variants.{End}
 use Rattle.commands.specs.Rounded.{roundedAmong}
@@ -15,28 +16,28 @@ use Rattle.commands.proofs.Walk.{walk, walk-last, walk-more}
 use Rattle.running.specs.Ends.{walked}
 
 -- those of a file
-abbrev pub allOf : List ℕ → ℕ
-allOf file = roundedAmong (walked file .commands)
+abbrev pub allOf : Book → List ℕ → ℕ
+allOf book file = roundedAmong (walked book file .commands)
 
-pub record Counted (file : List ℕ) (n at rounded : ℕ) : Type 0 where
-  pub sum : rounded + roundedAmong (walk n file at .commands) ≡ allOf file
+pub record Counted (book : Book) (file : List ℕ) (n at rounded : ℕ) : Type 0 where
+  pub sum : rounded + roundedAmong (walk book n file at .commands) ≡ allOf book file
   pub few : rounded ≤ at
 
-pub counted-start : (file : List ℕ) → Counted file 0 0 0
-counted-start file = record { sum = omega arith; few = omega arith }
+pub counted-start : (book : Book) (file : List ℕ) → Counted book file 0 0 0
+counted-start book file = record { sum = omega arith; few = omega arith }
 
-module _ (file : List ℕ) (n at rounded : ℕ) (k : Counted file n at rounded) where
+module _ (book : Book) (file : List ℕ) (n at rounded : ℕ) (k : Counted book file n at rounded) where
   -- M02 has no decimals
-  pub counted-last : {c : Placed} {next : ℕ} → turnOf n file at ≡ turn.Last c next → c .command ≡ End → rounded ≡ allOf file
+  pub counted-last : {c : Placed} {next : ℕ} → turnOf book n file at ≡ turn.Last c next → c .command ≡ End → rounded ≡ allOf book file
   unfolding roundedAmong roundedOf
   counted-last {c} e q =
-      let s : rounded + (roundedOf (c .command) + 0) ≡ allOf file = rw (walk-last n file at e) at (k .sum) in
+      let s : rounded + (roundedOf (c .command) + 0) ≡ allOf book file = rw (walk-last book n file at e) at (k .sum) in
       let z : roundedOf (c .command) ≡ 0 = ap roundedOf q in
       omega (arith, s, z)
 
-  pub counted-more : {c : Placed} {m next : ℕ} → at ≤ length file → turnOf n file at ≡ turn.More c m next → at + roundedOf (c .command) ≤ next →
-      Counted file m next (rounded + roundedOf (c .command))
+  pub counted-more : {c : Placed} {m next : ℕ} → at ≤ length file → turnOf book n file at ≡ turn.More c m next → at + roundedOf (c .command) ≤ next →
+      Counted book file m next (rounded + roundedOf (c .command))
   unfolding roundedAmong
   counted-more {c} {m} {next} h e l =
-      let s : rounded + (roundedOf (c .command) + roundedAmong (walk m file next .commands)) ≡ allOf file = rw (walk-more n file at h e) at (k .sum) in
+      let s : rounded + (roundedOf (c .command) + roundedAmong (walk book m file next .commands)) ≡ allOf book file = rw (walk-more book n file at h e) at (k .sum) in
       record { sum = omega (arith, s); few = omega (arith, k .few, l) }

@@ -8,6 +8,7 @@ use native.Mathlib.Omega.{arith}
 use lib.IntN.{ℤ}
 use lib.ListN.{length}
 use lib.Seq.{slice}
+use Rattle.book.specs.declared.Book.{Book}
 use Rattle.scan.specs.Tail.{tailOf}
 use Rattle.command.specs.Rounded.{roundedOf}
 use Rattle.commands.specs.Turns.{turnOf, tailFault}
@@ -34,11 +35,11 @@ use Rattle.running.proofs.Counting.{counted-start}
 use Rattle.running.proofs.Naming.{NamesAt, names-start, names-few, asks, told-again, names-on}
 use Rattle.running.proofs.Running.{Running, stops, last-sound, last-again, ends, more-sound, counted-fits, refuses, goes}
 
-pub record Runs (file : List ℕ) (w₀ : Lent) (w : Lent) (p : Progress) (n at set rounded : ℕ) : Type 0 where
+pub record Runs (book : Book) (file : List ℕ) (w₀ : Lent) (w : Lent) (p : Progress) (n at set rounded : ℕ) : Type 0 where
   pub state : State
   pub file-is : w .file ≡ file
   pub long : AsLong w₀ w
-  pub running : Running file (roomOf w₀) (answerOf w₀) w p n at set rounded state
+  pub running : Running book file (roomOf w₀) (answerOf book w₀) w p n at set rounded state
 
 pub same-long : (w : Lent) → AsLong w w
 same-long w = record { entries-long = refl; apertures-long = refl; macros-long = refl; numbers-long = refl }
@@ -55,9 +56,9 @@ pub same-room : (w₀ w : Lent) → AsLong w₀ w → roomOf w ≡ roomOf w₀
 unfolding roomOf
 same-room w₀ w l = rw (l .entries-long, l .apertures-long, l .macros-long, l .numbers-long)
 
-pub runs-start : (w : Lent) → Empty w → Runs (w .file) w w start 0 0 0 0
+pub runs-start : (book : Book) (w : Lent) → Empty w → Runs book (w .file) w w start 0 0 0 0
 unfolding begun graphics.start answerOf
-runs-start w z = record {
+runs-start book w z = record {
   state = begun;
   file-is = refl;
   long = same-long w;
@@ -65,18 +66,18 @@ runs-start w z = record {
     within = omega arith;
     knows = knows-start w z;
     unit = omega arith;
-    names = names-start (w .file);
-    counted = counted-start (w .file);
+    names = names-start book (w .file);
+    counted = counted-start book (w .file);
     leads = refl;
   };
 }
 
-module _ (file : List ℕ) (w₀ w : Lent) (p : Progress) (n at set rounded : ℕ) (r : Runs file w₀ w p n at set rounded) where
+module _ (book : Book) (file : List ℕ) (w₀ w : Lent) (p : Progress) (n at set rounded : ℕ) (r : Runs book file w₀ w p n at set rounded) where
   pub known : Known (λ x. x ≡ w) p
   known = record { lent = w; state = r .state; is = refl; knows = r .running .knows }
 
-  pub runs-stops : {f : Refusal} → turnOf n file at ≡ turn.Fault f → answerOf w₀ ≡ refused (f .number) (f .place)
-  runs-stops e = stops file (roomOf w₀) (answerOf w₀) w p n at set rounded (r .state) (r .running) e
+  pub runs-stops : {f : Refusal} → turnOf book n file at ≡ turn.Fault f → answerOf book w₀ ≡ refused (f .number) (f .place)
+  runs-stops e = stops book file (roomOf w₀) (answerOf book w₀) w p n at set rounded (r .state) (r .running) e
 
   -- a step that is right for what is known
   follows : (w′ : Lent) (c : Placed) (again : Bool) (x : Stepped) → Reads w w′ p c again x → Again file c again (r .state) → Follows (Knows w′) (stepAt (roomOf w₀) file c (r .state)) x
@@ -85,48 +86,48 @@ module _ (file : List ℕ) (w₀ w : Lent) (p : Progress) (n at set rounded : �
       (subst (λ (m : Room). Follows (Knows w′) (stepAt m (w .file) c (r .state)) x) (same-room w₀ w (r .long))
       (step (r .state) (r .running .knows) (subst (λ (f : List ℕ). Again f c again (r .state)) (sym (r .file-is)) told)))
 
-  module _ {c : Placed} {next : ℕ} (e : turnOf n file at ≡ turn.Last c next) where
+  module _ {c : Placed} {next : ℕ} (e : turnOf book n file at ≡ turn.Last c next) where
     pub sound-last : Sound file c
-    sound-last = last-sound file (roomOf w₀) (answerOf w₀) w p n at set rounded (r .state) (r .running) e
+    sound-last = last-sound book file (roomOf w₀) (answerOf book w₀) w p n at set rounded (r .state) (r .running) e
 
-    pub runs-ends : (w′ : Lent) (again : Bool) (x : Stepped) → w′ .file ≡ file → Reads w w′ p c again x → Ends (answerOf w₀) w′ (settled x (c .place) (tailFault (tailOf file next)) rounded)
+    pub runs-ends : (w′ : Lent) (again : Bool) (x : Stepped) → w′ .file ≡ file → Reads w w′ p c again x → Ends book (answerOf book w₀) w′ (settled x (c .place) (tailFault (tailOf file next)) rounded)
     runs-ends w′ again x same step =
-        ends file (roomOf w₀) (answerOf w₀) w p n at set rounded (r .state) (r .running) e w′ x same
-        (follows w′ c again x step (last-again file (roomOf w₀) (answerOf w₀) w p n at set rounded (r .state) (r .running) e again))
+        ends book file (roomOf w₀) (answerOf book w₀) w p n at set rounded (r .state) (r .running) e w′ x same
+        (follows w′ c again x step (last-again book file (roomOf w₀) (answerOf book w₀) w p n at set rounded (r .state) (r .running) e again))
 
-  module _ {c : Placed} {m next : ℕ} (e : turnOf n file at ≡ turn.More c m next) where
+  module _ {c : Placed} {m next : ℕ} (e : turnOf book n file at ≡ turn.More c m next) where
     pub sound-more : Sound file c
-    sound-more = more-sound file (roomOf w₀) (answerOf w₀) w p n at set rounded (r .state) (r .running) e
+    sound-more = more-sound book file (roomOf w₀) (answerOf book w₀) w p n at set rounded (r .state) (r .running) e
 
     pub runs-counts : rounded + roundedOf (c .command) ≤ length file
-    runs-counts = counted-fits file (roomOf w₀) (answerOf w₀) w p n at set rounded (r .state) (r .running) e
+    runs-counts = counted-fits book file (roomOf w₀) (answerOf book w₀) w p n at set rounded (r .state) (r .running) e
 
     pub runs-few : set < length file
-    runs-few = names-few n file at set (r .state .names) (r .running .within) (r .running .names) e
+    runs-few = names-few book n file at set (r .state .names) (r .running .within) (r .running .names) e
 
-    module _ (look : Repeat) (l : Looked file look) where
-      pub runs-asks : judgedOf file c set look ≡ Asks → look ≡ repeat.Unknown
-      runs-asks j = asks n file at set (r .state .names) (r .running .within) (r .running .names) e look l j
+    module _ (look : Repeat) (l : Looked book file look) where
+      pub runs-asks : judgedOf book file c set look ≡ Asks → look ≡ repeat.Unknown
+      runs-asks j = asks book n file at set (r .state .names) (r .running .within) (r .running .names) e look l j
 
-      module _ {again : Bool} {more : ℕ} (j : judgedOf file c set look ≡ Told again more) (w′ : Lent) (x : Stepped) (step : Reads w w′ p c again x) where
+      module _ {again : Bool} {more : ℕ} (j : judgedOf book file c set look ≡ Told again more) (w′ : Lent) (x : Stepped) (step : Reads w w′ p c again x) where
         more-follows : Follows (Knows w′) (stepAt (roomOf w₀) file c (r .state)) x
-        more-follows = follows w′ c again x step (told-again n file at set (r .state .names) (r .running .within) (r .running .names) e look l j (r .state) refl)
+        more-follows = follows w′ c again x step (told-again book n file at set (r .state .names) (r .running .within) (r .running .names) e look l j (r .state) refl)
 
-        named : stepAt (roomOf w₀) file c (r .state) .fault ≡ 0 → NamesAt file next more (stepAt (roomOf w₀) file c (r .state) .next .names)
+        named : stepAt (roomOf w₀) file c (r .state) .fault ≡ 0 → NamesAt book file next more (stepAt (roomOf w₀) file c (r .state) .next .names)
         named q =
-            names-on n file at set (r .state .names) (r .running .within) (r .running .names) e look l j _
+            names-on book n file at set (r .state .names) (r .running .within) (r .running .names) e look l j _
             (names-after (roomOf w₀) (slice (c .from) (c .end) file) (c .place) (c .command) (r .state) q)
 
-        pub runs-refuses : {k : ℕ} → x ≡ Fault k → answerOf w₀ ≡ refused k (c .place)
+        pub runs-refuses : {k : ℕ} → x ≡ Fault k → answerOf book w₀ ≡ refused k (c .place)
         runs-refuses {k} q =
-            refuses file (roomOf w₀) (answerOf w₀) w p n at set rounded (r .state) (r .running) e w′ k (subst (Follows (Knows w′) (stepAt (roomOf w₀) file c (r .state))) q more-follows)
+            refuses book file (roomOf w₀) (answerOf book w₀) w p n at set rounded (r .state) (r .running) e w′ k (subst (Follows (Knows w′) (stepAt (roomOf w₀) file c (r .state))) q more-follows)
 
-        pub runs-goes : {p′ : Progress} → w′ .file ≡ file → AsLong w w′ → x ≡ Next p′ → Runs file w₀ w′ p′ m next more (rounded + roundedOf (c .command))
+        pub runs-goes : {p′ : Progress} → w′ .file ≡ file → AsLong w w′ → x ≡ Next p′ → Runs book file w₀ w′ p′ m next more (rounded + roundedOf (c .command))
         runs-goes {p′} same k q = record {
           state = stepAt (roomOf w₀) file c (r .state) .next;
           file-is = same;
           long = longs w₀ w w′ (r .long) k;
-          running = goes file (roomOf w₀) (answerOf w₀) w p n at set rounded (r .state) (r .running) e w′ p′ named
+          running = goes book file (roomOf w₀) (answerOf book w₀) w p n at set rounded (r .state) (r .running) e w′ p′ named
               (subst (Follows (Knows w′) (stepAt (roomOf w₀) file c (r .state))) q more-follows);
         }
 

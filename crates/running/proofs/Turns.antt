@@ -10,7 +10,7 @@ use lib.Dec.{eqb}
 use lib.ListN.{length}
 use lib.Seq.{slice, length-slice}
 use Rattle.scan.specs.Scan.{nextCommand}
-use Rattle.scan.specs.declared.Letters.the-variants.{Old}
+use Rattle.book.specs.declared.Book.{Book}
 use Rattle.scan.specs.declared.Scan.{Scan}
 use Rattle.scan.specs.declared.Scan.the-variants as scan
 use Rattle.scan.proofs.Within.{Within, next-within}
@@ -81,6 +81,6 @@ turned-sound n file at (scan.Command kind place from end next) (h, k, l, e, m) =
 turned-sound n file at (scan.BadByte place) w = refl
 turned-sound n file at (scan.Ended place) w = refl
 
-pub turn-sound : (n : ℕ) (file : List ℕ) (at : ℕ) → at ≤ length file → SoundTurn file at (turnOf n file at)
+pub turn-sound : (book : Book) (n : ℕ) (file : List ℕ) (at : ℕ) → at ≤ length file → SoundTurn file at (turnOf book n file at)
 unfolding turnOf
-turn-sound n file at h = turned-sound n file at (nextCommand Old file at) (next-within Old file at h)
+turn-sound book n file at h = turned-sound n file at (nextCommand book file at) (next-within book file at h)

@@ -6,6 +6,7 @@ use mathlib.Core.List.{List}
 use lib.Dec.{eqb}
 use lib.IntN.{pos}
 use lib.ListN.{length, replicate}
+use Rattle.book.specs.declared.Book.{Book}
 use Rattle.commands.specs.Commands.{Sequence, commandsFrom}
 use Rattle.commands.specs.Rounded.{roundedAmong}
 use Rattle.commands.specs.declared.Refusal.{Refusal}
@@ -55,12 +56,12 @@ pub record AsLong (w w′ : Lent) : Type 0 where
   pub numbers-long : length (w′ .numbers) ≡ length (w .numbers)
 
 -- the commands of a file that is not too long
-abbrev pub walked : List ℕ → Sequence
-walked file = commandsFrom (suc (length file)) 0 file 0
+abbrev pub walked : Book → List ℕ → Sequence
+walked book file = commandsFrom book (suc (length file)) 0 file 0
 
 -- what it comes to in the rooms that are lent
-unfoldable pub answerOf : Lent → Answer
-answerOf w = readOn (roomOf w) (w .file) (walked (w .file) .commands) (walked (w .file) .fault) begun
+unfoldable pub answerOf : Book → Lent → Answer
+answerOf book w = readOn (roomOf w) (w .file) (walked book (w .file) .commands) (walked book (w .file) .fault) begun
 
 -- at M02: what it came to, then what follows it; so many decimals were rounded
 unfoldable pub settled : Stepped → ℕ → Refusal → ℕ → End
@@ -68,24 +69,24 @@ settled (stepped.Fault n) place f rounded = Fault (record { number = n; place = 
 settled (stepped.Next p) place f rounded = elim (eqb (f .number) 0) [ true ↦ Sheet p rounded | false ↦ Fault f ]
 
 -- the answer is a sheet, of which all is known; M02's rules are kept, the unit is 1 or 2, and so many decimals were rounded
-pub record Sheeted (answer : Answer) (w : Lent) (p : Progress) (rounded : ℕ) : Type 0 where
+pub record Sheeted (book : Book) (answer : Answer) (w : Lent) (p : Progress) (rounded : ℕ) : Type 0 where
   pub state : State
   pub is : answer ≡ accepted state
   pub knows : Knows w p state
   pub kept : endFault (state .graphics) (state .level) ≡ 0
   pub unit : state .graphics .format .unit ≤ 2
-  pub counted : rounded ≡ roundedAmong (walked (w .file) .commands)
+  pub counted : rounded ≡ roundedAmong (walked book (w .file) .commands)
 
-unfoldable pub Ends : Answer → Lent → End → Type 0
-Ends answer w (Sheet p rounded) = Sheeted answer w p rounded
-Ends answer w (Fault f) = answer ≡ refused (f .number) (f .place)
+unfoldable pub Ends : Book → Answer → Lent → End → Type 0
+Ends book answer w (Sheet p rounded) = Sheeted book answer w p rounded
+Ends book answer w (Fault f) = answer ≡ refused (f .number) (f .place)
 
 -- the place, where it was looked for
-unfoldable pub Looked : List ℕ → Repeat → Type 0
-Looked file repeat.Unknown = Unit
-Looked file (repeat.At place) = place ≡ twiceAt file
+unfoldable pub Looked : Book → List ℕ → Repeat → Type 0
+Looked book file repeat.Unknown = Unit
+Looked book file (repeat.At place) = place ≡ twiceAt book file
 
 -- a run over the commands ends as they do, or asks for that place where it was not looked for
-unfoldable pub Comes : Answer → Lent → Repeat → Outcome → Type 0
-Comes answer w r (outcome.Ends x) = Ends answer w x
-Comes answer w r outcome.Asks = r ≡ repeat.Unknown
+unfoldable pub Comes : Book → Answer → Lent → Repeat → Outcome → Type 0
+Comes book answer w r (outcome.Ends x) = Ends book answer w x
+Comes book answer w r outcome.Asks = r ≡ repeat.Unknown

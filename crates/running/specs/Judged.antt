@@ -5,6 +5,7 @@ use mathlib.Core.List.{List}
 use lib.Dec.{eqb, ltb}
 use lib.Seq.{slice}
 use Rattle.base.specs.Or.{_or_}
+use Rattle.book.specs.declared.Book.{Book}
 use Rattle.commands.specs.declared.Placed.{Placed}
 use Rattle.reading.specs.Steps.{part}
 use Rattle.names.specs.Sets.{setsOf}
@@ -23,14 +24,14 @@ byLook place set (repeat.At twice) = Told (eqb place twice) (set + 1)
 
 -- the name of the TF at a place, so many being set before it: the first of a file is new; of the next few, and near the file's start, a
 -- walk tells which TF sets the name first
-unfoldable pub judgedName : List ℕ → ℕ → List ℕ → ℕ → Repeat → Judged
-judgedName file place name set r =
+unfoldable pub judgedName : Book → List ℕ → ℕ → List ℕ → ℕ → Repeat → Judged
+judgedName book file place name set r =
     cond (eqb set 0) (Told false 1)
-    (cond (ltb set 16 or ltb place 4096) (Told (not (eqb (firstAt file name) place)) (set + 1)) (byLook place set r))
+    (cond (ltb set 16 or ltb place 4096) (Told (not (eqb (firstAt book file name) place)) (set + 1)) (byLook place set r))
 
-unfoldable pub judgedAs : List ℕ → ℕ → List ℕ → ℕ → Repeat → Sets → Judged
-judgedAs file place text set r Nothing = Told false set
-judgedAs file place text set r (Name n) = judgedName file place (part text n) set r
+unfoldable pub judgedAs : Book → List ℕ → ℕ → List ℕ → ℕ → Repeat → Sets → Judged
+judgedAs book file place text set r Nothing = Told false set
+judgedAs book file place text set r (Name n) = judgedName book file place (part text n) set r
 
-unfoldable pub judgedOf : List ℕ → Placed → ℕ → Repeat → Judged
-judgedOf file c set r = judgedAs file (c .place) (slice (c .from) (c .end) file) set r (setsOf (c .command))
+unfoldable pub judgedOf : Book → List ℕ → Placed → ℕ → Repeat → Judged
+judgedOf book file c set r = judgedAs book file (c .place) (slice (c .from) (c .end) file) set r (setsOf (c .command))

@@ -6,6 +6,7 @@ ghost use lib.ListN.{length};
 ghost use Rattle.progress.specs.Lent.{lentOf};
 ghost use Rattle.running.specs.Ends.{start, Empty, AsLong, answerOf, settled, Looked, Comes};
 ghost use Rattle.running.specs.Judged.{judgedName, judgedOf};
+use book::Book;
 use build::Builder;
 use commands::Placed;
 use commands::Refusal;
@@ -63,9 +64,16 @@ fn start() -> Progress
 
 // Whether the TF at a place sets its name again, so many being set before it. The first of a file is new; of the next few, and near the
 // file's start, a walk tells which TF sets the name first.
-fn judge_name(file: &[u8], place: usize, name: &[u8], set: usize, repeat: Repeat) -> Judged
+fn judge_name(
+    book: Book,
+    file: &[u8],
+    place: usize,
+    name: &[u8],
+    set: usize,
+    repeat: Repeat,
+) -> Judged
     requires { ⌜ set < length (now file) ⌝ }
-    ensures { λ r. ⌜ r ≡ judgedName (now (file .entry)) place (now (name .entry)) set repeat ⌝ }
+    ensures { λ r. ⌜ r ≡ judgedName book (now (file .entry)) place (now (name .entry)) set repeat ⌝ }
 {
     if set == 0 {
         return Judged::Told {
@@ -75,7 +83,7 @@ fn judge_name(file: &[u8], place: usize, name: &[u8], set: usize, repeat: Repeat
     }
     if base::either(set < 16, place < 4096) {
         return Judged::Told {
-            again: names::first_at(file, name) != place,
+            again: names::first_at(book, file, name) != place,
             set: set + 1,
         };
     }
@@ -89,9 +97,9 @@ fn judge_name(file: &[u8], place: usize, name: &[u8], set: usize, repeat: Repeat
 }
 
 // The same of any command: one that is no TF sets no name.
-fn judge(file: &[u8], c: Placed, set: usize, repeat: Repeat) -> Judged
+fn judge(book: Book, file: &[u8], c: Placed, set: usize, repeat: Repeat) -> Judged
     requires { ⌜ set < length (now file) ⌝ }
-    ensures { λ r. ⌜ r ≡ judgedOf (now (file .entry)) c set repeat ⌝ }
+    ensures { λ r. ⌜ r ≡ judgedOf book (now (file .entry)) c set repeat ⌝ }
 {
     let command = c.command;
     let sets = names::sets_of(command);
@@ -99,7 +107,14 @@ fn judge(file: &[u8], c: Placed, set: usize, repeat: Repeat) -> Judged
         Sets::Nothing => Judged::Told { again: false, set },
         Sets::Name(n) => {
             let text = base::part(file, c.from, c.end);
-            judge_name(file, c.place, base::part(text, n.from, n.to), set, repeat)
+            judge_name(
+                book,
+                file,
+                c.place,
+                base::part(text, n.from, n.to),
+                set,
+                repeat,
+            )
         }
     }
 }
@@ -122,8 +137,9 @@ fn settled(r: Stepped, place: usize, f: Refusal, rounded: usize) -> End
     }
 }
 
-// The commands of a file in order, over rooms of zeros.
+// The commands of a file in order by a book, over rooms of zeros.
 pub fn run(
+    book: Book,
     file: &[u8],
     e: &mut [u64],
     a: &mut [u64],
@@ -132,10 +148,10 @@ pub fn run(
     repeat: Repeat,
 ) -> Outcome
     requires { ⌜ Empty (lentOf (now file) (now e) (now a) (now m) (now numbers)) ⌝ }
-    requires { ⌜ Looked (now file) repeat ⌝ }
+    requires { ⌜ Looked book (now file) repeat ⌝ }
     ensures { λ r. ⌜ AsLong (lentOf (now (file .entry)) (now (e .entry)) (now (a .entry)) (now (m .entry)) (now (numbers .entry)))
         (lentOf (now (file .entry)) (now (e .exit)) (now (a .exit)) (now (m .exit)) (now (numbers .exit)))
-        × Comes (answerOf (lentOf (now (file .entry)) (now (e .entry)) (now (a .entry)) (now (m .entry)) (now (numbers .entry))))
+        × Comes book (answerOf book (lentOf (now (file .entry)) (now (e .entry)) (now (a .entry)) (now (m .entry)) (now (numbers .entry))))
         (lentOf (now (file .entry)) (now (e .exit)) (now (a .exit)) (now (m .exit)) (now (numbers .exit))) repeat r ⌝ }
 {
     let mut p = start();
@@ -144,7 +160,7 @@ pub fn run(
     let mut set: usize = 0;
     let mut rounded: usize = 0;
     loop {
-        let t = commands::turn_at(n, file, at);
+        let t = commands::turn_at(book, n, file, at);
         match t {
             Turn::Fault(f) => {
                 return Outcome::Ends(End::Fault(f));
@@ -161,7 +177,7 @@ pub fn run(
             } => {
                 let said = command.command;
                 let counted = rounded + command::rounded_of(said);
-                let j = judge(file, command, set, repeat);
+                let j = judge(book, file, command, set, repeat);
                 let Judged::Told { again, set: more } = j else {
                     return Outcome::Asks;
                 };

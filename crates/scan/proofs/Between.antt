@@ -12,7 +12,7 @@ use Rattle.scan.specs.Fields.{isNew}
 use Rattle.scan.specs.Permitted.{permitted}
 use Rattle.scan.specs.Scan.{ends}
 use Rattle.scan.specs.Ways.{beyond, within, following, inside, opening, step}
-use Rattle.scan.specs.declared.Letters.{Letters}
+use Rattle.book.specs.declared.Book.{Book}
 use Rattle.scan.specs.declared.Stand.{Stand}
 use Rattle.scan.specs.declared.Way.{Way}
 use Rattle.scan.specs.declared.Way.the-variants.{Between, Inside, Complete, Bad}
@@ -27,28 +27,28 @@ neither : (t : Bool) (p q : Way) → between p ≡ false → between q ≡ false
 neither true p q e f = e
 neither false p q e f = f
 
-module _ (letters : Letters) (s : Stand) (b at : ℕ) where
-  beyond-not : between (beyond letters s b at) ≡ false
+module _ (book : Book) (s : Stand) (b at : ℕ) where
+  beyond-not : between (beyond book s b at) ≡ false
   unfolding between beyond
-  beyond-not = neither (isWhole (leadOf b)) _ _ refl (neither (isNew letters and isField (s .part)) _ _ refl refl)
+  beyond-not = neither (isWhole (leadOf b)) _ _ refl (neither (isNew (book .letters) and isField (s .part)) _ _ refl refl)
 
-  within-not : between (within letters s b at) ≡ false
+  within-not : between (within book s b at) ≡ false
   unfolding between within
   within-not = neither (ends (s .kind) b) _ _ refl (neither (permitted (s .kind) (s .last) b) _ _ refl beyond-not)
 
-  inside-not : between (inside letters s b at) ≡ false
+  inside-not : between (inside book s b at) ≡ false
   unfolding between inside following
   inside-not = neither (isWhole (s .follow)) _ _ within-not (neither (takes (s .follow) b) _ _ refl refl)
 
-  pub inside-goes : step letters (Inside s) b at ≡ Between → ⊥
+  pub inside-goes : step book (Inside s) b at ≡ Between → ⊥
   unfolding between step
   inside-goes e = false≢true (sym inside-not ∙ ap between e)
 
-module _ (letters : Letters) (b at : ℕ) where
-  opening-not : between (opening letters b at) ≡ false
+module _ (book : Book) (b at : ℕ) where
+  opening-not : between (opening book b at) ≡ false
   unfolding between opening
-  opening-not = neither (eqb b 37) _ _ refl (within-not letters _ b at)
+  opening-not = neither (eqb b 37) _ _ refl (within-not book _ b at)
 
-  pub opening-goes : isBreak b ≡ false → step letters Between b at ≡ Between → ⊥
+  pub opening-goes : isBreak b ≡ false → step book Between b at ≡ Between → ⊥
   unfolding between step
   opening-goes f e = false≢true (sym opening-not ∙ ap between (rw f at e))

@@ -28,7 +28,7 @@ use Rattle.scan.specs.Scan.{endOf, ends, cutBy}
 use Rattle.scan.specs.Ways.{kindAfter, stand, moved, beyond, within, following, inside, step, ended, run}
 use Rattle.scan.specs.declared.Kind.{Kind}
 use Rattle.scan.specs.declared.Kind.the-variants.{Word, Extended, Macro}
-use Rattle.scan.specs.declared.Letters.{Letters}
+use Rattle.book.specs.declared.Book.{Book}
 use Rattle.scan.specs.declared.Scan.{Scan}
 use Rattle.scan.specs.declared.Stand.{Stand}
 use Rattle.scan.specs.declared.Way.the-variants.{Inside, Complete, Bad}
@@ -65,23 +65,23 @@ kind-stays : (kind : Kind) (part : Part) (b : ℕ) (s : List ℕ) → noMacro pa
 unfolding kindAfter
 kind-stays kind part b s e = rw (macro-none part b s e)
 
-module _ (letters : Letters) (n place : ℕ) (kind : Kind) (field : ℕ → Bool) where
+module _ (book : Book) (n place : ℕ) (kind : Kind) (field : ℕ → Bool) where
   abbrev cut : ℕ → ℕ → Scan
   cut end bad = cutBy kind n place end bad
 
   -- the field ahead is where the walk sees it
   abbrev pub Sees : Part → List ℕ → ℕ → Type 0
-  Sees part s at = (i : ℕ) → at ≤ i → field i ≡ (isNew letters and reaches part s at i)
+  Sees part s at = (i : ℕ) → at ≤ i → field i ≡ (isNew (book .letters) and reaches part s at i)
 
   pub sees-on : (part : Part) (b : ℕ) (s : List ℕ) (at : ℕ) → Sees part (b ∷ s) at → Sees (partAfter part b) s (at + 1)
   sees-on part b s at w i h =
       let ne : eqb i at ≡ false = ne-eqb i at (λ e. omega arith) in
-      w i (omega arith) ∙ ap (λ t. isNew letters and t) (reach-next part b s at i ne)
+      w i (omega arith) ∙ ap (λ t. isNew (book .letters) and t) (reach-next part b s at i ne)
 
   -- what the walk comes to, a letter being begun where left is not 0
   abbrev pub Comes : Part → ℕ → ℕ → ℕ → ℕ → ℕ → List ℕ → ℕ → Type 0
   Comes part last low high left lead s at =
-      run letters n place (Inside (stand kind part last (follow low high left) lead)) s at
+      run book n place (Inside (stand kind part last (follow low high left) lead)) s at
       ≡ cut (firstIn (ends kind) s at) (cond (follows low high left s) (badIn kind field last left s at) lead)
 
   pub record Ready (part : Part) (low left lead : ℕ) (s : List ℕ) (at : ℕ) : Type 0 where
@@ -131,16 +131,16 @@ module _ (letters : Letters) (n place : ℕ) (kind : Kind) (field : ℕ → Bool
           let k = within-low low high b e in
           let up : 0x80 ≤ b = omega arith in
           let less : suc left - 1 ≡ left = omega arith in
-          let goes : step letters (Inside here) b at ≡ Inside (stand kind (partAfter part b) last (follow 0x80 0xBF left) lead) =
+          let goes : step book (Inside here) b at ≡ Inside (stand kind (partAfter part b) last (follow 0x80 0xBF left) lead) =
           rw (unfinished left, e, kind-stays kind part b s (r .plain), high-unprintable b up, less) in
-          run-inside letters n place (Inside here) b s at goes
+          run-inside book n place (Inside here) b s at goes
           ∙ rest last 0x80 0xBF left lead (ready-on r 0x80 left lead (λ _. omega arith) (λ _. omega (arith, r .behind (omega arith))))
           ∙ sym (rw (first-later (ends kind) b s at (high-runs-on b up kind), e))
       begun false e =
           let l : at ≤ firstIn (ends kind) (b ∷ s) at = in-from (ends kind) (b ∷ s) at .0 in
           let k : lead < at = r .behind (omega arith) in
-          let stops : step letters (Inside here) b at ≡ Bad lead = rw (unfinished left, e) in
-          run-bad letters n place (Inside here) b s at stops
+          let stops : step book (Inside here) b at ≡ Bad lead = rw (unfinished left, e) in
+          run-bad book n place (Inside here) b s at stops
           ∙ sym (rw e (cut-bad kind n place (omega arith)))
 
     -- no letter is begun
@@ -156,8 +156,8 @@ module _ (letters : Letters) (n place : ℕ) (kind : Kind) (field : ℕ → Bool
       complete e =
           let l : at ≤ badIn kind field last 0 (b ∷ s) at = bad-from kind field last 0 (b ∷ s) at in
           let k : at < n = omega (arith, r .long) in
-          let ends-here : step letters (Inside idle) b at ≡ Complete kind = rw e in
-          run-complete letters n place (Inside idle) b s at ends-here
+          let ends-here : step book (Inside idle) b at ≡ Complete kind = rw e in
+          run-complete book n place (Inside idle) b s at ends-here
           ∙ sym (rw (first-here (ends kind) b s at e) (cut-found kind n place l k))
 
       module _ (e : ends kind b ≡ false) where
@@ -170,17 +170,17 @@ module _ (letters : Letters) (n place : ℕ) (kind : Kind) (field : ℕ → Bool
         goes-on : permitted kind last b ≡ true → Goal
         unfolding step inside within moved follows
         goes-on p =
-            let goes : step letters (Inside idle) b at ≡ Inside (stand kind (partAfter part b) (cond (printable b) b last) nothing 0) =
+            let goes : step book (Inside idle) b at ≡ Inside (stand kind (partAfter part b) (cond (printable b) b last) nothing 0) =
             rw (e, p, kind-stays kind part b s (r .plain)) in
-            run-inside letters n place (Inside idle) b s at goes
+            run-inside book n place (Inside idle) b s at goes
             ∙ rest (cond (printable b) b last) 0 0 0 0 (ready-on r 0 0 0 (λ z. absurd (omega arith)) (λ z. absurd (omega arith)))
             ∙ sym (rw (later, bad-goes kind field last b s at p))
 
         module _ (p : permitted kind last b ≡ false) where
-          stops : step letters (Inside idle) b at ≡ Bad at → letterHere (field at) (b ∷ s) ≡ 0 → Goal
+          stops : step book (Inside idle) b at ≡ Bad at → letterHere (field at) (b ∷ s) ≡ 0 → Goal
           unfolding follows
           stops g z =
-              run-bad letters n place (Inside idle) b s at g
+              run-bad book n place (Inside idle) b s at g
               ∙ sym (rw (bad-here kind field last b s at p z) (cut-bad kind n place ahead))
 
           -- the byte begins no letter
@@ -193,12 +193,12 @@ module _ (letters : Letters) (n place : ℕ) (kind : Kind) (field : ℕ → Bool
               nothing-here false = refl
 
           -- it stands in no field, or the rule lets none in
-          field-here : field at ≡ (isNew letters and (isField part and not (eqb b 42)))
-          field-here = r .sees at (omega arith) ∙ ap (λ t. isNew letters and t) (reach-here part b s at at (eq-eqb at at refl))
+          field-here : field at ≡ (isNew (book .letters) and (isField part and not (eqb b 42)))
+          field-here = r .sees at (omega arith) ∙ ap (λ t. isNew (book .letters) and t) (reach-here part b s at at (eq-eqb at at refl))
 
-          shut : isWhole (leadOf b) ≡ false → (isNew letters and isField part) ≡ false → Goal
+          shut : isWhole (leadOf b) ≡ false → (isNew (book .letters) and isField part) ≡ false → Goal
           unfolding step inside within beyond letterHere _and_
-          shut w f = stops (rw (e, p, w, f)) (rw (field-here ∙ no-more (isNew letters) (isField part) (not (eqb b 42)) f))
+          shut w f = stops (rw (e, p, w, f)) (rw (field-here ∙ no-more (isNew (book .letters)) (isField part) (not (eqb b 42)) f))
             where
               no-more : (t u v : Bool) → (t and u) ≡ false → (t and (u and v)) ≡ false
               no-more true true v f = absurd (let y : _≡_ {A = ℕ} 0 1 = cc in omega arith)
@@ -206,7 +206,7 @@ module _ (letters : Letters) (n place : ℕ) (kind : Kind) (field : ℕ → Bool
               no-more false u v f = refl
 
           -- it begins a letter
-          opens : (left : ℕ) → leadOf b .left ≡ suc left → (isNew letters and isField part) ≡ true → Goal
+          opens : (left : ℕ) → leadOf b .left ≡ suc left → (isNew (book .letters) and isField part) ≡ true → Goal
           unfolding step inside within beyond moved follows letterHere letterIn wholeOf
           opens left w f =
               let some : 0 < leadOf b .left = omega arith in
@@ -214,10 +214,10 @@ module _ (letters : Letters) (n place : ℕ) (kind : Kind) (field : ℕ → Bool
               let plain : printable b ≡ false = high-unprintable b (l .high) in
               let unstarred : eqb b 42 ≡ false = ne-eqb b 42 (λ q. let h = l .high in omega arith) in
               let may : field at ≡ true =
-              rw (field-here, and-l (isNew letters) (isField part) f, and-r (isNew letters) (isField part) f, unstarred) yes in
-              let goes : step letters (Inside idle) b at ≡ Inside (stand kind (partAfter part b) last (leadOf b) at) =
+              rw (field-here, and-l (isNew (book .letters)) (isField part) f, and-r (isNew (book .letters)) (isField part) f, unstarred) yes in
+              let goes : step book (Inside idle) b at ≡ Inside (stand kind (partAfter part b) last (leadOf b) at) =
               rw (e, p, w, unfinished left, f, kind-stays kind part b s (r .plain), plain) in
-              run-inside letters n place (Inside idle) b s at goes
+              run-inside book n place (Inside idle) b s at goes
               ∙ rest last (leadOf b .low) (leadOf b .high) (leadOf b .left) at (ready-on r (leadOf b .low) (leadOf b .left) at (λ _. l .low) (λ _. omega arith))
               ∙ sym (λ i. cut (later i) (by-follow (follows (leadOf b .low) (leadOf b .high) (leadOf b .left) s) refl may i))
             where
@@ -230,7 +230,7 @@ module _ (letters : Letters) (n place : ℕ) (kind : Kind) (field : ℕ → Bool
                   bad-here kind field last b s at p (ap (λ (m : Bool). letterHere m (b ∷ s)) o ∙ (λ i. wholeOf (w i) (g i)))
                   ∙ sym (λ i. cond (g i) (badIn kind field last (w i) s (at + 1)) at)
 
-      quiet : (t : Bool) → ends kind b ≡ t → (u : Bool) → permitted kind last b ≡ u → (left : ℕ) → leadOf b .left ≡ left → (v : Bool) → (isNew letters and isField part) ≡ v → Goal
+      quiet : (t : Bool) → ends kind b ≡ t → (u : Bool) → permitted kind last b ≡ u → (left : ℕ) → leadOf b .left ≡ left → (v : Bool) → (isNew (book .letters) and isField part) ≡ v → Goal
       quiet true e u p left w v f = complete e
       quiet false e true p left w v f = goes-on e p
       quiet false e false p zero w v f = none e p (eq-eqb (leadOf b .left) 0 w)
@@ -241,6 +241,6 @@ module _ (letters : Letters) (n place : ℕ) (kind : Kind) (field : ℕ → Bool
   comes [] at part last low high left lead r = at-end part last low high left lead at r
   comes (b ∷ s) at part last low high zero lead r =
       quiet part last b s at low high lead r (comes s (at + 1) (partAfter part b))
-      (ends kind b) refl (permitted kind last b) refl (leadOf b .left) refl (isNew letters and isField part) refl
+      (ends kind b) refl (permitted kind last b) refl (leadOf b .left) refl (isNew (book .letters) and isField part) refl
   comes (b ∷ s) at part last low high (suc left) lead r =
       begun part last b s at low high left lead r (comes s (at + 1) (partAfter part b)) (table.within low high b) refl

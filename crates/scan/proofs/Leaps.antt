@@ -18,7 +18,7 @@ use Rattle.scan.specs.Plain.{stops, plainTo}
 use Rattle.scan.specs.Scan.{endOf}
 use Rattle.scan.specs.Ways.{idle, kindAfter, moved, within, inside, step}
 use Rattle.scan.specs.declared.Kind.{Kind}
-use Rattle.scan.specs.declared.Letters.{Letters}
+use Rattle.book.specs.declared.Book.{Book}
 use Rattle.scan.specs.declared.Scan.{Scan}
 use Rattle.scan.specs.declared.Stand.{Stand}
 use Rattle.scan.specs.declared.Way.the-variants.{Inside}
@@ -26,10 +26,10 @@ use Rattle.scan.proofs.Plain.{not-stopped, printable-may}
 use Rattle.scan.proofs.Run.{at-inside}
 
 -- one byte
-plain-step : (letters : Letters) (s : Stand) (b at : ℕ) → isWhole (s .follow) ≡ true → s .part ≡ Plain → stops (endOf (s .kind)) b ≡ false →
-    step letters (Inside s) b at ≡ Inside (idle (s .kind) Plain b)
+plain-step : (book : Book) (s : Stand) (b at : ℕ) → isWhole (s .follow) ≡ true → s .part ≡ Plain → stops (endOf (s .kind)) b ≡ false →
+    step book (Inside s) b at ≡ Inside (idle (s .kind) Plain b)
 unfolding step inside within moved idle kindAfter opensMacro partAfter
-plain-step letters s b at w p e =
+plain-step book s b at w p e =
     let n = not-stopped (endOf (s .kind)) b e in
     rw (w, n .0, printable-may (s .kind) (s .last) b (n .1), p, n .1)
 
@@ -49,14 +49,14 @@ module _ (end : ℕ) (file : List ℕ) (i : ℕ) {to : ℕ} (q : plainTo end fil
   next : plainTo end file (i + 1) ≡ to
   next = sym (first-at (stops end) file i (goes-on .0) (goes-on .1)) ∙ q
 
-module _ (letters : Letters) (file : List ℕ) (place : ℕ) where
+module _ (book : Book) (file : List ℕ) (place : ℕ) where
   -- the walk behind the byte at i
   abbrev behind : Kind → ℕ → Scan
-  behind kind i = walked letters file place (idle kind Plain (getD file i 0)) (i + 1)
+  behind kind i = walked book file place (idle kind Plain (getD file i 0)) (i + 1)
 
   one : (s : Stand) → isWhole (s .follow) ≡ true → s .part ≡ Plain → (i : ℕ) → (i < length file) × (stops (endOf (s .kind)) (getD file i 0) ≡ false) →
-      behind (s .kind) i ≡ walked letters file place s i
-  one s w p i g = sym (at-inside letters file place (Inside s) i (g .0) (plain-step letters s (getD file i 0) i w p (g .1)))
+      behind (s .kind) i ≡ walked book file place s i
+  one s w p i g = sym (at-inside book file place (Inside s) i (g .0) (plain-step book s (getD file i 0) i w p (g .1)))
 
   more : (kind : Kind) (n i to : ℕ) → i + 1 + n ≡ to → plainTo (endOf kind) file (i + 1) ≡ to → behind kind (to - 1) ≡ behind kind i
   unfolding idle
@@ -66,10 +66,10 @@ module _ (letters : Letters) (file : List ℕ) (place : ℕ) where
       ∙ one (idle kind Plain (getD file i 0)) refl refl (i + 1) (goes-on (endOf kind) file (i + 1) q (omega arith))
 
   pub leap-same : (s : Stand) → isWhole (s .follow) ≡ true → s .part ≡ Plain → (at to : ℕ) → plainTo (endOf (s .kind)) file at ≡ to → at < to →
-      walked letters file place (idle (s .kind) Plain (getD file (to - 1) 0)) to ≡ walked letters file place s at
+      walked book file place (idle (s .kind) Plain (getD file (to - 1) 0)) to ≡ walked book file place s at
   leap-same s w p at to q h =
       let back : to ≡ to - 1 + 1 = omega arith in
-      ap (walked letters file place (idle (s .kind) Plain (getD file (to - 1) 0))) back
+      ap (walked book file place (idle (s .kind) Plain (getD file (to - 1) 0))) back
       ∙ more (s .kind) (to - (at + 1)) at to (omega arith) (next (endOf (s .kind)) file at q h)
       ∙ one s w p at (goes-on (endOf (s .kind)) file at q h)
 

@@ -22,7 +22,7 @@ use Rattle.scan.specs.Plain.{inner, stops, plainTo}
 use Rattle.scan.specs.Scan.{kindOf, textFrom, endOf, ends, cutBy, commandIn, nextCommand}
 use Rattle.scan.specs.declared.Kind.{Kind}
 use Rattle.scan.specs.declared.Kind.the-variants.{Word, Extended, Macro}
-use Rattle.scan.specs.declared.Letters.{Letters}
+use Rattle.book.specs.declared.Book.{Book}
 use Rattle.scan.specs.declared.Scan.the-variants.{Command}
 use Rattle.scan.proofs.Bad.{bad-goes, bad-from}
 use Rattle.scan.proofs.Cut.{cut-found}
@@ -122,9 +122,9 @@ text-behind Extended file place = drop-drop 1 place file
 text-behind Macro file place = drop-drop 1 place file
 
 -- the next command, which begins at `place`, ends where its bytes from 32 to 126 do
-module _ (letters : Letters) (file : List ℕ) (from : ℕ) {place : ℕ} {kind : Kind} {end at : ℕ} where
+module _ (book : Book) (file : List ℕ) (from : ℕ) {place : ℕ} {kind : Kind} {end at : ℕ} where
   pub plain-command : place ≡ skipped file from → kind ≡ kindOf (drop place file) → end ≡ endOf kind → at ≡ plainTo end file (textFrom kind place) →
-      at < length file → getD file at 0 ≡ end → Command kind place (textFrom kind place) at (at + 1) ≡ nextCommand letters file from
+      at < length file → getD file at 0 ≡ end → Command kind place (textFrom kind place) at (at + 1) ≡ nextCommand book file from
   unfolding nextCommand commandIn
   plain-command p k e q h f =
       let t : List ℕ = drop (textFrom kind place) file in
@@ -133,5 +133,5 @@ module _ (letters : Letters) (file : List ℕ) (from : ℕ) {place : ℕ} {kind 
       let j = in-from (stops (endOf kind)) t (textFrom kind place) .0 in
       let same : textFrom kind place + (at - textFrom kind place) ≡ at = omega arith in
       let g : ends kind (getD t (at - textFrom kind place) 0) ≡ true = rw (getD-drop (textFrom kind place) file, same) (eq-eqb _ _ (f ∙ e)) in
-      let r = plain-text kind (inField letters (drop place file) place) t (textFrom kind place) 0 at to (omega arith) g in
+      let r = plain-text kind (inField book (drop place file) place) t (textFrom kind place) 0 at to (omega arith) g in
       rw (← p, ← k, text-behind kind file place, r .0) (sym (cut-found kind (length file) place (r .1) h))

@@ -12,13 +12,15 @@ use lib.ListN.{length, drop, getD}
 use lib.Seq.{getD-drop}
 use borrow.Author.Tests.{ltb-false, le-ltb}
 use Rattle.text.specs.First.{firstIn, skipped}
+use Rattle.book.specs.Books.{under}
+use Rattle.book.specs.declared.Book.{Book}
+use Rattle.book.specs.declared.Letters.the-variants.{Old, New}
 use Rattle.letters.specs.Table.{wholeOf, letterIn}
 use Rattle.letters.proofs.Table.{lead-none}
 use Rattle.scan.specs.Fields.{inField}
 use Rattle.scan.specs.Permitted.{printable, permitted, letterHere, badIn}
 use Rattle.scan.specs.Scan.{kindOf, textFrom, ends, cutBy, commandIn, nextCommand}
 use Rattle.scan.specs.declared.Kind.{Kind}
-use Rattle.scan.specs.declared.Letters.the-variants.{Old, New}
 use Rattle.scan.specs.declared.Scan.{Scan}
 use Rattle.scan.specs.declared.Scan.the-variants.{Command, BadByte, Ended}
 use Rattle.scan.proofs.Bad.{bad-goes, bad-here, bad-from}
@@ -57,9 +59,9 @@ module _ (kind : Kind) (none field : ℕ → Bool) (shut : (i : ℕ) → none i 
       go false p rest = rw (bad-here kind none last b s at p (low-none b s (low 0) (none at)), bad-here kind field last b s at p (low-none b s (low 0) (field at)))
 
 -- under the old rule no letter may stand anywhere
-old-shut : (s : List ℕ) (at i : ℕ) → inField Old s at i ≡ false
+old-shut : (book : Book) (s : List ℕ) (at i : ℕ) → inField (under Old book) s at i ≡ false
 unfolding inField _and_
-old-shut s at i = refl
+old-shut book s at i = refl
 
 -- an answer that is no 2 stays where the first bad byte is later
 cut-kept : (kind : Kind) (n place end bad later : ℕ) → bad ≤ later → ltb bad end ≡ false → cutBy kind n place end later ≡ cutBy kind n place end bad
@@ -73,7 +75,7 @@ unfolding cutBy
 cut-bad-byte kind n place end bad e = rw e
 
 -- the command that these bytes begin with
-module _ (n : ℕ) (s : List ℕ) (place : ℕ) where
+module _ (book : Book) (n : ℕ) (s : List ℕ) (place : ℕ) where
   abbrev kind : Kind
   kind = kindOf s
 
@@ -84,41 +86,41 @@ module _ (n : ℕ) (s : List ℕ) (place : ℕ) where
   text = drop (textFrom kind 0) s
 
   abbrev old : ℕ
-  old = badIn kind (inField Old s place) 0 0 text from
+  old = badIn kind (inField (under Old book) s place) 0 0 text from
 
   -- where the old rule gives no 2, both give the same
-  in-kept : ((bad : ℕ) → commandIn Old n s place ≡ BadByte bad → ⊥) → commandIn New n s place ≡ commandIn Old n s place
+  in-kept : ((bad : ℕ) → commandIn (under Old book) n s place ≡ BadByte bad → ⊥) → commandIn (under New book) n s place ≡ commandIn (under Old book) n s place
   unfolding commandIn
   in-kept h = go (ltb old (firstIn (ends kind) text from)) refl
     where
-      go : (t : Bool) → ltb old (firstIn (ends kind) text from) ≡ t → commandIn New n s place ≡ commandIn Old n s place
+      go : (t : Bool) → ltb old (firstIn (ends kind) text from) ≡ t → commandIn (under New book) n s place ≡ commandIn (under Old book) n s place
       go true e = absurd (h old (cut-bad-byte kind n place (firstIn (ends kind) text from) old e))
       go false e =
-          cut-kept kind n place (firstIn (ends kind) text from) old (badIn kind (inField New s place) 0 0 text from)
-          (bad-sooner kind (inField Old s place) (inField New s place) (old-shut s place) 0 text from) e
+          cut-kept kind n place (firstIn (ends kind) text from) old (badIn kind (inField (under New book) s place) 0 0 text from)
+          (bad-sooner kind (inField (under Old book) s place) (inField (under New book) s place) (old-shut book s place) 0 text from) e
 
-  in-alike : ((i : ℕ) → getD s i 0 < 0x80) → commandIn Old n s place ≡ commandIn New n s place
+  in-alike : ((i : ℕ) → getD s i 0 < 0x80) → commandIn (under Old book) n s place ≡ commandIn (under New book) n s place
   unfolding commandIn
   in-alike low =
       ap (cutBy kind n place (firstIn (ends kind) text from))
-      (bad-alike kind (inField Old s place) (inField New s place) (old-shut s place) 0 text from
+      (bad-alike kind (inField (under Old book) s place) (inField (under New book) s place) (old-shut book s place) 0 text from
       (λ i. rw (getD-drop (textFrom kind 0) s i 0) (low (textFrom kind 0 + i))))
 
-module _ (file : List ℕ) (at : ℕ) where
-  no-bad : {r : Scan} → nextCommand Old file at ≡ r → ((bad : ℕ) → r ≡ BadByte bad → ⊥) → nextCommand New file at ≡ r
+module _ (book : Book) (file : List ℕ) (at : ℕ) where
+  no-bad : {r : Scan} → nextCommand (under Old book) file at ≡ r → ((bad : ℕ) → r ≡ BadByte bad → ⊥) → nextCommand (under New book) file at ≡ r
   unfolding nextCommand
-  no-bad e h = in-kept (length file) (drop (skipped file at) file) (skipped file at) (λ bad q. h bad (sym e ∙ q)) ∙ e
+  no-bad e h = in-kept book (length file) (drop (skipped file at) file) (skipped file at) (λ bad q. h bad (sym e ∙ q)) ∙ e
 
   -- a command, and the end of the file
-  pub kept : {kind : Kind} {place from end next : ℕ} → nextCommand Old file at ≡ Command kind place from end next → nextCommand New file at ≡ Command kind place from end next
+  pub kept : {kind : Kind} {place from end next : ℕ} → nextCommand (under Old book) file at ≡ Command kind place from end next → nextCommand (under New book) file at ≡ Command kind place from end next
   kept e = no-bad e (λ bad q. let z : _≡_ {A = ℕ} 0 1 = cc in omega arith)
 
-  pub kept-end : {place : ℕ} → nextCommand Old file at ≡ Ended place → nextCommand New file at ≡ Ended place
+  pub kept-end : {place : ℕ} → nextCommand (under Old book) file at ≡ Ended place → nextCommand (under New book) file at ≡ Ended place
   kept-end e = no-bad e (λ bad q. let z : _≡_ {A = ℕ} 0 1 = cc in omega arith)
 
   -- a file of bytes below 127
-  pub alike : ((i : ℕ) → getD file i 0 < 127) → nextCommand Old file at ≡ nextCommand New file at
+  pub alike : ((i : ℕ) → getD file i 0 < 127) → nextCommand (under Old book) file at ≡ nextCommand (under New book) file at
   unfolding nextCommand
   alike low =
-      in-alike (length file) (drop (skipped file at) file) (skipped file at)
+      in-alike book (length file) (drop (skipped file at) file) (skipped file at)
       (λ i. rw (getD-drop (skipped file at) file i 0) (let l = low (skipped file at + i) in omega arith))

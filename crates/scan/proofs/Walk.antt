@@ -27,7 +27,7 @@ use Rattle.scan.specs.Scan.{kindOf, textFrom, endOf, ends, cutBy, comman
 use Rattle.scan.specs.Ways.{kindAfter, stand, idle, fresh, moved, within, inside, opening, step, ended, run}
 use Rattle.scan.specs.declared.Kind.{Kind}
 use Rattle.scan.specs.declared.Kind.the-variants.{Word, Extended, Macro}
-use Rattle.scan.specs.declared.Letters.{Letters}
+use Rattle.book.specs.declared.Book.{Book}
 use Rattle.scan.specs.declared.Scan.{Scan}
 use Rattle.scan.specs.declared.Scan.the-variants.{Ended}
 use Rattle.scan.specs.declared.Way.the-variants.{Between, Inside}
@@ -36,43 +36,43 @@ use Rattle.scan.proofs.Cut.{cut-ended}
 use Rattle.scan.proofs.Inside.{Sees, sees-on, Ready, comes}
 use Rattle.scan.proofs.Run.{run-between, run-inside, run-same}
 
-module _ (letters : Letters) (n at b : ℕ) (s : List ℕ) (long : n ≡ at + length (b ∷ s)) where
+module _ (book : Book) (n at b : ℕ) (s : List ℕ) (long : n ≡ at + length (b ∷ s)) where
   abbrev field : ℕ → Bool
-  field = inField letters (b ∷ s) at
+  field = inField book (b ∷ s) at
 
   -- a command that begins with no `%`
-  word : eqb b 37 ≡ false → run letters n at (Inside (fresh Word Start)) (b ∷ s) at ≡ commandIn letters n (b ∷ s) at
+  word : eqb b 37 ≡ false → run book n at (Inside (fresh Word Start)) (b ∷ s) at ≡ commandIn book n (b ∷ s) at
   unfolding idle commandIn textFrom follows kindOf noMacro inField
   word f =
       let kind : kindOf (b ∷ s) ≡ Word = rw (begins-none b s 37 (65 ∷ 77 ∷ []) 2 f, begins-none b s 37 [] 0 f) in
-      rw kind (comes letters n at Word field (b ∷ s) at Start 0 0 0 0 0 ready)
+      rw kind (comes book n at Word field (b ∷ s) at Start 0 0 0 0 0 ready)
     where
-      ready : Ready letters n at Word field Start 0 0 0 (b ∷ s) at
+      ready : Ready book n at Word field Start 0 0 0 (b ∷ s) at
       ready =
           record {
             long = long;
             high = λ z. absurd (omega arith);
             behind = λ z. absurd (omega arith);
             plain = refl;
-            sees = λ i h. ap (λ (t : Bool). isNew letters and t) (sym (word-field b s at i f));
+            sees = λ i h. ap (λ (t : Bool). isNew (book .letters) and t) (sym (word-field b s at i f));
           }
 
   -- behind the `%` of an extended command
   module _ (f : eqb b 37 ≡ true) where
-    pub sees-mark : (kind : Kind) → Sees letters n at kind field Mark s (at + 1)
+    pub sees-mark : (kind : Kind) → Sees book n at kind field Mark s (at + 1)
     unfolding inField
-    sees-mark kind i h = ap (λ (t : Bool). isNew letters and t) (sym (mark-field b s at i f))
+    sees-mark kind i h = ap (λ (t : Bool). isNew (book .letters) and t) (sym (mark-field b s at i f))
 
-    extended : s begins "AM" ≡ false → run letters n at (Inside (fresh Extended Mark)) s (at + 1) ≡ commandIn letters n (b ∷ s) at
+    extended : s begins "AM" ≡ false → run book n at (Inside (fresh Extended Mark)) s (at + 1) ≡ commandIn book n (b ∷ s) at
     unfolding idle commandIn textFrom follows kindOf sameBytes noMacro
     extended g =
         let kind : kindOf (b ∷ s) ≡ Extended = extended-kind in
-        rw kind (comes letters n at Extended field s (at + 1) Mark 0 0 0 0 0 ready)
+        rw kind (comes book n at Extended field s (at + 1) Mark 0 0 0 0 0 ready)
       where
         extended-kind : kindOf (b ∷ s) ≡ Extended
         extended-kind = rw (begins-next b s 37 (65 ∷ 77 ∷ []) 2 f, g, begins-next b s 37 [] 0 f)
 
-        ready : Ready letters n at Extended field Mark 0 0 0 s (at + 1)
+        ready : Ready book n at Extended field Mark 0 0 0 s (at + 1)
         ready =
             record {
               long = omega arith;
@@ -83,7 +83,7 @@ module _ (letters : Letters) (n at b : ℕ) (s : List ℕ) (long : n ≡ at + le
             }
 
 -- `%AM`
-module _ (letters : Letters) (n at b : ℕ) (r : List ℕ) (long : n ≡ at + length (b ∷ 65 ∷ 77 ∷ r)) (f : eqb b 37 ≡ true) where
+module _ (book : Book) (n at b : ℕ) (r : List ℕ) (long : n ≡ at + length (b ∷ 65 ∷ 77 ∷ r)) (f : eqb b 37 ≡ true) where
   abbrev all : List ℕ
   all = b ∷ 65 ∷ 77 ∷ r
 
@@ -91,23 +91,23 @@ module _ (letters : Letters) (n at b : ℕ) (r : List ℕ) (long : n ≡ at + le
   unfolding kindOf sameBytes
   macro-kind = rw (begins-next b (65 ∷ 77 ∷ r) 37 (65 ∷ 77 ∷ []) 2 f)
 
-  first-two : run letters n at (Inside (fresh Extended Mark)) (65 ∷ 77 ∷ r) (at + 1) ≡ run letters n at (Inside (stand Macro Plain 77 nothing 0)) r (at + 1 + 1 + 1)
+  first-two : run book n at (Inside (fresh Extended Mark)) (65 ∷ 77 ∷ r) (at + 1) ≡ run book n at (Inside (stand Macro Plain 77 nothing 0)) r (at + 1 + 1 + 1)
   unfolding step inside within idle permitted printable moved kindAfter opensMacro partAfter endOf _and_ _or_
   first-two =
-      run-inside letters n at (Inside (fresh Extended Mark)) 65 (77 ∷ r) (at + 1) {x = stand Extended MarkA 65 nothing 0} refl
-      ∙ run-inside letters n at (Inside (stand Extended MarkA 65 nothing 0)) 77 r (at + 1 + 1) {x = stand Macro Plain 77 nothing 0} refl
+      run-inside book n at (Inside (fresh Extended Mark)) 65 (77 ∷ r) (at + 1) {x = stand Extended MarkA 65 nothing 0} refl
+      ∙ run-inside book n at (Inside (stand Extended MarkA 65 nothing 0)) 77 r (at + 1 + 1) {x = stand Macro Plain 77 nothing 0} refl
 
   end-behind : firstIn (ends Macro) (65 ∷ 77 ∷ r) (at + 1) ≡ firstIn (ends Macro) r (at + 1 + 1 + 1)
   unfolding endOf
   end-behind = first-later (ends Macro) 65 (77 ∷ r) (at + 1) refl ∙ first-later (ends Macro) 77 r (at + 1 + 1) refl
 
-  bad-behind : badIn Macro (inField letters all at) 0 0 (65 ∷ 77 ∷ r) (at + 1) ≡ badIn Macro (inField letters all at) 77 0 r (at + 1 + 1 + 1)
+  bad-behind : badIn Macro (inField book all at) 0 0 (65 ∷ 77 ∷ r) (at + 1) ≡ badIn Macro (inField book all at) 77 0 r (at + 1 + 1 + 1)
   unfolding permitted printable _and_ _or_
   bad-behind =
-      bad-goes Macro (inField letters all at) 0 65 (77 ∷ r) (at + 1) refl
-      ∙ bad-goes Macro (inField letters all at) 65 77 r (at + 1 + 1) refl
+      bad-goes Macro (inField book all at) 0 65 (77 ∷ r) (at + 1) refl
+      ∙ bad-goes Macro (inField book all at) 65 77 r (at + 1 + 1) refl
 
-  ready-macro : Ready letters n at Macro (inField letters all at) Plain 0 0 0 r (at + 1 + 1 + 1)
+  ready-macro : Ready book n at Macro (inField book all at) Plain 0 0 0 r (at + 1 + 1 + 1)
   unfolding partAfter noMacro
   ready-macro =
       record {
@@ -116,60 +116,60 @@ module _ (letters : Letters) (n at b : ℕ) (r : List ℕ) (long : n ≡ at + le
         behind = λ z. absurd (omega arith);
         plain = refl;
         sees =
-            sees-on letters n at Macro (inField letters all at) MarkA 77 r (at + 1 + 1)
-            (sees-on letters n at Macro (inField letters all at) Mark 65 (77 ∷ r) (at + 1)
-            (sees-mark letters n at b (65 ∷ 77 ∷ r) long f Macro));
+            sees-on book n at Macro (inField book all at) MarkA 77 r (at + 1 + 1)
+            (sees-on book n at Macro (inField book all at) Mark 65 (77 ∷ r) (at + 1)
+            (sees-mark book n at b (65 ∷ 77 ∷ r) long f Macro));
       }
 
-  macro : run letters n at (Inside (fresh Extended Mark)) (65 ∷ 77 ∷ r) (at + 1) ≡ commandIn letters n all at
+  macro : run book n at (Inside (fresh Extended Mark)) (65 ∷ 77 ∷ r) (at + 1) ≡ commandIn book n all at
   unfolding commandIn textFrom follows
   macro =
       rw macro-kind
       (first-two
-      ∙ comes letters n at Macro (inField letters all at) r (at + 1 + 1 + 1) Plain 77 0 0 0 0 ready-macro
+      ∙ comes book n at Macro (inField book all at) r (at + 1 + 1 + 1) Plain 77 0 0 0 0 ready-macro
       ∙ sym (λ i. cutBy Macro n at (end-behind i) (bad-behind i)))
 
 -- behind `%`, whatever comes
-marked : (letters : Letters) (n at b : ℕ) (s : List ℕ) → n ≡ at + length (b ∷ s) → eqb b 37 ≡ true →
-    run letters n at (Inside (fresh Extended Mark)) s (at + 1) ≡ commandIn letters n (b ∷ s) at
+marked : (book : Book) (n at b : ℕ) (s : List ℕ) → n ≡ at + length (b ∷ s) → eqb b 37 ≡ true →
+    run book n at (Inside (fresh Extended Mark)) s (at + 1) ≡ commandIn book n (b ∷ s) at
 unfolding sameBytes
-marked letters n at b [] long f = extended letters n at b [] long f refl
-marked letters n at b (c ∷ []) long f = go (eqb c 65) refl
+marked book n at b [] long f = extended book n at b [] long f refl
+marked book n at b (c ∷ []) long f = go (eqb c 65) refl
   where
-    go : (t : Bool) → eqb c 65 ≡ t → run letters n at (Inside (fresh Extended Mark)) (c ∷ []) (at + 1) ≡ commandIn letters n (b ∷ c ∷ []) at
-    go true g = extended letters n at b (c ∷ []) long f (rw (sameBytes, g))
-    go false g = extended letters n at b (c ∷ []) long f (rw (sameBytes, g))
-marked letters n at b (c ∷ d ∷ r) long f = go (eqb c 65) refl (eqb d 77) refl
+    go : (t : Bool) → eqb c 65 ≡ t → run book n at (Inside (fresh Extended Mark)) (c ∷ []) (at + 1) ≡ commandIn book n (b ∷ c ∷ []) at
+    go true g = extended book n at b (c ∷ []) long f (rw (sameBytes, g))
+    go false g = extended book n at b (c ∷ []) long f (rw (sameBytes, g))
+marked book n at b (c ∷ d ∷ r) long f = go (eqb c 65) refl (eqb d 77) refl
   where
-    go : (t : Bool) → eqb c 65 ≡ t → (u : Bool) → eqb d 77 ≡ u → run letters n at (Inside (fresh Extended Mark)) (c ∷ d ∷ r) (at + 1) ≡ commandIn letters n (b ∷ c ∷ d ∷ r) at
-    go true g true h = rw (eqb-true c 65 g, eqb-true d 77 h) (macro letters n at b r long f)
-    go true g false h = extended letters n at b (c ∷ d ∷ r) long f (rw (sameBytes, g, sameBytes, h))
-    go false g u h = extended letters n at b (c ∷ d ∷ r) long f (rw (sameBytes, g))
+    go : (t : Bool) → eqb c 65 ≡ t → (u : Bool) → eqb d 77 ≡ u → run book n at (Inside (fresh Extended Mark)) (c ∷ d ∷ r) (at + 1) ≡ commandIn book n (b ∷ c ∷ d ∷ r) at
+    go true g true h = rw (eqb-true c 65 g, eqb-true d 77 h) (macro book n at b r long f)
+    go true g false h = extended book n at b (c ∷ d ∷ r) long f (rw (sameBytes, g, sameBytes, h))
+    go false g u h = extended book n at b (c ∷ d ∷ r) long f (rw (sameBytes, g))
 
 -- from the first byte of a command on
-module _ (letters : Letters) (n at b : ℕ) (s : List ℕ) (long : n ≡ at + length (b ∷ s)) (e : isBreak b ≡ false) where
-  pub opens : run letters n at Between (b ∷ s) at ≡ commandIn letters n (b ∷ s) at
+module _ (book : Book) (n at b : ℕ) (s : List ℕ) (long : n ≡ at + length (b ∷ s)) (e : isBreak b ≡ false) where
+  pub opens : run book n at Between (b ∷ s) at ≡ commandIn book n (b ∷ s) at
   unfolding step inside opening idle
   opens = go (eqb b 37) refl
     where
-      go : (t : Bool) → eqb b 37 ≡ t → run letters n at Between (b ∷ s) at ≡ commandIn letters n (b ∷ s) at
-      go true f = run-inside letters n at Between b s at {x = fresh Extended Mark} (rw (e, f)) ∙ marked letters n at b s long f
-      go false f = run-same letters n at Between (Inside (fresh Word Start)) b s at (rw (e, f)) ∙ word letters n at b s long f
+      go : (t : Bool) → eqb b 37 ≡ t → run book n at Between (b ∷ s) at ≡ commandIn book n (b ∷ s) at
+      go true f = run-inside book n at Between b s at {x = fresh Extended Mark} (rw (e, f)) ∙ marked book n at b s long f
+      go false f = run-same book n at Between (Inside (fresh Word Start)) b s at (rw (e, f)) ∙ word book n at b s long f
 
 -- between commands
-module _ (letters : Letters) (file : List ℕ) where
+module _ (book : Book) (file : List ℕ) where
   abbrev there : ℕ → Bool
   there = λ b. not (isBreak b)
 
   -- the place that s begins at, in a file that is s from there on
   abbrev Next : List ℕ → ℕ → Type 0
-  Next s at = drop at file ≡ s → run letters (length file) at Between s at ≡ nextCommand letters file at
+  Next s at = drop at file ≡ s → run book (length file) at Between s at ≡ nextCommand book file at
 
   -- the command at a place
   abbrev at-place : ℕ → Scan
-  at-place p = commandIn letters (length file) (drop p file) p
+  at-place p = commandIn book (length file) (drop p file) p
 
-  nothing-left : (at : ℕ) → length file ≤ at → commandIn letters (length file) [] at ≡ Ended (length file)
+  nothing-left : (at : ℕ) → length file ≤ at → commandIn book (length file) [] at ≡ Ended (length file)
   unfolding commandIn kindOf sameBytes textFrom firstIn badIn
   nothing-left at h = cut-ended Word (length file) at (omega arith) h
 
@@ -177,7 +177,7 @@ module _ (letters : Letters) (file : List ℕ) where
   unfolding run ended nextCommand firstIn
   walk-end at h e =
       let here : skipped file at ≡ at = ap (λ s. firstIn there s at) e in
-      sym (ap at-place here ∙ ap (λ s. commandIn letters (length file) s at) e ∙ nothing-left at h)
+      sym (ap at-place here ∙ ap (λ s. commandIn book (length file) s at) e ∙ nothing-left at h)
 
   module _ (b : ℕ) (s : List ℕ) (at : ℕ) (e : drop at file ≡ b ∷ s) where
     behind : drop (at + 1) file ≡ s
@@ -189,19 +189,19 @@ module _ (letters : Letters) (file : List ℕ) where
         let m : length (drop at file) ≡ suc (length s) = ap length e in
         omega arith
 
-    walk-break : isBreak b ≡ true → run letters (length file) (at + 1) Between s (at + 1) ≡ nextCommand letters file (at + 1) →
-        run letters (length file) at Between (b ∷ s) at ≡ nextCommand letters file at
+    walk-break : isBreak b ≡ true → run book (length file) (at + 1) Between s (at + 1) ≡ nextCommand book file (at + 1) →
+        run book (length file) at Between (b ∷ s) at ≡ nextCommand book file at
     unfolding step nextCommand
     walk-break f rest =
         let on : skipped file at ≡ skipped file (at + 1) =
         ap (λ s. firstIn there s at) e ∙ first-later there b s at (ap not f) ∙ sym (ap (λ s. firstIn there s (at + 1)) behind) in
-        run-between letters (length file) at Between b s at (rw f) ∙ rest ∙ sym (ap at-place on)
+        run-between book (length file) at Between b s at (rw f) ∙ rest ∙ sym (ap at-place on)
 
-    walk-open : isBreak b ≡ false → run letters (length file) at Between (b ∷ s) at ≡ nextCommand letters file at
+    walk-open : isBreak b ≡ false → run book (length file) at Between (b ∷ s) at ≡ nextCommand book file at
     unfolding nextCommand
     walk-open f =
         let here : skipped file at ≡ at = ap (λ s. firstIn there s at) e ∙ first-here there b s at (ap not f) in
-        opens letters (length file) at b s long f ∙ sym (ap at-place here ∙ ap (λ s. commandIn letters (length file) s at) e)
+        opens book (length file) at b s long f ∙ sym (ap at-place here ∙ ap (λ s. commandIn book (length file) s at) e)
 
   pub walk : (s : List ℕ) (at : ℕ) → Next s at
   walk [] at e =
@@ -210,7 +210,7 @@ module _ (letters : Letters) (file : List ℕ) where
       walk-end at (omega arith) e
   walk (b ∷ s) at e = go (isBreak b) refl (walk s (at + 1) (behind b s at e))
     where
-      go : (t : Bool) → isBreak b ≡ t → run letters (length file) (at + 1) Between s (at + 1) ≡ nextCommand letters file (at + 1) →
-          run letters (length file) at Between (b ∷ s) at ≡ nextCommand letters file at
+      go : (t : Bool) → isBreak b ≡ t → run book (length file) (at + 1) Between s (at + 1) ≡ nextCommand book file (at + 1) →
+          run book (length file) at Between (b ∷ s) at ≡ nextCommand book file at
       go true f rest = walk-break b s at e f rest
       go false f rest = walk-open b s at e f

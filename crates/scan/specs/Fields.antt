@@ -4,8 +4,9 @@ use mathlib.Core.Bool.{Bool, true, false}
 use mathlib.Core.List.{List}
 use Rattle.base.specs.And.{_and_}
 use Rattle.fields.specs.Fields.{fieldHas}
-use Rattle.scan.specs.declared.Letters.{Letters}
-use Rattle.scan.specs.declared.Letters.the-variants.{Old, New}
+use Rattle.book.specs.declared.Book.{Book}
+use Rattle.book.specs.declared.Letters.{Letters}
+use Rattle.book.specs.declared.Letters.the-variants.{Old, New}
 
 -- the rule lets letters in
 abbrev pub isNew : Letters → Bool
@@ -13,5 +14,5 @@ isNew Old = false
 isNew New = true
 
 -- and place i is in the field of the command that these bytes begin with, the first of them at `at`
-unfoldable pub inField : Letters → List ℕ → ℕ → ℕ → Bool
-inField letters s at i = isNew letters and fieldHas s at i
+unfoldable pub inField : Book → List ℕ → ℕ → ℕ → Bool
+inField book s at i = isNew (book .letters) and fieldHas s at i

@@ -5,15 +5,15 @@ use mathlib.Core.List.{List}
 use lib.ListN.{length, drop}
 use Rattle.scan.specs.Ways.{run}
 use Rattle.scan.specs.declared.Landed.{Landed}
-use Rattle.scan.specs.declared.Letters.{Letters}
+use Rattle.book.specs.declared.Book.{Book}
 use Rattle.scan.specs.declared.Scan.{Scan}
 use Rattle.scan.specs.declared.Stand.{Stand}
 use Rattle.scan.specs.declared.Way.the-variants.{Inside}
 
 -- what the walk comes to, from inside a command on
-abbrev pub walked : Letters → List ℕ → ℕ → Stand → ℕ → Scan
-walked letters file place s at = run letters (length file) place (Inside s) (drop at file) at
+abbrev pub walked : Book → List ℕ → ℕ → Stand → ℕ → Scan
+walked book file place s at = run book (length file) place (Inside s) (drop at file) at
 
 pub record Leaps (file : List ℕ) (s : Stand) (at : ℕ) (r : Landed) : Type 0 where
   pub on : at ≤ r .at
-  pub same : (letters : Letters) (place : ℕ) → walked letters file place (r .stand) (r .at) ≡ walked letters file place s at
+  pub same : (book : Book) (place : ℕ) → walked book file place (r .stand) (r .at) ≡ walked book file place s at

@@ -16,7 +16,7 @@ use Rattle.scan.specs.Permitted.{printable, permitted}
 use Rattle.scan.specs.Scan.{ends, textFrom}
 use Rattle.scan.specs.declared.Kind.{Kind}
 use Rattle.scan.specs.declared.Kind.the-variants.{Word, Extended, Macro}
-use Rattle.scan.specs.declared.Letters.{Letters}
+use Rattle.book.specs.declared.Book.{Book}
 use Rattle.scan.specs.declared.Scan.{Scan}
 use Rattle.scan.specs.declared.Scan.the-variants.{Command, BadByte, Ended}
 use Rattle.scan.specs.declared.Stand.{Stand}
@@ -44,36 +44,36 @@ moved s b follow lead =
     stand (kindAfter (s .kind) (s .part) b) (partAfter (s .part) b) (cond (printable b) b (s .last)) follow lead
 
 -- a byte that is not permitted under the old rule, at `at`
-unfoldable pub beyond : Letters → Stand → ℕ → ℕ → Way
-beyond letters s b at =
+unfoldable pub beyond : Book → Stand → ℕ → ℕ → Way
+beyond book s b at =
     cond (isWhole (leadOf b)) (Bad at)
-    (cond (isNew letters and isField (s .part)) (Inside (moved s b (leadOf b) at))
+    (cond (isNew (book .letters) and isField (s .part)) (Inside (moved s b (leadOf b) at))
     (Bad at))
 
 -- a byte of a command, no letter being begun
-unfoldable pub within : Letters → Stand → ℕ → ℕ → Way
-within letters s b at =
+unfoldable pub within : Book → Stand → ℕ → ℕ → Way
+within book s b at =
     cond (ends (s .kind) b) (Complete (s .kind))
     (cond (permitted (s .kind) (s .last) b) (Inside (moved s b nothing 0))
-    (beyond letters s b at))
+    (beyond book s b at))
 
 -- a byte behind a lead
 unfoldable pub following : Stand → ℕ → Way
 following s b = cond (takes (s .follow) b) (Inside (moved s b (fed (s .follow)) (s .lead))) (Bad (s .lead))
 
-unfoldable pub inside : Letters → Stand → ℕ → ℕ → Way
-inside letters s b at = cond (isWhole (s .follow)) (within letters s b at) (following s b)
+unfoldable pub inside : Book → Stand → ℕ → ℕ → Way
+inside book s b at = cond (isWhole (s .follow)) (within book s b at) (following s b)
 
 -- the first byte of a command
-unfoldable pub opening : Letters → ℕ → ℕ → Way
-opening letters b at = cond (eqb b (code "%")) (Inside (fresh Extended Mark)) (within letters (fresh Word Start) b at)
+unfoldable pub opening : Book → ℕ → ℕ → Way
+opening book b at = cond (eqb b (code "%")) (Inside (fresh Extended Mark)) (within book (fresh Word Start) b at)
 
 -- a byte more
-unfoldable pub step : Letters → Way → ℕ → ℕ → Way
-step letters Between b at = cond (isBreak b) Between (opening letters b at)
-step letters (Inside s) b at = inside letters s b at
-step letters (Complete kind) b at = Complete kind
-step letters (Bad place) b at = Bad place
+unfoldable pub step : Book → Way → ℕ → ℕ → Way
+step book Between b at = cond (isBreak b) Between (opening book b at)
+step book (Inside s) b at = inside book s b at
+step book (Complete kind) b at = Complete kind
+step book (Bad place) b at = Bad place
 
 -- the file ends here, with n bytes
 unfoldable pub ended : ℕ → Way → Scan
@@ -83,12 +83,12 @@ ended n (Complete kind) = Ended n
 ended n (Bad place) = BadByte place
 
 -- bytes taken one by one up to the end of the next command; `place` is where it begins
-unfoldable pub run : Letters → ℕ → ℕ → Way → List ℕ → ℕ → Scan
-run letters n place way [] at = ended n way
-run letters n place way (b ∷ s) at =
-    elim (step letters way b at) [
-      | Between ↦ run letters n (at + 1) Between s (at + 1)
-      | Inside stand ↦ run letters n place (Inside stand) s (at + 1)
+unfoldable pub run : Book → ℕ → ℕ → Way → List ℕ → ℕ → Scan
+run book n place way [] at = ended n way
+run book n place way (b ∷ s) at =
+    elim (step book way b at) [
+      | Between ↦ run book n (at + 1) Between s (at + 1)
+      | Inside stand ↦ run book n place (Inside stand) s (at + 1)
       | Complete kind ↦ Command kind place (textFrom kind place) at (at + 1)
       | Bad bad ↦ BadByte bad
     ]

@@ -10,6 +10,7 @@ use Rattle.base.specs.Or.{_or_}
 use Rattle.base.specs.Bytes.{sameBytes}
 use Rattle.text.specs.First.{firstIn}
 use Rattle.text.specs.Text.{text, among}
+use Rattle.book.specs.Books.{ascii}
 use Rattle.scan.specs.Fields.{inField}
 use Rattle.scan.specs.Permitted.{printable, breaksAfter, mayBreak, permitted, letterHere, badIn}
 use Rattle.scan.specs.Scan.{kindOf, textFrom, endOf, cutBy, commandIn, nextCommand}
@@ -49,7 +50,7 @@ files =
     ∷ []
 
 abbrev told : List ℕ → ℕ × ℕ
-told file = (signatureOf file .number, signatureOf file .place)
+told file = (signatureOf ascii file .number, signatureOf ascii file .place)
 
 abbrev refusal : String × ℕ × ℕ → ℕ × ℕ
 refusal row = (row .1, row .2)

@@ -3,3 +3,4 @@ pub mod Judged
 pub mod Notes
 pub mod Short
 pub mod Walking
+pub mod Rules

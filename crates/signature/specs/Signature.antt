@@ -6,7 +6,7 @@ use lib.ListN.{length, replicate}
 use lib.Seq.{slice}
 use Rattle.scan.specs.Scan.{nextCommand}
 use Rattle.scan.specs.Tail.{tailOf}
-use Rattle.scan.specs.declared.Letters.the-variants.{Old}
+use Rattle.book.specs.declared.Book.{Book}
 use Rattle.scan.specs.declared.Scan.the-variants.{Command, BadByte, Ended}
 use Rattle.scan.specs.declared.Tail.the-variants.{Clean, Unprintable, More}
 use Rattle.digest.specs.Md5.{md5}
@@ -42,18 +42,18 @@ atEnd file from to place next =
     ]
 
 -- the commands from `at` on, up to M02; the one before them stands from `from` up to `at`, which is nothing at the start
-unfoldable pub walked : ℕ → List ℕ → ℕ → ℕ → Answer
-walked zero file from at = refused 3 (length file)
-walked (suc n) file from at =
-    elim (nextCommand Old file at) [
+unfoldable pub walked : Book → ℕ → List ℕ → ℕ → ℕ → Answer
+walked book zero file from at = refused 3 (length file)
+walked book (suc n) file from at =
+    elim (nextCommand book file at) [
       | Command kind place text end next ↦ elim (isEnd (bare file place next)) [
         | true ↦ atEnd file from at place next
-        | false ↦ walked n file place next
+        | false ↦ walked book n file place next
       ]
       | BadByte place ↦ refused 2 place
       | Ended place ↦ refused 3 place
     ]
 
 -- no file has more commands than bytes
-unfoldable pub signatureOf : List ℕ → Answer
-signatureOf file = walked (suc (length file)) file 0 0
+unfoldable pub signatureOf : Book → List ℕ → Answer
+signatureOf book file = walked book (suc (length file)) file 0 0

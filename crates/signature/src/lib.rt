@@ -1,6 +1,6 @@
 // The signature of a file: the `.MD5` just before M02 compared with the digest of what stands before it.
+use book::Book;
 use digest::State;
-use scan::Letters;
 use scan::Scan;
 use scan::Tail;
 ghost use mathlib.Core.Path.{_≡_};
@@ -146,14 +146,14 @@ fn at_end(file: &[u8], from: usize, to: usize, place: usize, next: usize) -> Ans
     }
 }
 
-// Whether a file is signed: its digest, or the refusal.
-pub fn check(file: &[u8]) -> Answer
-    ensures { λ r. ⌜ r ≡ signatureOf (now (file .entry)) ⌝ }
+// Whether a file is signed, by a book: its digest, or the refusal.
+pub fn check(book: Book, file: &[u8]) -> Answer
+    ensures { λ r. ⌜ r ≡ signatureOf book (now (file .entry)) ⌝ }
 {
     let mut from: usize = 0;
     let mut at: usize = 0;
     loop {
-        let s = scan::next_command(Letters::Old, file, at);
+        let s = scan::next_command(book, file, at);
         match s {
             Scan::Command {
                 kind,

@@ -4,6 +4,8 @@ use Prim.Native.Nat.{ℕ}
 use mathlib.Core.Path.{_≡_, subst}
 use mathlib.Core.List.{List, []}
 use lib.ListN.{length}
+use Rattle.book.specs.declared.Book.{Book}
+use Rattle.commands.specs.Rounded.{roundedIn}
 use Rattle.base.proofs.And.{ands}
 use Rattle.sheet.specs.Containers.{aperturesUsed}
 use Rattle.summaries.proofs.Totals.{counts-add-up}
@@ -29,10 +31,10 @@ kept-knows : {room : Room} {file : List ℕ} {s t : State} {cs : List Placed} �
 kept-knows nothing k = k
 kept-knows {room = room} {s = s} (one {c = c} e w) k = kept-knows w (step-knows room _ (c .place) (c .command) s e k)
 
-module _ (w w′ : Lent) (head : List ℕ) (r : code.Answer) (reads : Reads (reading (roomOf w) (w .file)) w w′ head r) (k : Accepts w) where
+module _ (book : Book) (w w′ : Lent) (head : List ℕ) (r : code.Answer) (reads : Reads (roundedIn book (w .file)) (reading book (roomOf w) (w .file)) w w′ head r) (k : Accepts book w) where
   left : Leaves (w .file) head (w′ .entries) (w′ .apertures) (w′ .macros) (w′ .numbers) (k .state)
   unfolding Reads
-  left = subst (λ (a : Answer). Reads a w w′ head r) (keeps-accepted (roomOf w) (w .file) (k .keeps)) reads .2
+  left = subst (λ (a : Answer). Reads (roundedIn book (w .file)) a w w′ head r) (keeps-accepted book (roomOf w) (w .file) (k .keeps)) reads .2
 
   knows : Knows (k .state)
   knows = kept-knows (k .keeps .commands) begun-knows

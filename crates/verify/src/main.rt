@@ -1,4 +1,4 @@
-// Whether the file on standard input is signed: `signed` and the digest, or `refused`, the number and the place, tab-parted.
+// Whether the file on standard input is signed, by the old rule of letters: `signed` and the digest, or `refused`, the number and the place, tab-parted.
 use intake::Intake;
 use libc::STDIN_FILENO;
 use libc::STDOUT_FILENO;
@@ -24,7 +24,7 @@ fn read_block(s: Intake) -> Turn {
 // Reads the file to its end. The 2^52 - 1 blocks that it may read hold nearly 2^64 bytes, where the count of bytes would wrap; no file
 // is so long.
 fn answer() -> Answer {
-    let mut s = intake::start();
+    let mut s = intake::start(book::ascii());
     let mut left: u64 = 4503599627370495;
     while left > 0 {
         let turn = read_block(s);

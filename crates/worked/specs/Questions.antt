@@ -6,6 +6,7 @@ use mathlib.Core.Bool.{cond}
 use mathlib.Core.List.{List, _++_}
 use lib.IntN.{ℤ, pos}
 use lib.ListN.{getD}
+use Rattle.book.specs.Books.{ascii}
 use Rattle.points.specs.Points.{pt}
 use Rattle.points.specs.declared.Point.{Point}
 use Rattle.text.specs.Text.{text}
@@ -99,7 +100,7 @@ answer (product s t) = reading s (λ a. reading t (λ b. reckonedAs (productOf a
 answer (quotient s t) = reading s (λ a. reading t (λ b. reckonedAs (quotientOf a b)))
 answer (arc from to centre) = readingAt from (λ s. readingAt to (λ e. readingAt centre (λ c. cond (nonsenseCentre s e c) (refused 12) accepted)))
 answer (thermal outer inner gap) = reading outer (λ o. reading inner (λ i. reading gap (λ g. cond (thermalFits o i g) accepted (refused 10))))
-answer (kept s i) = keeping i (file.reading ample (macroFile s))
-answer (primitive s) = judged (file.reading ample (macroFile s))
-answer (drawn s) = judged (file.reading ample (arcFile s))
-answer (listing s) = listed (file.reading ample (text s))
+answer (kept s i) = keeping i (file.reading ascii ample (macroFile s))
+answer (primitive s) = judged (file.reading ascii ample (macroFile s))
+answer (drawn s) = judged (file.reading ascii ample (arcFile s))
+answer (listing s) = listed (file.reading ascii ample (text s))

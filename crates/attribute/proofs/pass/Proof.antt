@@ -12,10 +12,10 @@ use Rattle.attribute.proofs.pass.Statement.{statement}
 use Rattle.attribute.proofs.pass.Tie as tie
 
 abbrev Inv-loop : tie.InvT-loop
-Inv-loop file kind place name n₀ at₀ heard₀ found₀ n at heard found = (at ≤ length file) × (outcome file kind place name found heard (walk n file at) ≡ answerIn file kind place name (walk 0 file 0))
+Inv-loop book file kind place name n₀ at₀ heard₀ found₀ n at heard found = (at ≤ length file) × (outcome file kind place name found heard (walk book n file at) ≡ answerIn file kind place name (walk book 0 file 0))
 
 abbrev μ-loop : tie.MeasureT-loop
-μ-loop file kind place name n₀ at₀ heard₀ found₀ n at heard found = length file - at
+μ-loop book file kind place name n₀ at₀ heard₀ found₀ n at heard found = length file - at
 
 nothing-requires : tie.Need-nothing-requires Inv-loop μ-loop
 nothing-requires c κs = search needs
@@ -36,7 +36,7 @@ returns : tie.Need-returns Inv-loop μ-loop
 returns c =
     let l = c .before .before .before .before .before .loop in
     let e = sym (c .before .before .before .before .turn-at .ensures) ∙ c .before .before .t .given .1 in
-    c .judged .ensures ∙ sym (pass-stops _ _ _ _ _ (l .heard) _) ∙ sym (ap (outcome _ _ _ _ _ _) (walk-fault (l .n) _ (l .at) e)) ∙ l .inv .1
+    c .judged .ensures ∙ sym (pass-stops _ _ _ _ _ (l .heard) _) ∙ sym (ap (outcome _ _ _ _ _ _) (walk-fault _ (l .n) _ (l .at) e)) ∙ l .inv .1
 
 enum-known-t-2 : tie.Need-enum-known-t-2 Inv-loop μ-loop
 enum-known-t-2 c = search needs
@@ -55,7 +55,7 @@ returns-2 c =
     let l = c .before .before .before .before .before .before .before .loop in
     let e = sym (c .before .before .before .before .before .before .turn-at .ensures) ∙ c .before .before .before .before .t2 .given .1 in
     simp (c .judged2 .ensures, c .before .met .ensures, c .before .before .tail-fault .ensures)
-    (sym (pass-stops _ _ _ _ _ _ _) ∙ sym (pass-more _ _ _ _ (l .found) (l .heard) _ _) ∙ sym (ap (outcome _ _ _ _ _ _) (walk-last (l .n) _ (l .at) e)) ∙ l .inv .1)
+    (sym (pass-stops _ _ _ _ _ _ _) ∙ sym (pass-more _ _ _ _ (l .found) (l .heard) _ _) ∙ sym (ap (outcome _ _ _ _ _ _) (walk-last _ (l .n) _ (l .at) e)) ∙ l .inv .1)
 
 enum-known-t-3 : tie.Need-enum-known-t-3 Inv-loop μ-loop
 enum-known-t-3 c = search needs
@@ -70,15 +70,15 @@ loop-less : tie.Need-loop-less Inv-loop μ-loop
 loop-less c =
     let l = c .before .before .before .before .before .before .loop in
     let e = sym (c .before .before .before .before .before .turn-at .ensures) ∙ c .before .before .before .t3 .given .1 in
-    omega (arith, more-onward (l .n) _ (l .at) (l .inv .0) e .0, more-onward (l .n) _ (l .at) (l .inv .0) e .1)
+    omega (arith, more-onward _ (l .n) _ (l .at) (l .inv .0) e .0, more-onward _ (l .n) _ (l .at) (l .inv .0) e .1)
 
 loop-again : tie.Need-loop-again Inv-loop μ-loop
 loop-again c =
     let l = c .before .before .before .before .before .before .loop in
     let e = sym (c .before .before .before .before .before .turn-at .ensures) ∙ c .before .before .before .t3 .given .1 in (
-      more-onward (l .n) _ (l .at) (l .inv .0) e .1,
+      more-onward _ (l .n) _ (l .at) (l .inv .0) e .1,
       simp (c .heard-with .ensures, c .before .met2 .ensures)
-          (sym (pass-more _ _ _ _ (l .found) (l .heard) _ _) ∙ sym (ap (outcome _ _ _ _ _ _) (walk-more (l .n) _ (l .at) (l .inv .0) e)) ∙ l .inv .1),
+          (sym (pass-more _ _ _ _ (l .found) (l .heard) _ _) ∙ sym (ap (outcome _ _ _ _ _ _) (walk-more _ (l .n) _ (l .at) (l .inv .0) e)) ∙ l .inv .1),
     )
 
 pub pass-spec : {M : Type 1} → statement M

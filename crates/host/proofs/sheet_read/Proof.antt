@@ -26,7 +26,7 @@ same-length-4 : tie.Need-same-length-4
 same-length-4 c = search needs
 
 returns : tie.Need-returns
-returns c = reads-accepted _ _ _ _ _ _ _ (c .before .before .before .before .before .before .before .before .before .before .read .ensures) (c .before .a .given .1)
+returns c = reads-accepted _ _ _ _ _ _ _ _ (c .before .before .before .before .before .before .before .before .before .before .read .ensures) (c .before .a .given .1)
 
 same-length-5 : tie.Need-same-length-5
 same-length-5 c = search needs
@@ -41,7 +41,7 @@ same-length-8 : tie.Need-same-length-8
 same-length-8 c = search needs
 
 returns-2 : tie.Need-returns-2
-returns-2 c = reads-refused _ _ _ _ _ _ _ (c .before .before .before .before .before .before .before .before .before .before .read .ensures) (c .before .a2 .given .1)
+returns-2 c = reads-refused _ _ _ _ _ _ _ _ (c .before .before .before .before .before .before .before .before .before .before .read .ensures) (c .before .a2 .given .1)
 
 pub sheet-read-spec : {M : Type 1} → statement M
 sheet-read-spec =

@@ -16,10 +16,10 @@ use Rattle.names.proofs.first_at.Statement.{statement}
 use Rattle.names.proofs.first_at.Tie as tie
 
 abbrev Inv-loop : tie.InvT-loop
-Inv-loop file name at₀ at = (at ≤ length file) × (firstIn file at (name ∷ []) ≡ firstAt file name)
+Inv-loop book file name at₀ at = (at ≤ length file) × (firstIn book file at (name ∷ []) ≡ firstAt book file name)
 
 abbrev μ-loop : tie.MeasureT-loop
-μ-loop file name at₀ at = length file - at
+μ-loop book file name at₀ at = length file - at
 
 loop-holds : tie.Need-loop-holds Inv-loop μ-loop
 unfolding firstAt
@@ -34,32 +34,32 @@ enum-told c = search needs
 returns : tie.Need-returns Inv-loop μ-loop
 returns c =
     let l = c .before .before .before .loop in
-    sym (first-end _ (l .at) _ (sym (c .before .before .look-at .ensures) ∙ c .enum-told .given .1)) ∙ l .inv .1
+    sym (first-end _ _ (l .at) _ (sym (c .before .before .look-at .ensures) ∙ c .enum-told .given .1)) ∙ l .inv .1
 
 enum-known-l : tie.Need-enum-known-l Inv-loop μ-loop
 enum-known-l c = search needs
 
 -- no name is set
-other : (c : tie.After-l Inv-loop μ-loop) → let l = c .before .before .before in lookAt (l .before .before .before .args .file .now) (l .loop .at) ≡ Other (c .l .given .0 .0)
+other : (c : tie.After-l Inv-loop μ-loop) → let l = c .before .before .before in lookAt (l .before .before .before .args .book) (l .before .before .before .args .file .now) (l .loop .at) ≡ Other (c .l .given .0 .0)
 other c = sym (c .before .before .look-at .ensures) ∙ c .l .given .1
 
 loop-less : tie.Need-loop-less Inv-loop μ-loop
 loop-less c =
     let l = c .before .before .before .before .loop in
-    let o = other-onward _ (l .at) (l .inv .0) (other (c .before)) in
+    let o = other-onward _ _ (l .at) (l .inv .0) (other (c .before)) in
     omega (arith, o .0, o .1)
 
 loop-again : tie.Need-loop-again Inv-loop μ-loop
 loop-again c =
     let l = c .before .before .before .before .loop in
-    (other-onward _ (l .at) (l .inv .0) (other (c .before)) .1, sym (first-other _ (l .at) _ (l .inv .0) (other (c .before))) ∙ l .inv .1)
+    (other-onward _ _ (l .at) (l .inv .0) (other (c .before)) .1, sym (first-other _ _ (l .at) _ (l .inv .0) (other (c .before))) ∙ l .inv .1)
 
 enum-known-l-2 : tie.Need-enum-known-l-2 Inv-loop μ-loop
 enum-known-l-2 c = search needs
 
 -- a TF
 naming : (c : tie.After-l2 Inv-loop μ-loop) → let l = c .before .before .before in let v = c .l2 .given .0 in
-    lookAt (l .before .before .before .args .file .now) (l .loop .at) ≡ Naming (v .0) (v .1 .0) (v .1 .1 .0) (v .1 .1 .1 .0)
+    lookAt (l .before .before .before .args .book) (l .before .before .before .args .file .now) (l .loop .at) ≡ Naming (v .0) (v .1 .0) (v .1 .1 .0) (v .1 .1 .1 .0)
 naming c = sym (c .before .before .look-at .ensures) ∙ c .l2 .given .1
 
 part-requires : tie.Need-part-requires Inv-loop μ-loop
@@ -77,20 +77,20 @@ returns-2 : tie.Need-returns-2 Inv-loop μ-loop
 returns-2 c =
     let t = c .before .before .before .before in
     let l = t .before .before .before .loop in
-    sym (first-here _ (l .at) _ (l .inv .0) (naming t) (among-one _ _ (sym (same (c .before)) ∙ c .if1 .taken))) ∙ l .inv .1
+    sym (first-here _ _ (l .at) _ (l .inv .0) (naming t) (among-one _ _ (sym (same (c .before)) ∙ c .if1 .taken))) ∙ l .inv .1
 
 loop-less-2 : tie.Need-loop-less-2 Inv-loop μ-loop
 loop-less-2 c =
     let t = c .before .before .before .before in
     let l = t .before .before .before .loop in
-    let o = naming-onward _ (l .at) (l .inv .0) (naming t) in
+    let o = naming-onward _ _ (l .at) (l .inv .0) (naming t) in
     omega (arith, o .0, o .1, o .2)
 
 loop-again-2 : tie.Need-loop-again-2 Inv-loop μ-loop
 loop-again-2 c =
     let t = c .before .before .before .before in
     let l = t .before .before .before .loop in
-    (naming-onward _ (l .at) (l .inv .0) (naming t) .2, sym (first-on _ (l .at) _ (l .inv .0) (naming t) (among-one _ _ (sym (same (c .before)) ∙ c .if1 .left))) ∙ l .inv .1)
+    (naming-onward _ _ (l .at) (l .inv .0) (naming t) .2, sym (first-on _ _ (l .at) _ (l .inv .0) (naming t) (among-one _ _ (sym (same (c .before)) ∙ c .if1 .left))) ∙ l .inv .1)
 
 pub first-at-spec : {M : Type 1} → statement M
 first-at-spec =

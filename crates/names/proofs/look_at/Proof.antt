@@ -6,7 +6,6 @@ use native.Mathlib.Omega.{arith}
 use lib.ListN.{length}
 use lib.Seq.{slice}
 use Rattle.scan.specs.Scan.{nextCommand}
-use Rattle.scan.specs.declared.Letters.the-variants.{Old}
 use Rattle.scan.specs.declared.Scan.the-variants as scan
 use Rattle.recognise.specs.Commands.{commandOf}
 use borrow.Author.Needs.{needs}
@@ -24,7 +23,7 @@ enum-known-s c = search needs
 
 -- a command
 scanned : (c : tie.After-s) → let A = c .before .before .before .before .args in let v = c .s .given .0 in
-    nextCommand Old (A .file .now) (A .at) ≡ scan.Command (v .0) (v .1 .0) (v .1 .1 .0) (v .1 .1 .1 .0) (v .1 .1 .1 .1 .0)
+    nextCommand (A .book) (A .file .now) (A .at) ≡ scan.Command (v .0) (v .1 .0) (v .1 .1 .0) (v .1 .1 .1 .0) (v .1 .1 .1 .1 .0)
 scanned c = sym (c .before .before .next-command .ensures) ∙ c .s .given .1
 
 part-requires : tie.Need-part-requires
@@ -50,7 +49,7 @@ enum-known-sets c = search needs
 -- a TF
 fits : (c : tie.After-sets) → let t = command (c .before .before) in let v = t .s .given .0 in let n = c .sets .given .0 .0 in
     (v .1 .1 .0 + n .from ≤ v .1 .1 .0 + n .to) × (v .1 .1 .0 + n .to ≤ length (t .before .before .before .before .args .file .now))
-fits c = let t = command (c .before .before) in naming-fits _ _ (scanned t) (sets (c .before .before) ∙ c .sets .given .1) (t .before .before .before .before .pre)
+fits c = let t = command (c .before .before) in naming-fits _ _ _ (scanned t) (sets (c .before .before) ∙ c .sets .given .1) (t .before .before .before .before .pre)
 
 add-t15 : tie.Need-add-t15
 add-t15 c = let f = fits (c .before .before) in omega (arith, f .0, f .1)
@@ -65,10 +64,10 @@ enum-told-3 : tie.Need-enum-told-3
 enum-told-3 c = search needs
 
 returns : tie.Need-returns
-returns c = let f = c .before .before in look-other _ _ (scanned (command f)) (sets f ∙ c .enum-told .given .1)
+returns c = let f = c .before .before in look-other _ _ _ (scanned (command f)) (sets f ∙ c .enum-told .given .1)
 
 returns-2 : tie.Need-returns-2
-returns-2 c = let n = c .before .before .before in look-naming _ _ (scanned (command (n .before .before))) (sets (n .before .before) ∙ n .sets .given .1)
+returns-2 c = let n = c .before .before .before in look-naming _ _ _ (scanned (command (n .before .before))) (sets (n .before .before) ∙ n .sets .given .1)
 
 returns-3 : tie.Need-returns-3
 unfolding lookAt looked

@@ -13,15 +13,15 @@ use Rattle.names.proofs.repeat_in.Statement.{statement}
 use Rattle.names.proofs.repeat_in.Tie as tie
 
 abbrev Inv-loop : tie.InvT-loop
-Inv-loop file s₀ at₀ found₀ s at found =
-    (at ≤ length file) × (found ≤ length file) × (min found (twiceIn file at []) ≡ twiceAt file) × (length s ≡ length s₀)
+Inv-loop book file s₀ at₀ found₀ s at found =
+    (at ≤ length file) × (found ≤ length file) × (min found (twiceIn book file at []) ≡ twiceAt book file) × (length s ≡ length s₀)
 
 abbrev μ-loop : tie.MeasureT-loop
-μ-loop file s₀ at₀ found₀ s at found = length file - at
+μ-loop book file s₀ at₀ found₀ s at found = length file - at
 
 loop-holds : tie.Need-loop-holds Inv-loop μ-loop
 unfolding twiceAt
-loop-holds c = (omega arith, omega arith, twice-inside (c .before .before .args .file .now) 0 (omega arith), refl)
+loop-holds c = (omega arith, omega arith, twice-inside (c .before .before .args .book) (c .before .before .args .file .now) 0 (omega arith), refl)
 
 walk-from-requires : tie.Need-walk-from-requires Inv-loop μ-loop
 walk-from-requires c κs =
@@ -49,7 +49,7 @@ same-length c = c .before .loop .inv .3
 returns : tie.Need-returns Inv-loop μ-loop
 returns c =
     let l = c .before .loop in
-    let p = twice-from (c .before .before .before .before .args .file .now) (l .at) [] (l .inv .0) in
+    let p = twice-from (c .before .before .before .before .args .book) (c .before .before .before .before .args .file .now) (l .at) [] (l .inv .0) in
     (omega (arith, p, l .inv .2, c .loop-test .left), l .inv .3)
 
 pub repeat-in-spec : {M : Type 1} → statement M

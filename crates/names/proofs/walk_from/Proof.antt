@@ -14,13 +14,13 @@ use Rattle.names.proofs.walk_from.Statement.{statement}
 use Rattle.names.proofs.walk_from.Tie as tie
 
 abbrev Inv-loop : tie.InvT-loop
-Inv-loop file s₀ from used₀ at₀ rest₀ s used at rest = Going file s used from at rest × (length s ≡ length s₀)
+Inv-loop book file s₀ from used₀ at₀ rest₀ s used at rest = Going book file s used from at rest × (length s ≡ length s₀)
 
 abbrev μ-loop : tie.MeasureT-loop
-μ-loop file s₀ from used₀ at₀ rest₀ s used at rest = length file - at
+μ-loop book file s₀ from used₀ at₀ rest₀ s used at rest = length file - at
 
 loop-holds : tie.Need-loop-holds Inv-loop μ-loop
-loop-holds c = let p = c .before .before .pre in (going-start _ _ _ (p .0) (p .1), refl)
+loop-holds c = let p = c .before .before .pre in (going-start _ _ _ _ (p .0) (p .1), refl)
 
 look-at-requires : tie.Need-look-at-requires Inv-loop μ-loop
 look-at-requires c κs = c .loop .inv .0 .inside
@@ -34,49 +34,49 @@ same-length c = c .before .before .before .loop .inv .1
 returns : tie.Need-returns Inv-loop μ-loop
 returns c =
     let l = c .before .before .before .loop in
-    (going-end _ _ _ _ (l .at) _ (l .inv .0) (sym (c .before .before .look-at .ensures) ∙ c .enum-told .given .1), l .inv .1)
+    (going-end _ _ _ _ _ (l .at) _ (l .inv .0) (sym (c .before .before .look-at .ensures) ∙ c .enum-told .given .1), l .inv .1)
 
 enum-known-l : tie.Need-enum-known-l Inv-loop μ-loop
 enum-known-l c = search needs
 
 -- no name is set
-other : (c : tie.After-l Inv-loop μ-loop) → let l = c .before .before .before in lookAt (l .before .before .before .args .file .now) (l .loop .at) ≡ Other (c .l .given .0 .0)
+other : (c : tie.After-l Inv-loop μ-loop) → let l = c .before .before .before in lookAt (l .before .before .before .args .book) (l .before .before .before .args .file .now) (l .loop .at) ≡ Other (c .l .given .0 .0)
 other c = sym (c .before .before .look-at .ensures) ∙ c .l .given .1
 
 loop-less : tie.Need-loop-less Inv-loop μ-loop
 loop-less c =
     let l = c .before .before .before .before .loop in
-    let o = other-onward _ (l .at) (l .inv .0 .inside) (other (c .before)) in
+    let o = other-onward _ _ (l .at) (l .inv .0 .inside) (other (c .before)) in
     omega (arith, o .0, o .1)
 
 loop-again : tie.Need-loop-again Inv-loop μ-loop
 loop-again c =
     let l = c .before .before .before .before .loop in
-    (going-other _ _ _ _ (l .at) _ (l .inv .0) (other (c .before)), l .inv .1)
+    (going-other _ _ _ _ _ (l .at) _ (l .inv .0) (other (c .before)), l .inv .1)
 
 enum-known-l-2 : tie.Need-enum-known-l-2 Inv-loop μ-loop
 enum-known-l-2 c = search needs
 
 -- a TF
 naming : (c : tie.After-l2 Inv-loop μ-loop) → let l = c .before .before .before in let v = c .l2 .given .0 in
-    lookAt (l .before .before .before .args .file .now) (l .loop .at) ≡ Naming (v .0) (v .1 .0) (v .1 .1 .0) (v .1 .1 .1 .0)
+    lookAt (l .before .before .before .args .book) (l .before .before .before .args .file .now) (l .loop .at) ≡ Naming (v .0) (v .1 .0) (v .1 .1 .0) (v .1 .1 .1 .0)
 naming c = sym (c .before .before .look-at .ensures) ∙ c .l2 .given .1
 
 note-requires : tie.Need-note-requires Inv-loop μ-loop
 note-requires c κs =
     let t = c .before .before in
     let l = t .before .before .before .loop in
-    let o = naming-onward _ (l .at) (l .inv .0 .inside) (naming t) in
+    let o = naming-onward _ _ (l .at) (l .inv .0 .inside) (naming t) in
     (l .inv .0 .held .table, o .3, o .4)
 
 -- how its name is noted
 noted : (c : tie.After-note Inv-loop μ-loop) → let t = c .before .before .before in let l = t .before .before .before in let v = t .l2 .given .0 in
     let A = l .before .before .before .args in
-    Follows (A .file .now) (l .loop .used) (A .from) (l .loop .at) (l .loop .rest) (v .0) (v .1 .1 .1 .0) (c .note .last .1 .0) (c .note .result)
+    Follows (A .book) (A .file .now) (l .loop .used) (A .from) (l .loop .at) (l .loop .rest) (v .0) (v .1 .1 .1 .0) (c .note .last .1 .0) (c .note .result)
 noted c =
     let t = c .before .before .before in
     let l = t .before .before .before .loop in
-    going-naming _ _ _ _ (l .at) _ (l .inv .0) (naming t) (c .note .ensures .0) (c .note .ensures .1)
+    going-naming _ _ _ _ _ (l .at) _ (l .inv .0) (naming t) (c .note .ensures .0) (c .note .ensures .1)
 
 noted-long : (c : tie.After-note Inv-loop μ-loop) → let l = c .before .before .before .before .before .before in
     length (c .note .last .1 .0) ≡ length (l .before .before .before .args .s .now)
@@ -88,7 +88,7 @@ onward : (c : tie.After-note Inv-loop μ-loop) → let t = c .before .before .be
 onward c =
     let t = c .before .before .before in
     let l = t .before .before .before .loop in
-    let o = naming-onward _ (l .at) (l .inv .0 .inside) (naming t) in
+    let o = naming-onward _ _ (l .at) (l .inv .0 .inside) (naming t) in
     omega (arith, o .0, o .1, o .2)
 
 enum-told-2 : tie.Need-enum-told-2 Inv-loop μ-loop

@@ -52,7 +52,7 @@ returns-2 c =
     let k = was-cleared c in
     let t = k .before .before .before .before .before in
     let z = k .clear .ensures in
-    reads-long (lentOf _ _ _ _ _) (lentOf _ _ _ _ _) _ (sym (t .before .file-fits .ensures) ∙ t .if1 .left)
+    reads-long _ (lentOf _ _ _ _ _) (lentOf _ _ _ _ _) _ (sym (t .before .file-fits .ensures) ∙ t .if1 .left)
     (record { head-is = refl; entries-are = z .0; apertures-are = z .1; macros-are = z .2; numbers-are = z .3 })
 
 pub read-spec : {M : Type 1} → statement M

@@ -21,7 +21,7 @@ abbrev lent : tie.After-run-over → Lent
 lent c = let A = begins c .args in lentOf (A .file .now) (A .e .now) (A .a .now) (A .m .now) (A .numbers .now)
 
 abbrev left : tie.After-run-over → Lent
-left c = let L = c .run-over .last .1 in lentOf (begins c .args .file .now) (L .0) (L .1 .0) (L .1 .1 .0) (L .1 .1 .1 .0)
+left c = let L = c .run-over .last .1 .1 in lentOf (begins c .args .file .now) (L .0) (L .1 .0) (L .1 .1 .0) (L .1 .1 .1 .0)
 
 enum-known-r : tie.Need-enum-known-r
 enum-known-r c = search needs
@@ -36,7 +36,7 @@ finish-requires : tie.Need-finish-requires
 unfolding lentOf
 finish-requires c κs =
     let r = ran (c .before .before .before .before) in
-    sheet-fits (lent r) (left r) (begins r .args .head .now) _ (begins r .pre .1) (r .run-over .ensures .0) (r .run-over .ensures .1) (c .before .before .r2 .given .1)
+    sheet-fits _ (lent r) (left r) (begins r .args .head .now) _ (begins r .pre .1) (r .run-over .ensures .0) (r .run-over .ensures .1) (c .before .before .r2 .given .1)
 
 same-length : tie.Need-same-length
 same-length c = search needs
@@ -63,7 +63,7 @@ returns c =
     let f = fault k in
     let r = ran (f .before .before) in
     let z = k .clear .ensures in
-    reads-refused (lent r) (left r) _ _ (begins r .pre .1) (r .run-over .ensures .0) (r .run-over .ensures .1) (lentOf _ _ _ _ _) (f .r .given .1)
+    reads-refused _ (lent r) (left r) _ _ (begins r .pre .1) (r .run-over .ensures .0) (r .run-over .ensures .1) (lentOf _ _ _ _ _) (f .r .given .1)
     (record { head-is = begins r .pre .0; entries-are = z .0; apertures-are = z .1; macros-are = z .2; numbers-are = z .3 })
 
 same-length-5 : tie.Need-same-length-5
@@ -84,7 +84,7 @@ returns-2 c =
     let f = c .before .before in
     let t = f .before .before .before in
     let r = ran (t .before .before) in
-    reads-accepted (lent r) (left r) _ _ (begins r .pre .1) (r .run-over .ensures .0) (r .run-over .ensures .1) (t .r2 .given .1) _ refl (f .finish .ensures .0) (f .finish .ensures .1)
+    reads-accepted _ (lent r) (left r) _ _ (begins r .pre .1) (r .run-over .ensures .0) (r .run-over .ensures .1) (t .r2 .given .1) _ refl (f .finish .ensures .0) (f .finish .ensures .1)
 
 pub read-file-spec : {M : Type 1} → statement M
 read-file-spec =

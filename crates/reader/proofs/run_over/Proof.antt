@@ -12,10 +12,10 @@ use Rattle.reader.proofs.run_over.Statement.{statement}
 use Rattle.reader.proofs.run_over.Tie as tie
 
 abbrev Inv-loop : tie.InvT-loop
-Inv-loop file e₀ a₀ m₀ numbers₀ repeat₀ e a m numbers repeat = AsLong (lentOf file e₀ a₀ m₀ numbers₀) (lentOf file e a m numbers) × Looked file repeat
+Inv-loop book file e₀ a₀ m₀ numbers₀ repeat₀ e a m numbers repeat = AsLong (lentOf file e₀ a₀ m₀ numbers₀) (lentOf file e a m numbers) × Looked book file repeat
 
 abbrev μ-loop : tie.MeasureT-loop
-μ-loop file e₀ a₀ m₀ numbers₀ repeat₀ e a m numbers repeat = looksLeft repeat
+μ-loop book file e₀ a₀ m₀ numbers₀ repeat₀ e a m numbers repeat = looksLeft repeat
 
 loop-holds : tie.Need-loop-holds Inv-loop μ-loop
 unfolding Looked
@@ -62,7 +62,7 @@ abbrev ran : tie.After-numbers2 Inv-loop μ-loop → tie.After-run Inv-loop μ-l
 ran c = c .before .before .before .before .before .before .before
 
 abbrev left : tie.After-run Inv-loop μ-loop → Lent
-left c = let L = c .run .last .1 in lentOf (begins (turn (cleared c)) .args .file .now) (L .0) (L .1 .0) (L .1 .1 .0) (L .1 .1 .1 .0)
+left c = let L = c .run .last .1 .1 in lentOf (begins (turn (cleared c)) .args .file .now) (L .0) (L .1 .0) (L .1 .1 .0) (L .1 .1 .1 .0)
 
 run-long : (c : tie.After-run Inv-loop μ-loop) → AsLong (begun (turn (cleared c))) (left c)
 run-long c = longs _ _ _ (zeros-long-as (cleared c)) (c .run .ensures .0)
@@ -87,7 +87,7 @@ returns : tie.Need-returns Inv-loop μ-loop
 unfolding lentOf
 returns c =
     let r = ran (c .before .before .before) in
-    (run-long r, came _ _ _ _ _ refl (zeros-long-as (cleared r)) (r .run .ensures .1) (c .before .r .given .1))
+    (run-long r, came _ _ _ _ _ _ refl (zeros-long-as (cleared r)) (r .run .ensures .1) (c .before .r .given .1))
 
 enum-told : tie.Need-enum-told Inv-loop μ-loop
 enum-told c = search needs
@@ -103,7 +103,7 @@ loop-less : tie.Need-loop-less Inv-loop μ-loop
 loop-less c =
     let t = asked c in
     let r = ran (t .before .before) in
-    let q = asks-first _ _ (turn (cleared r) .loop .repeat) _ (r .run .ensures .1) (t .enum-told .given .1) in
+    let q = asks-first _ _ _ (turn (cleared r) .loop .repeat) _ (r .run .ensures .1) (t .enum-told .given .1) in
     rw q (omega arith)
 
 loop-again : tie.Need-loop-again Inv-loop μ-loop
@@ -113,7 +113,7 @@ loop-again c =
     let r = ran (asked c .before .before) in
     let k = run-long r in (
       record {
-        entries-long = zeros-long 0 _ (r .run .last .1 .0) (f .1) ∙ k .entries-long;
+        entries-long = zeros-long 0 _ (r .run .last .1 .1 .0) (f .1) ∙ k .entries-long;
         apertures-long = k .apertures-long;
         macros-long = k .macros-long;
         numbers-long = k .numbers-long;

@@ -25,13 +25,13 @@ judge-name-requires : tie.Need-judge-name-requires
 judge-name-requires c κs = search needs
 
 returns : tie.Need-returns
-returns c = judged-none _ (c .before .before .before .before .args .c) _ _ (sym (c .before .before .sets-of .ensures) ∙ c .enum-told .given .1)
+returns c = judged-none _ _ (c .before .before .before .before .args .c) _ _ (sym (c .before .before .sets-of .ensures) ∙ c .enum-told .given .1)
 
 returns-2 : tie.Need-returns-2
 returns-2 c =
     let t = c .before .before .before .before in
     rw (c .before .part2 .ensures, c .before .before .part .ensures) at (c .judge-name .ensures)
-    ∙ judged-named _ (t .before .before .before .before .args .c) _ _ (sym (t .before .before .sets-of .ensures) ∙ t .sets .given .1)
+    ∙ judged-named _ _ (t .before .before .before .before .args .c) _ _ (sym (t .before .before .sets-of .ensures) ∙ t .sets .given .1)
 
 pub judge-spec : {M : Type 1} → statement M
 judge-spec =

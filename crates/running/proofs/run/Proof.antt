@@ -17,11 +17,11 @@ use Rattle.running.proofs.run.Statement.{statement}
 use Rattle.running.proofs.run.Tie as tie
 
 abbrev Inv-loop : tie.InvT-loop
-Inv-loop file e₀ a₀ m₀ numbers₀ repeat p₀ n₀ at₀ set₀ rounded₀ e a m numbers p n at set rounded =
-    Runs file (lentOf file e₀ a₀ m₀ numbers₀) (lentOf file e a m numbers) p n at set rounded
+Inv-loop book file e₀ a₀ m₀ numbers₀ repeat p₀ n₀ at₀ set₀ rounded₀ e a m numbers p n at set rounded =
+    Runs book file (lentOf file e₀ a₀ m₀ numbers₀) (lentOf file e a m numbers) p n at set rounded
 
 abbrev μ-loop : tie.MeasureT-loop
-μ-loop file e₀ a₀ m₀ numbers₀ repeat p₀ n₀ at₀ set₀ rounded₀ e a m numbers p n at set rounded = length file - at
+μ-loop book file e₀ a₀ m₀ numbers₀ repeat p₀ n₀ at₀ set₀ rounded₀ e a m numbers p n at set rounded = length file - at
 
 start-requires : tie.Need-start-requires Inv-loop μ-loop
 start-requires c κs = search needs
@@ -32,7 +32,7 @@ begins c = c .before .before .before .before .before .before
 
 loop-holds : tie.Need-loop-holds Inv-loop μ-loop
 unfolding lentOf
-loop-holds c = rw (c .start .ensures) (runs-start (lentOf _ _ _ _ _) (c .before .before .before .before .before .pre .0))
+loop-holds c = rw (c .start .ensures) (runs-start _ (lentOf _ _ _ _ _) (c .before .before .before .before .before .pre .0))
 
 turn-at-requires : tie.Need-turn-at-requires Inv-loop μ-loop
 turn-at-requires c κs = search needs
@@ -61,21 +61,21 @@ returns : tie.Need-returns Inv-loop μ-loop
 unfolding Comes Ends
 returns c =
     let l = c .before .before .before .before .loop in
-    (l .inv .long, runs-stops _ _ _ _ _ _ _ _ (l .inv) (sym (c .before .before .before .turn-at .ensures) ∙ c .before .t .given .1))
+    (l .inv .long, runs-stops _ _ _ _ _ _ _ _ _ (l .inv) (sym (c .before .before .before .turn-at .ensures) ∙ c .before .t .given .1))
 
 -- M02
 enum-known-t-2 : tie.Need-enum-known-t-2 Inv-loop μ-loop
 enum-known-t-2 c = search needs
 
 last : (c : tie.After-t2 Inv-loop μ-loop) → let l = c .before .before .before in
-    turnOf (l .loop .n) (begins l .args .file .now) (l .loop .at) ≡ turn.Last (c .t2 .given .0 .0) (c .t2 .given .0 .1 .0)
+    turnOf (begins l .args .book) (l .loop .n) (begins l .args .file .now) (l .loop .at) ≡ turn.Last (c .t2 .given .0 .0) (c .t2 .given .0 .1 .0)
 last c = sym (c .before .before .turn-at .ensures) ∙ c .t2 .given .1
 
 step-requires : tie.Need-step-requires Inv-loop μ-loop
 step-requires c κs =
     let t = c .before .before .before .before .before in
     let l = t .before .before .before .loop in
-    (known _ _ _ _ _ _ _ _ (l .inv), sound-last _ _ _ _ _ _ _ _ (l .inv) (last t))
+    (known _ _ _ _ _ _ _ _ _ (l .inv), sound-last _ _ _ _ _ _ _ _ _ (l .inv) (last t))
 
 tail-fault-requires : tie.Need-tail-fault-requires Inv-loop μ-loop
 tail-fault-requires c κs = search needs
@@ -116,14 +116,14 @@ unfolding lentOf Comes
 returns-2 c =
     let s = last-step c in
     let t = last-turn s in
-    (last-long s, rw (c .settled .ensures, c .before .tail-fault .ensures) (runs-ends _ _ _ _ _ _ _ _ (t .before .before .before .loop .inv) (last t) _ _ _ refl (s .step .ensures .4)))
+    (last-long s, rw (c .settled .ensures, c .before .tail-fault .ensures) (runs-ends _ _ _ _ _ _ _ _ _ (t .before .before .before .loop .inv) (last t) _ _ _ refl (s .step .ensures .4)))
 
 -- any other command
 enum-known-t-3 : tie.Need-enum-known-t-3 Inv-loop μ-loop
 enum-known-t-3 c = search needs
 
 more : (c : tie.After-t3 Inv-loop μ-loop) → let l = c .before .before .before in let v = c .t3 .given .0 in
-    turnOf (l .loop .n) (begins l .args .file .now) (l .loop .at) ≡ turn.More (v .0) (v .1 .0) (v .1 .1 .0)
+    turnOf (begins l .args .book) (l .loop .n) (begins l .args .file .now) (l .loop .at) ≡ turn.More (v .0) (v .1 .0) (v .1 .1 .0)
 more c = sym (c .before .before .turn-at .ensures) ∙ c .t3 .given .1
 
 rounded-of-requires : tie.Need-rounded-of-requires Inv-loop μ-loop
@@ -132,11 +132,11 @@ rounded-of-requires c κs = search needs
 add-counted : tie.Need-add-counted Inv-loop μ-loop
 add-counted c =
     let t = c .before .before in
-    let f = runs-counts _ _ _ _ _ _ _ _ (t .before .before .before .loop .inv) (more t) in
-    omega (arith, c .rounded-of .ensures, f, begins (t .before .before .before) .good .0)
+    let f = runs-counts _ _ _ _ _ _ _ _ _ (t .before .before .before .loop .inv) (more t) in
+    omega (arith, c .rounded-of .ensures, f, begins (t .before .before .before) .good .1)
 
 judge-requires : tie.Need-judge-requires Inv-loop μ-loop
-judge-requires c κs = runs-few _ _ _ _ _ _ _ _ (c .before .before .before .before .before .loop .inv) (more (c .before .before))
+judge-requires c κs = runs-few _ _ _ _ _ _ _ _ _ (c .before .before .before .before .before .loop .inv) (more (c .before .before))
 
 enum-known-j : tie.Need-enum-known-j Inv-loop μ-loop
 enum-known-j c = search needs
@@ -168,21 +168,21 @@ returns-3 : tie.Need-returns-3 Inv-loop μ-loop
 unfolding Comes
 returns-3 c =
     let l = asked c .before .before .before in
-    (l .loop .inv .long, runs-asks _ _ _ _ _ _ _ _ (l .loop .inv) (more (asked c)) _ (begins l .pre .1) (sym (c .before .before .judge .ensures) ∙ c .enum-told .given .1))
+    (l .loop .inv .long, runs-asks _ _ _ _ _ _ _ _ _ (l .loop .inv) (more (asked c)) _ (begins l .pre .1) (sym (c .before .before .judge .ensures) ∙ c .enum-told .given .1))
 
 -- it is told whether a name is set again
 abbrev told-turn : tie.After-j Inv-loop μ-loop → tie.After-t3 Inv-loop μ-loop
 told-turn c = c .before .before .before .before .before
 
 told : (c : tie.After-j Inv-loop μ-loop) → let t = told-turn c in let A = begins (t .before .before .before) .args in
-    judgedOf (A .file .now) (t .t3 .given .0 .0) (t .before .before .before .loop .set) (A .repeat) ≡ Told (c .j .given .0 .0) (c .j .given .0 .1 .0)
+    judgedOf (A .book) (A .file .now) (t .t3 .given .0 .0) (t .before .before .before .loop .set) (A .repeat) ≡ Told (c .j .given .0 .0) (c .j .given .0 .1 .0)
 told c = sym (c .before .before .judge .ensures) ∙ c .j .given .1
 
 step-requires-2 : tie.Need-step-requires-2 Inv-loop μ-loop
 step-requires-2 c κs =
     let t = told-turn (c .before .before .before .before .before) in
     let l = t .before .before .before .loop in
-    (known _ _ _ _ _ _ _ _ (l .inv), sound-more _ _ _ _ _ _ _ _ (l .inv) (more t))
+    (known _ _ _ _ _ _ _ _ _ (l .inv), sound-more _ _ _ _ _ _ _ _ _ (l .inv) (more t))
 
 enum-known-r : tie.Need-enum-known-r Inv-loop μ-loop
 enum-known-r c = search needs
@@ -223,7 +223,7 @@ returns-4 c =
     let s = more-step (c .before .before .before) in
     let j = more-told s in
     let l = told-turn j .before .before .before in
-    (more-long s, runs-refuses _ _ _ _ _ _ _ _ (l .loop .inv) (more (told-turn j)) _ (begins l .pre .1) (told j) _ _ (s .step2 .ensures .4) (c .before .r .given .1))
+    (more-long s, runs-refuses _ _ _ _ _ _ _ _ _ (l .loop .inv) (more (told-turn j)) _ (begins l .pre .1) (told j) _ _ (s .step2 .ensures .4) (c .before .r .given .1))
 
 enum-known-r-2 : tie.Need-enum-known-r-2 Inv-loop μ-loop
 enum-known-r-2 c = search needs
@@ -232,7 +232,7 @@ loop-less : tie.Need-loop-less Inv-loop μ-loop
 loop-less c =
     let t = told-turn (more-told (more-step (c .before .before .before))) in
     let l = t .before .before .before .loop in
-    let o = more-onward (l .n) _ (l .at) (l .inv .running .within) (more t) in
+    let o = more-onward _ (l .n) _ (l .at) (l .inv .running .within) (more t) in
     omega (arith, o .0, o .1)
 
 loop-again : tie.Need-loop-again Inv-loop μ-loop
@@ -242,7 +242,7 @@ loop-again c =
     let j = more-told s in
     let l = told-turn j .before .before .before in
     rw (j .before .before .before .rounded-of .ensures)
-    (runs-goes _ _ _ _ _ _ _ _ (l .loop .inv) (more (told-turn j)) _ (begins l .pre .1) (told j) _ _ (s .step2 .ensures .4) refl (step-long s) (c .before .r2 .given .1))
+    (runs-goes _ _ _ _ _ _ _ _ _ (l .loop .inv) (more (told-turn j)) _ (begins l .pre .1) (told j) _ _ (s .step2 .ensures .4) refl (step-long s) (c .before .r2 .given .1))
 
 pub run-spec : {M : Type 1} → statement M
 run-spec =

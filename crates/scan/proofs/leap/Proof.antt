@@ -47,9 +47,9 @@ returns c =
     record {
       on = omega arith;
       same =
-          λ letters place.
+          λ book place.
           rw (c .to-stand .ensures)
-          (leap-same letters _ place _
+          (leap-same book _ place _
           (sym (d .before .before .is-whole .ensures) ∙ and-l _ _ both)
           (only-plain _ (sym (d .before .is-plain .ensures) ∙ and-r _ _ both))
           _ _

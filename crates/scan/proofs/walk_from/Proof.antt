@@ -13,10 +13,10 @@ use Rattle.scan.proofs.walk_from.Statement.{statement}
 use Rattle.scan.proofs.walk_from.Tie as tie
 
 abbrev Inv-loop : tie.InvT-loop
-Inv-loop letters file from way₀ place₀ at₀ way place at = (place ≤ at) × (run letters (length file) place way (drop at file) at ≡ nextCommand letters file from)
+Inv-loop book file from way₀ place₀ at₀ way place at = (place ≤ at) × (run book (length file) place way (drop at file) at ≡ nextCommand book file from)
 
 abbrev μ-loop : tie.MeasureT-loop
-μ-loop letters file from way₀ place₀ at₀ way place at = length file - at
+μ-loop book file from way₀ place₀ at₀ way place at = length file - at
 
 loop-holds : tie.Need-loop-holds Inv-loop μ-loop
 loop-holds c = (omega arith, walk _ _ _ _ refl)
@@ -41,7 +41,7 @@ loop-again c =
     let p = c .before .before .before .before in
     let l = p .before .loop in
     let a = p .before .before .before .args in
-    (omega arith, sym (at-between (a .letters) (a .file .now) (l .place) (l .way) (l .at) (p .loop-test .taken) (sym (c .before .before .way-after .ensures) ∙ c .enum-told .given .1)) ∙ l .inv .1)
+    (omega arith, sym (at-between (a .book) (a .file .now) (l .place) (l .way) (l .at) (p .loop-test .taken) (sym (c .before .before .way-after .ensures) ∙ c .enum-told .given .1)) ∙ l .inv .1)
 
 enum-known-next : tie.Need-enum-known-next Inv-loop μ-loop
 enum-known-next c = search needs
@@ -63,8 +63,8 @@ loop-again-2 c =
     let l = p .before .loop in
     let a = p .before .before .before .args in (
       omega (arith, c .before .leap .ensures .on, l .inv .0),
-      c .before .leap .ensures .same (a .letters) (l .place)
-          ∙ sym (at-inside (a .letters) (a .file .now) (l .place) (l .way) (l .at) (p .loop-test .taken) (sym (c .before .before .before .before .before .way-after .ensures) ∙ c .before .before .before .next .given .1))
+      c .before .leap .ensures .same (a .book) (l .place)
+          ∙ sym (at-inside (a .book) (a .file .now) (l .place) (l .way) (l .at) (p .loop-test .taken) (sym (c .before .before .before .before .before .way-after .ensures) ∙ c .before .before .before .next .given .1))
           ∙ l .inv .1,
     )
 
@@ -79,7 +79,7 @@ returns c =
     let p = c .before .before .before .before .before .before in
     let l = p .before .loop in
     let a = p .before .before .before .args in
-    c .to-command .ensures ∙ sym (at-complete (a .letters) (a .file .now) (l .place) (l .way) (l .at) (p .loop-test .taken) (sym (c .before .before .before .before .way-after .ensures) ∙ c .before .before .next2 .given .1)) ∙ l .inv .1
+    c .to-command .ensures ∙ sym (at-complete (a .book) (a .file .now) (l .place) (l .way) (l .at) (p .loop-test .taken) (sym (c .before .before .before .before .way-after .ensures) ∙ c .before .before .next2 .given .1)) ∙ l .inv .1
 
 enum-known-next-3 : tie.Need-enum-known-next-3 Inv-loop μ-loop
 enum-known-next-3 c = search needs
@@ -89,7 +89,7 @@ returns-2 c =
     let p = c .before .before .before .before .before in
     let l = p .before .loop in
     let a = p .before .before .before .args in
-    sym (at-bad (a .letters) (a .file .now) (l .place) (l .way) (l .at) (p .loop-test .taken) (sym (c .before .before .before .way-after .ensures) ∙ c .before .next3 .given .1)) ∙ l .inv .1
+    sym (at-bad (a .book) (a .file .now) (l .place) (l .way) (l .at) (p .loop-test .taken) (sym (c .before .before .before .way-after .ensures) ∙ c .before .next3 .given .1)) ∙ l .inv .1
 
 way-ended-requires : tie.Need-way-ended-requires Inv-loop μ-loop
 way-ended-requires c κs = tt
@@ -98,7 +98,7 @@ returns-3 : tie.Need-returns-3 Inv-loop μ-loop
 returns-3 c =
     let l = c .before .before .loop in
     let a = c .before .before .before .before .args in
-    c .way-ended .ensures ∙ sym (at-end (a .letters) (a .file .now) (l .place) (l .way) (l .at) (c .before .loop-test .left)) ∙ l .inv .1
+    c .way-ended .ensures ∙ sym (at-end (a .book) (a .file .now) (l .place) (l .way) (l .at) (c .before .loop-test .left)) ∙ l .inv .1
 
 pub walk-from-spec : {M : Type 1} → statement M
 walk-from-spec =

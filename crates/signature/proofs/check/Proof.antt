@@ -9,13 +9,13 @@ use Rattle.signature.proofs.check.Statement.{statement}
 use Rattle.signature.proofs.check.Tie as tie
 
 abbrev Inv-loop : tie.InvT-loop
-Inv-loop file from₀ at₀ from at = Walking file from at
+Inv-loop book file from₀ at₀ from at = Walking book file from at
 
 abbrev μ-loop : tie.MeasureT-loop
-μ-loop file from₀ at₀ from at = length file - at
+μ-loop book file from₀ at₀ from at = length file - at
 
 loop-holds : tie.Need-loop-holds Inv-loop μ-loop
-loop-holds c = starts _
+loop-holds c = starts _ _
 
 next-command-requires : tie.Need-next-command-requires Inv-loop μ-loop
 next-command-requires c κs = tt

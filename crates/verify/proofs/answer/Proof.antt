@@ -9,6 +9,9 @@ Inv-loop s₀ left₀ s left = Unit {0}
 abbrev μ-loop : tie.MeasureT-loop
 μ-loop s₀ left₀ s left = left
 
+ascii-requires : tie.Need-ascii-requires Inv-loop μ-loop
+ascii-requires c κs = tt
+
 start-requires : tie.Need-start-requires Inv-loop μ-loop
 start-requires c κs = tt
 
@@ -45,6 +48,7 @@ answer-spec =
     (tie.spec
     Inv-loop
     μ-loop
+    ascii-requires
     start-requires
     loop-holds
     read-block-requires

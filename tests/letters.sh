@@ -1,0 +1,25 @@
+#!/usr/bin/env bash
+# Every string of up to four bytes from 128 up as an attribute's field, by the new rule of letters (two bytes under an emulator): the proved
+# reader, from C, and the second one answer each with the same number at the same place.
+set -eu
+cd "$(dirname "$0")/.."
+emulator=$(host/build --emulator)
+made=$PWD/target/host
+host/build tests/letters.c "$made/letters"
+second=$PWD/target/second/release/second
+CARGO_NET_OFFLINE=true cargo build --release --quiet --manifest-path second/Cargo.toml --target-dir target/second
+room=$(mktemp -d)
+trap 'rm -rf "$room"' EXIT
+
+longest=${emulator:+2}
+longest=${longest:-4}
+${emulator:+"$emulator"} "$made/letters" "$longest" >"$room/proved" &
+proved=$!
+"$second" letters "$longest" --letters new >"$room/second"
+wait "$proved"
+echo "letters: $(awk -F '\t' '{ all += $3; good += $4 } END { print all " strings of up to " NR " bytes, " good " of them letters" }' "$room/proved")"
+if ! cmp -s "$room/proved" "$room/second"; then
+    echo "letters: the readers differ"
+    diff "$room/proved" "$room/second"
+    exit 1
+fi
