@@ -16,7 +16,7 @@ use Rattle.addresses.proofs.Length.{length-addresses}
 use Rattle.addressing.specs.Answers.{addressNumber, addressWords}
 
 -- what there is does not depend on what stands for nothing, and past the end there is nothing
-there : {A : Type 0} (l : List A) (k : ℕ) (x y : A) → k < length l → getD l k x ≡ getD l k y
+pub there : {A : Type 0} (l : List A) (k : ℕ) (x y : A) → k < length l → getD l k x ≡ getD l k y
 there [] k x y l = absurd (not-suc-le-zero l)
 there (z ∷ zs) zero x y l = refl
 there (z ∷ zs) (suc k) x y l = there zs k x y (le-of-suc-le-suc l)
