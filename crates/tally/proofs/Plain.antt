@@ -8,7 +8,10 @@ use lib.Dec.{eqb}
 use Rattle.base.specs.Run.{run}
 use Rattle.place.specs.Copies.{step, copies}
 use Rattle.place.specs.Mark as mark
-use Rattle.place.specs.Mark.{Mark, Around, Sheet, withCount, itemsOf, put, closed, marked, written, plain}
+use Rattle.place.specs.Mark.{Mark, Around, Sheet, withCount, partsOf, put, closed, marked, written, partsFrom, plain}
+use Rattle.place.specs.Parts as parts
+use Rattle.place.specs.Parts.{Parts, _then_, itemsIn}
+use Rattle.place.proofs.Parts.{items-then}
 use Rattle.place.specs.Outer.{brought, flashedBy}
 use Rattle.place.specs.Placing.{placed}
 use Rattle.place.specs.declared.Item.{Item}
@@ -48,39 +51,42 @@ module _ (known : List Aperture) where
 
   -- ---- the sheet while it is written out
 
-  data Blocks : List (ℕ × List Item) → Type 0 where
+  data Blocks : List (ℕ × Parts) → Type 0 where
     no-block : Blocks []
-    one-block : {b : ℕ × List Item} {bs : List (ℕ × List Item)} → AllTooled known (b .1) → Blocks bs → Blocks (b ∷ bs)
+    one-block : {b : ℕ × Parts} {bs : List (ℕ × Parts)} → AllTooled known (itemsIn (b .1)) → Blocks bs → Blocks (b ∷ bs)
 
   data Outside : Around → Type 0 where
     top : Outside mark.top
-    within : {o : mark.Opening} {before : List Item} {around : Around} → AllTooled known before → Outside around → Outside (mark.within o before around)
+    within : {o : mark.Opening} {before : Parts} {around : Around} → AllTooled known (itemsIn before) → Outside around → Outside (mark.within o before around)
 
   record Written (s : Sheet) : Type 0 where
     blocks : Blocks (s .blocks)
-    here : AllTooled known (s .here)
+    here : AllTooled known (itemsIn (s .here))
     around : Outside (s .around)
 
-  block-tooled : (n : ℕ) {bs : List (ℕ × List Item)} → Blocks bs → AllTooled known (itemsOf n bs)
-  unfolding itemsOf
+  block-tooled : (n : ℕ) {bs : List (ℕ × Parts)} → Blocks bs → AllTooled known (itemsIn (partsOf n bs))
+  unfolding partsOf itemsIn
   block-tooled n no-block = none
   block-tooled n (one-block {b = b} {bs = bs} w ws) = go (eqb n (b .0)) (block-tooled n ws)
     where
-      go : (t : Bool) → AllTooled known (itemsOf n bs) → AllTooled known (cond t (b .1) (itemsOf n bs))
+      go : (t : Bool) → AllTooled known (itemsIn (partsOf n bs)) → AllTooled known (itemsIn (cond t (b .1) (partsOf n bs)))
       go true v = w
       go false v = v
 
-  put-written : (ts : List Item) (s : Sheet) → AllTooled known ts → Written s → Written (put ts s)
+  then-tooled : (ps qs : Parts) → AllTooled known (itemsIn ps) → AllTooled known (itemsIn qs) → AllTooled known (itemsIn (ps then qs))
+  then-tooled ps qs v w = rw (items-then ps qs) (tooled-append v w)
+
+  put-written : (ps : Parts) (s : Sheet) → AllTooled known (itemsIn ps) → Written s → Written (put ps s)
   unfolding put
-  put-written ts s w v = record { blocks = v .blocks; here = tooled-append (v .here) w; around = v .around }
+  put-written ps s w v = record { blocks = v .blocks; here = then-tooled (s .here) ps (v .here) w; around = v .around }
 
   closed-written : (a : Around) (s : Sheet) → Outside a → Written s → Written (closed a s)
-  unfolding closed
+  unfolding closed itemsIn
   closed-written mark.top s o v = v
   closed-written (mark.within (mark.block n) before around) s (within w o) v = record { blocks = one-block (v .here) (v .blocks); here = w; around = o }
   closed-written (mark.within (mark.repeat r) before around) s (within w o) v = record {
     blocks = v .blocks;
-    here = tooled-append w (copies-tooled r (v .here));
+    here = then-tooled before (parts.repeated r (s .here) parts.none) w (tooled-append (copies-tooled r (v .here)) none);
     around = o;
   }
 
@@ -89,11 +95,11 @@ module _ (known : List Aperture) where
   counted-tooled n t w = record { drawn = w .drawn; region = w .region }
 
   mark-written : {m : Mark} (ms : List Mark) (s : Sheet) → Marked known m → Written s → Written (marked m ms s)
-  unfolding marked
+  unfolding marked itemsIn
   mark-written ms s (draws w) v = put-written _ s (more w none) v
   mark-written ms s (contours {t = t} w) v = put-written _ s (more (counted-tooled _ t w) none) v
   mark-written ms s (edges w) v = put-written _ s (more w none) v
-  mark-written ms s (flashes {n = n} {m = m} {place = place}) v = put-written _ s (tooled-map (flashedBy place m) (flashed-tooled place m) (block-tooled n (v .blocks))) v
+  mark-written ms s (flashes {n = n} {m = m} {place = place}) v = put-written _ s (tooled-append (tooled-map (flashedBy place m) (flashed-tooled place m) (block-tooled n (v .blocks))) none) v
   mark-written ms s opens v = record { blocks = v .blocks; here = none; around = within (v .here) (v .around) }
   mark-written ms s closes v = closed-written (s .around) s (v .around) v
 
@@ -103,5 +109,5 @@ module _ (known : List Aperture) where
   all-written s (marks.more {ms = ms} m w) v = all-written _ w (mark-written ms s m v)
 
   pub plain-tooled : {ms : List Mark} → AllMarked known ms → AllTooled known (plain ms)
-  unfolding plain
+  unfolding plain partsFrom itemsIn
   plain-tooled w = all-written _ w (record { blocks = no-block; here = none; around = top }) .here
