@@ -1,0 +1,5 @@
+pub mod Editions
+pub mod Examples
+pub mod Laws
+pub mod Raised
+pub mod Taken

@@ -1,0 +1,4 @@
+pub mod Format
+pub mod Raised
+pub mod Texts
+pub mod Values
