@@ -52,9 +52,3 @@ numeralOf minus whole fraction =
 
 unfoldable pub decimalOf : List ℕ → Decimal
 decimalOf s = numeralOf (hasMinus s) (beforePoint (afterSign s)) (afterPoint (afterSign s))
-
--- document 01's number of each case
-unfoldable pub decimalRefusal : Decimal → ℕ
-decimalRefusal NotForm = 4
-decimalRefusal TooLong = 5
-decimalRefusal (Value a rounded) = 0

@@ -32,9 +32,3 @@ unfoldable pub coordinateAt : List ℕ → ℕ → ℕ → Taken
 coordinateAt s at limit =
     let next : ℕ = coordinateEnd s at in
     record { coordinate = coordinateOf (slice at next s) limit; next = next }
-
--- document 01's number of each case
-unfoldable pub coordinateRefusal : Coordinate → ℕ
-coordinateRefusal NotForm = 4
-coordinateRefusal TooLong = 5
-coordinateRefusal (Value z) = 0

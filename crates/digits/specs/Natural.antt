@@ -13,10 +13,3 @@ naturalOf s =
     cond (isNumber s)
     (cond (leb (10 ^ 12) (valueOf s)) TooLarge (Value (valueOf s)))
     NotForm
-
--- document 01's number of each case: a number out of its bounds is 5, but 10 for SR's n (decision 44) and for a primitive's
--- code (decision 63), so its user says which
-unfoldable pub naturalRefusal : ℕ → Natural → ℕ
-naturalRefusal tooLarge NotForm = 4
-naturalRefusal tooLarge TooLarge = tooLarge
-naturalRefusal tooLarge (Value n) = 0
