@@ -8,7 +8,7 @@ signature-requires c κs = search needs
 
 returns : tie.Need-returns
 returns c =
-    let e = c .signature .ensures in
+    let e = c .before .signature .ensures in
     (λ i. e i .number, λ i. e i .place, λ i. e i .digest)
 
 pub sheet-signature-spec : {M : Type 1} → statement M
