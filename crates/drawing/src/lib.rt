@@ -90,11 +90,9 @@ pub fn flash_fault(g: Graphics, l: Level, room: u64, x: Axis, y: Axis) -> u64
 {
     let room_used = base::row(room < 1, 17, 0);
     let count = base::row(too_many(l, flash_items(g)), 16, room_used);
-    let block = base::row(
-        fits::is_askew(g),
-        14,
-        base::row(fits::is_too_tall(g, l), 15, count),
-    );
+    let askew = fits::is_askew(g);
+    let tall = fits::is_too_tall(g, l);
+    let block = base::row(askew, 14, base::row(tall, 15, count));
     let misfit = base::row(fits::flash_misfits(g, x, y), 11, block);
     base::row(fits::is_unready(g), 6, base::row(g.region.on, 7, misfit))
 }
