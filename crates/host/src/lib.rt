@@ -138,7 +138,7 @@ pub extern "C" fn sheet_summary(
     ensures { λ r. ⌜ (r ≡ outcomeNumber (outcomeOf (now (head .entry)) (now (entries .entry)) (now (apertures .entry)) (length (now (rows .entry))) (length (now (scratch .entry)))))
         × (now (rows .exit) ≡ summed (now (head .entry)) (now (entries .entry)) (now (apertures .entry)) (length (now (rows .entry))) (length (now (scratch .entry)))) ⌝ }
 {
-    let r = summary::summary(head, entries, apertures, scratch, rows);
+    let r = survey::summary(head, entries, apertures, scratch, rows);
     summary_number(r)
 }
 

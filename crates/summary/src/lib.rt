@@ -21,7 +21,7 @@ ghost use Rattle.summaries.specs.Summed.{rowOf};
 ghost use Rattle.summary.specs.Kept.{hasPoints, corners, rowWords, keptWords, spanOf, extentIf, rowAt};
 ghost use Rattle.summary.specs.Walk.{entryRow, runRow, topEntryRow, topRow, EntryReady, RunReady, TopEntryReady, TopReady};
 ghost use Rattle.summary.specs.Blocks.{withBlock, BlockReady, Fits, Done};
-ghost use Rattle.summary.specs.Answers.{summaryWords, outcomeOf, summed};
+ghost use Rattle.summary.specs.Answers.{summaryWords};
 
 // The words of a row, of a row that is kept meanwhile, and of scratch for each aperture record.
 pub const ROW_WORDS: usize = 5;
@@ -95,7 +95,7 @@ fn extent_if(some: bool, b: Rect) -> Extent
 }
 
 // Stores a row's five words from a place on.
-fn put_row(out: &mut [u64], at: usize, r: Row)
+pub fn put_row(out: &mut [u64], at: usize, r: Row)
     requires { ⌜ at + 5 ≤ length (now out) ⌝ }
     ensures { λ _. ⌜ now (out .exit) ≡ stored (now (out .entry)) at (rowWords r) ⌝ }
 {
@@ -114,7 +114,7 @@ fn put_row(out: &mut [u64], at: usize, r: Row)
 }
 
 // Keeps the row of aperture record b, in six words.
-fn keep_row(s: &mut [u64], b: usize, r: Row)
+pub fn keep_row(s: &mut [u64], b: usize, r: Row)
     requires { ⌜ b < length (now s) / 6 ⌝ }
     ensures { λ _. ⌜ now (s .exit) ≡ stored (now (s .entry)) (b * 6) (keptWords r) ⌝ }
 {
@@ -134,7 +134,7 @@ fn keep_row(s: &mut [u64], b: usize, r: Row)
 }
 
 // The row kept of aperture record b.
-fn kept_row(s: &[u64], b: usize) -> Row
+pub fn kept_row(s: &[u64], b: usize) -> Row
     requires { ⌜ b < length (now s) / 6 ⌝ }
     ensures { λ r. ⌜ r ≡ rowAt (now (s .entry)) b ⌝ }
 {
@@ -255,7 +255,7 @@ pub fn row_of(head: &[u64; 8], e: &[u64], a: &[u64], q: Asked, s: &mut [u64]) ->
 }
 
 // The rows of a sheet, into words that are all 0.
-fn fill(head: &[u64; 8], e: &[u64], a: &[u64], s: &mut [u64], out: &mut [u64])
+pub fn fill(head: &[u64; 8], e: &[u64], a: &[u64], s: &mut [u64], out: &mut [u64])
     requires { ⌜ Fits (now head) (now e) (now a) (now s) × (aperturesUsed (now head) < length (now out) / 5) × (now out ≡ replicate (length (now out)) 0) ⌝ }
     ensures { λ _. ⌜ now (out .exit) ≡ summaryWords (sheetItems (now (head .entry)) (now (e .entry)) (now (a .entry))) (now (a .entry)) (aperturesUsed (now (head .entry))) (length (now (out .entry))) ⌝ }
 {
@@ -269,31 +269,4 @@ fn fill(head: &[u64; 8], e: &[u64], a: &[u64], s: &mut [u64], out: &mut [u64])
     }
     let r = row_of(head, e, a, Asked::Regions, s);
     put_row(out, n * ROW_WORDS, r);
-}
-
-// The summary of a sheet: five words for each aperture record, in store order, and for the regions; what is behind them is 0. `scratch`
-// has eight words for each aperture record.
-pub fn summary(
-    head: &[u64; 8],
-    e: &[u64],
-    a: &[u64],
-    scratch: &mut [u64],
-    rows: &mut [u64],
-) -> Outcome
-    ensures { λ r. ⌜ (r ≡ outcomeOf (now (head .entry)) (now (e .entry)) (now (a .entry)) (length (now (rows .entry))) (length (now (scratch .entry))))
-        × (now (rows .exit) ≡ summed (now (head .entry)) (now (e .entry)) (now (a .entry)) (length (now (rows .entry))) (length (now (scratch .entry)))) ⌝ }
-{
-    base::clear(rows);
-    if inspect::is_sheet(head, e, a) {
-        let n = sheet::index(head[3]);
-        if base::both(
-            n < rows.len() / ROW_WORDS,
-            n <= scratch.len() / SCRATCH_WORDS,
-        ) {
-            fill(head, e, a, scratch, rows);
-            return Outcome::Done;
-        }
-        return Outcome::Short;
-    }
-    Outcome::NotSheet
 }
