@@ -1,6 +1,7 @@
 // The calls on a file whose book is named by a number, as a host in C names it: a number that names none is answered and not trusted.
 use attribute::Answer;
 use book::Book;
+use book::Edition;
 use book::Letters;
 use sayings::Kind;
 ghost use mathlib.Core.Path.{_≡_};
@@ -21,11 +22,13 @@ fn choice_of(letters: u64) -> Choice
 {
     if letters == 1 {
         return Choice::By(Book {
+            edition: Edition::New,
             letters: Letters::Old,
         });
     }
     if letters == 2 {
         return Choice::By(Book {
+            edition: Edition::New,
             letters: Letters::New,
         });
     }
