@@ -22,12 +22,17 @@ static void refuse(const char *what, uint64_t number)
     exit(1);
 }
 
-static void apertures(struct text *t, int count)
+static void define(struct text *t, int count)
 {
     char line[64];
-    say(t, "%FSLAX46Y46*%\n%MOMM*%\nG01*\n");
     for (int i = 0; i < count; i++)
         add(t, line, (size_t)sprintf(line, "%%ADD%dC,0.1*%%\n", 10000 + i));
+}
+
+static void apertures(struct text *t, int count)
+{
+    say(t, "%FSLAX46Y46*%\n%MOMM*%\nG01*\n");
+    define(t, count);
 }
 
 /* So many draws and flashes, in runs of ten of one aperture. */
@@ -63,12 +68,13 @@ static struct text block_sheet(int entries, int count)
     return t;
 }
 
-/* Blocks `deep` in each other, each flashed ten times in the next, the last at the top level. */
-static struct text nested_sheet(int deep)
+/* Blocks `deep` in each other, each flashed ten times in the next, the last at the top level; beside so many apertures that are not used. */
+static struct text nested_sheet(int deep, int unused)
 {
     struct text t = {0};
     char line[64];
     say(&t, start);
+    define(&t, unused);
     say(&t, "%ABD100*%\nD10*\n");
     for (int i = 0; i < 10; i++)
         operation(&t, "03");
@@ -158,7 +164,9 @@ int main(void)
     once = measure("in a block, flashed twice", block_sheet(100000, 1000), 0);
     measure("in a block, twice the entries", block_sheet(200000, 1000), once);
     measure("in a block, twice the apertures", block_sheet(100000, 2000), once);
-    once = measure("blocks 4 deep, ten each", nested_sheet(4), 0);
-    measure("blocks 8 deep, ten each", nested_sheet(8), once);
+    once = measure("blocks 4 deep, ten each", nested_sheet(4, 0), 0);
+    measure("blocks 8 deep, ten each", nested_sheet(8, 0), once);
+    once = measure("blocks 8 deep, beside 2,000 apertures", nested_sheet(8, 2000), 0);
+    measure("blocks 8 deep, beside 4,000 apertures", nested_sheet(8, 4000), once);
     return 0;
 }

@@ -13,7 +13,7 @@ use Rattle.sheet.specs.Meaning.{sheetItems}
 use Rattle.sheet.specs.Valid.{valid}
 use Rattle.summaries.specs.Summed.{rowOf}
 use Rattle.summaries.specs.declared.Asked.the-variants.{Aperture, Regions}
-use Rattle.summary.specs.Kept.{rowWidth, rowWords}
+use Rattle.summary.specs.Kept.{rowWidth, scratchWidth, rowWords}
 use Rattle.summary.specs.declared.Outcome.{Outcome}
 use Rattle.summary.specs.declared.Outcome.the-variants as O
 
@@ -24,10 +24,6 @@ apertureRow ts a b = rowWords (rowOf (Aperture (apertureOf a b .number)) ts)
 -- "apertures in store order and regions last"; "an unused .. spare row is zeros"
 unfoldable pub summaryWords : List Item → List ℕ → ℕ → ℕ → List ℕ
 summaryWords ts a n words = run (apertureRow ts a) 0 n ++ rowWords (rowOf Regions ts) ++ replicate (words - (n + 1) * rowWidth) 0
-
--- the words of scratch for each aperture record (decision 414)
-abbrev pub scratchWidth : ℕ
-scratchWidth = 8
 
 -- more rows than the n aperture records, and scratch for each of these
 unfoldable pub roomy : ℕ → ℕ → ℕ → Bool

@@ -23,6 +23,10 @@ rowWidth = 5
 abbrev pub keptWidth : ℕ
 keptWidth = 6
 
+-- the words of scratch for each aperture record: a row's, and one in the list of the blocks (decisions 414, 530)
+abbrev pub scratchWidth : ℕ
+scratchWidth = 8
+
 unfoldable pub hasPoints : Extent → Bool
 hasPoints Nothing = false
 hasPoints (Over b) = true

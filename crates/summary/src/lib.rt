@@ -14,16 +14,19 @@ ghost use Prim.Native.Nat.{_+_, _*_, _/_, _≤_, _<_};
 ghost use lib.ListN.{length, replicate};
 ghost use mir.Syntax.{w64};
 ghost use mir.Val.{ofZ};
-ghost use Rattle.sheet.specs.Records.{apertureRoom, stored};
-ghost use Rattle.sheet.specs.Containers.{aperturesUsed};
-ghost use Rattle.sheet.specs.Meaning.{sheetItems};
+ghost use Rattle.sheet.specs.Records.{entryRoom, entryOf, apertureRoom, stored};
+ghost use Rattle.sheet.specs.Containers.{aperturesUsed, blockOf};
+ghost use Rattle.sheet.specs.Meaning.{flagWord, sheetItems};
 ghost use Rattle.summaries.specs.Summed.{rowOf};
+ghost use Rattle.summaries.specs.declared.Asked.the-variants.{Regions};
 ghost use Rattle.summary.specs.Kept.{hasPoints, corners, rowWords, keptWords, spanOf, extentIf, rowAt};
-ghost use Rattle.summary.specs.Walk.{entryRow, runRow, topEntryRow, topRow, EntryReady, RunReady, TopEntryReady, TopReady};
-ghost use Rattle.summary.specs.Blocks.{withBlock, BlockReady, Fits, Done};
+ghost use Rattle.summary.specs.Walk.{entryRow, isIdle, runRow, topEntryRow, topRow, EntryReady, RunReady, TopEntryReady, TopReady};
+ghost use Rattle.summary.specs.Listed.{isAt, withListed, Listed};
+ghost use Rattle.summary.specs.Blocks.{withBlock, Fits, Ready, Done};
 ghost use Rattle.summary.specs.Answers.{summaryWords};
 
-// The words of a row, of a row that is kept meanwhile, and of scratch for each aperture record.
+// The words of a row, of a row that is kept meanwhile, and of scratch for each aperture record: a row, and a word in the list of the
+// blocks.
 pub const ROW_WORDS: usize = 5;
 
 const KEPT_WORDS: usize = 6;
@@ -163,6 +166,21 @@ fn entry_row(s: &[u64], q: Asked, r: Entry) -> Row
     }
 }
 
+// Whether entry i draws an item that is not asked for, told by two of its words.
+fn is_idle(e: &[u64], i: usize, q: Asked) -> bool
+    requires { ⌜ i < entryRoom (now e) ⌝ }
+    ensures { λ t. ⌜ t ≡ isIdle q (entryOf (now (e .entry)) i) ⌝ }
+{
+    let kind = base::word_at(e, i * sheet::ENTRY_WORDS);
+    match q {
+        Asked::Aperture(n) => {
+            let who = base::word_at(e, i * sheet::ENTRY_WORDS + 2);
+            base::both(kind <= 8, !base::both(kind <= 4, who == n))
+        }
+        Asked::Regions => kind <= 4,
+    }
+}
+
 // The row of a block or a body: its entries' rows, merged.
 fn run_row(e: &[u64], s: &[u64], q: Asked, k: Container) -> Row
     requires { ⌜ RunReady (now e) (now s) q k ⌝ }
@@ -173,9 +191,13 @@ fn run_row(e: &[u64], s: &[u64], q: Asked, k: Container) -> Row
     let mut i: usize = 0;
     let mut so_far = summaries::no_row();
     while i < len {
-        let r = sheet::entry_at(e, first + i);
-        so_far = summaries::merge(so_far, entry_row(s, q, r));
-        i += 1;
+        if is_idle(e, first + i, q) {
+            i += 1;
+        } else {
+            let r = sheet::entry_at(e, first + i);
+            so_far = summaries::merge(so_far, entry_row(s, q, r));
+            i += 1;
+        }
     }
     so_far
 }
@@ -201,57 +223,97 @@ fn top_row(e: &[u64], s: &[u64], q: Asked, k: Container) -> Row
     let mut i: usize = 0;
     let mut so_far = summaries::no_row();
     while i < len {
-        let r = sheet::entry_at(e, first + i);
-        so_far = summaries::merge(so_far, top_entry_row(e, s, q, r));
-        i += 1;
+        if is_idle(e, first + i, q) {
+            i += 1;
+        } else {
+            let r = sheet::entry_at(e, first + i);
+            so_far = summaries::merge(so_far, top_entry_row(e, s, q, r));
+            i += 1;
+        }
     }
     so_far
 }
 
-// Keeps the row of aperture record b, where it is a block of height h.
-fn keep_block(e: &[u64], a: &[u64], q: Asked, h: u64, b: usize, s: &mut [u64])
-    requires { ⌜ (b < apertureRoom (now a)) × BlockReady (now e) (now a) q h b (now s) ⌝ }
-    ensures { λ _. ⌜ now (s .exit) ≡ withBlock (now (e .entry)) (now (a .entry)) q h b (now (s .entry)) ⌝ }
+// Lists record b behind m others, where it is a block of height h; how many are listed then.
+fn list_block(a: &[u64], n: usize, h: u64, b: usize, m: usize, s: &mut [u64]) -> usize
+    requires { ⌜ (b < apertureRoom (now a)) × (n ≤ length (now s) / 8) × (m ≤ n) ⌝ }
+    ensures { λ r. ⌜ (r ≡ m + flagWord (isAt (now (a .entry)) h b)) × (now (s .exit) ≡ withListed (now (a .entry)) n h b m (now (s .entry))) ⌝ }
 {
     let k = sheet::block_at(a, b);
     if base::both(entry::is_block(a, b), k.height == h) {
-        let r = run_row(e, s, q, k);
-        keep_row(s, b, r);
+        base::put(s, n * KEPT_WORDS + m, b as u64);
+        return m + 1;
     }
+    m
 }
 
-// Keeps the rows of the blocks of height h, where those of lower ones are kept.
-fn keep_height(head: &[u64; 8], e: &[u64], a: &[u64], q: Asked, h: u64, s: &mut [u64])
-    requires { ⌜ Done (now head) (now e) (now a) q h 0 (now s) ⌝ }
-    ensures { λ _. ⌜ Done (now (head .entry)) (now (e .entry)) (now (a .entry)) q (h + 1) 0 (now (s .exit)) ⌝ }
+// Lists the blocks of height h, where the lower ones are listed.
+fn list_height(a: &[u64], n: usize, h: u64, m: usize, s: &mut [u64]) -> usize
+    requires { ⌜ (n ≤ apertureRoom (now a)) × (n ≤ length (now s) / 8) × Listed (now a) (now s) n h 0 m ⌝ }
+    ensures { λ r. ⌜ Listed (now (a .entry)) (now (s .exit)) n (h + 1) 0 r ⌝ }
 {
-    let n = sheet::index(head[3]);
     let mut b: usize = 0;
+    let mut r = m;
     while b < n {
-        keep_block(e, a, q, h, b, s);
+        r = list_block(a, n, h, b, r, s);
         b += 1;
     }
+    r
 }
 
-// Keeps the rows of all blocks, heights from 1 up.
-fn keep_blocks(head: &[u64; 8], e: &[u64], a: &[u64], q: Asked, s: &mut [u64])
-    requires { ⌜ Fits (now head) (now e) (now a) (now s) ⌝ }
-    ensures { λ _. ⌜ Done (now (head .entry)) (now (e .entry)) (now (a .entry)) q 9 0 (now (s .exit)) ⌝ }
+// Lists the blocks of n records, heights from 0 to 8; how many there are.
+fn list_blocks(a: &[u64], n: usize, s: &mut [u64]) -> usize
+    requires { ⌜ (n ≤ apertureRoom (now a)) × (n ≤ length (now s) / 8) ⌝ }
+    ensures { λ r. ⌜ Listed (now (a .entry)) (now (s .exit)) n 9 0 r ⌝ }
 {
-    let mut h: u64 = 1;
+    let mut h: u64 = 0;
+    let mut r: usize = 0;
     while h < 9 {
-        keep_height(head, e, a, q, h, s);
+        r = list_height(a, n, h, r, s);
         h += 1;
+    }
+    r
+}
+
+// Keeps the row of record b, a block whose lower blocks' rows are kept.
+fn keep_block(e: &[u64], a: &[u64], q: Asked, b: usize, s: &mut [u64])
+    requires { ⌜ (b < apertureRoom (now a)) × (b < length (now s) / 6) × RunReady (now e) (now s) q (blockOf (now a) b) ⌝ }
+    ensures { λ _. ⌜ now (s .exit) ≡ withBlock (now (e .entry)) (now (a .entry)) q b (now (s .entry)) ⌝ }
+{
+    let r = run_row(e, s, q, sheet::block_at(a, b));
+    keep_row(s, b, r);
+}
+
+// Keeps the rows of the m blocks that are listed.
+fn keep_blocks(head: &[u64; 8], e: &[u64], a: &[u64], q: Asked, m: usize, s: &mut [u64])
+    requires { ⌜ Ready (now head) (now e) (now a) (now s) m ⌝ }
+    ensures { λ _. ⌜ Done (now (head .entry)) (now (e .entry)) (now (a .entry)) q m m (now (s .exit)) ⌝ }
+{
+    let n = sheet::index(head[3]);
+    let mut i: usize = 0;
+    while i < m {
+        let b = sheet::index(base::word_at(s, n * KEPT_WORDS + i));
+        keep_block(e, a, q, b, s);
+        i += 1;
     }
 }
 
-// The row of what is asked for, of all items of a sheet.
-pub fn row_of(head: &[u64; 8], e: &[u64], a: &[u64], q: Asked, s: &mut [u64]) -> Row
-    requires { ⌜ Fits (now head) (now e) (now a) (now s) ⌝ }
-    ensures { λ r. ⌜ r ≡ rowOf q (sheetItems (now (head .entry)) (now (e .entry)) (now (a .entry))) ⌝ }
+// The row of what is asked for, of all items of a sheet whose m blocks are listed.
+fn row_of(head: &[u64; 8], e: &[u64], a: &[u64], q: Asked, m: usize, s: &mut [u64]) -> Row
+    requires { ⌜ Ready (now head) (now e) (now a) (now s) m ⌝ }
+    ensures { λ r. ⌜ (r ≡ rowOf q (sheetItems (now (head .entry)) (now (e .entry)) (now (a .entry)))) × Ready (now (head .entry)) (now (e .entry)) (now (a .entry)) (now (s .exit)) m ⌝ }
 {
-    keep_blocks(head, e, a, q, s);
+    keep_blocks(head, e, a, q, m, s);
     top_row(e, s, q, sheet::top_of(head))
+}
+
+// The row of a sheet's regions.
+pub fn regions_row(head: &[u64; 8], e: &[u64], a: &[u64], s: &mut [u64]) -> Row
+    requires { ⌜ Fits (now head) (now e) (now a) (now s) ⌝ }
+    ensures { λ r. ⌜ r ≡ rowOf Regions (sheetItems (now (head .entry)) (now (e .entry)) (now (a .entry))) ⌝ }
+{
+    let m = list_blocks(a, sheet::index(head[3]), s);
+    row_of(head, e, a, Asked::Regions, m, s)
 }
 
 // The rows of a sheet, into words that are all 0.
@@ -260,13 +322,14 @@ pub fn fill(head: &[u64; 8], e: &[u64], a: &[u64], s: &mut [u64], out: &mut [u64
     ensures { λ _. ⌜ now (out .exit) ≡ summaryWords (sheetItems (now (head .entry)) (now (e .entry)) (now (a .entry))) (now (a .entry)) (aperturesUsed (now (head .entry))) (length (now (out .entry))) ⌝ }
 {
     let n = sheet::index(head[3]);
+    let m = list_blocks(a, n, s);
     let mut b: usize = 0;
     while b < n {
         let number = sheet::aperture_at(a, b).number;
-        let r = row_of(head, e, a, Asked::Aperture(number), s);
+        let r = row_of(head, e, a, Asked::Aperture(number), m, s);
         put_row(out, b * ROW_WORDS, r);
         b += 1;
     }
-    let r = row_of(head, e, a, Asked::Regions, s);
+    let r = row_of(head, e, a, Asked::Regions, m, s);
     put_row(out, n * ROW_WORDS, r);
 }

@@ -168,7 +168,7 @@ fn fill_at_once(head: &[u64; 8], e: &[u64], a: &[u64], s: &mut [u64], out: &mut 
         × ((t ≡ false → now (out .exit) ≡ now (out .entry))) ⌝ }
 {
     let n = sheet::index(head[3]);
-    let last = summary::row_of(head, e, a, Asked::Regions, s);
+    let last = summary::regions_row(head, e, a, s);
     base::clear(s);
     if add_top(e, a, n, sheet::top_of(head), s) {
         put_rows(s, n, out);

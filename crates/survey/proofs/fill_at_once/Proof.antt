@@ -7,6 +7,7 @@ use lib.ListN.{length}
 use borrow.Author.Needs.{needs}
 use Rattle.sheet.specs.Containers.{aperturesUsed}
 use Rattle.sheet.specs.Meaning.{sheetItems}
+use Rattle.summary.proofs.Answers.{rows-fit}
 use Rattle.survey.specs.Adds.{askedBy}
 use Rattle.survey.proofs.Flat.{top-flat}
 use Rattle.survey.proofs.Put.{rows-last}
@@ -20,8 +21,8 @@ element-copy-out-index c = search needs
 index-requires : tie.Need-index-requires
 index-requires c κs = search needs
 
-row-of-requires : tie.Need-row-of-requires
-row-of-requires c κs = c .before .before .before .before .before .before .before .pre .0
+regions-row-requires : tie.Need-regions-row-requires
+regions-row-requires c κs = c .before .before .before .before .before .before .before .pre .0
 
 clear-requires : tie.Need-clear-requires
 clear-requires c κs = search needs
@@ -33,16 +34,16 @@ add-top-requires : tie.Need-add-top-requires
 add-top-requires c κs =
     let A = c .before .before .before .before .before .before .before .before .before .before .before .before .before .before .before .before .args in
     let w = c .before .before .before .before .before .before .before .before .before .before .before .before .before .before .before .before .pre in
-    rw (c .before .top-of .ensures, c .before .before .before .before .clear .ensures, c .before .before .before .before .before .before .before .before .row-of .kept .1 .1 .1 .1 .0, c .before .before .before .before .before .before .before .before .before .before .index .ensures)
-    (ready (A .head .now) (A .e .now) (A .a .now) (w .0 .ok) (length (A .s .now)) (w .1) (w .0 .room))
+    rw (c .before .top-of .ensures, c .before .before .before .before .clear .ensures, c .before .before .before .before .before .before .before .before .regions-row .kept .1 .1 .1 .0, c .before .before .before .before .before .before .before .before .before .before .index .ensures)
+    (ready (A .head .now) (A .e .now) (A .a .now) (w .0 .ok) (length (A .s .now)) (w .1) (rows-fit _ _ _ _ (w .0)))
 
 put-rows-requires : tie.Need-put-rows-requires
 put-rows-requires c κs =
     let A = c .before .before .before .before .before .before .before .before .before .before .before .before .before .before .before .before .before .before .before .before .before .before .args in
     let w = c .before .before .before .before .before .before .before .before .before .before .before .before .before .before .before .before .before .before .before .before .before .before .pre in
     let n : c .before .before .before .before .before .before .before .before .before .before .before .before .before .before .before .before .index .result ≡ aperturesUsed (A .head .now) = c .before .before .before .before .before .before .before .before .before .before .before .before .before .before .before .before .index .ensures in
-    let long = c .before .before .before .before .before .add-top .kept .1 .1 .1 .1 .0 ∙ c .before .before .before .before .before .before .before .before .before .before .clear .kept .0 ∙ c .before .before .before .before .before .before .before .before .before .before .before .before .before .before .row-of .kept .1 .1 .1 .1 .0 in
-    let r = w .0 .room in
+    let long = c .before .before .before .before .before .add-top .kept .1 .1 .1 .1 .0 ∙ c .before .before .before .before .before .before .before .before .before .before .clear .kept .0 ∙ c .before .before .before .before .before .before .before .before .before .before .before .before .before .before .regions-row .kept .1 .1 .1 .0 in
+    let r = rows-fit _ _ _ _ (w .0) in
     let o = w .2 in
     (rw (long, c .before .before .before .before .before .before .before .before .before .before .before .before .before .before .before .before .index .ensures) r, omega arith, w .3)
 
@@ -64,7 +65,7 @@ put-row-requires c κs =
     omega arith
 
 same-length : tie.Need-same-length
-same-length c = c .before .before .before .before .before .before .before .before .before .before .before .before .add-top .kept .1 .1 .1 .1 .0 ∙ c .before .before .before .before .before .before .before .before .before .before .before .before .before .before .before .before .before .clear .kept .0 ∙ c .before .before .before .before .before .before .before .before .before .before .before .before .before .before .before .before .before .before .before .before .before .row-of .kept .1 .1 .1 .1 .0
+same-length c = c .before .before .before .before .before .before .before .before .before .before .before .before .add-top .kept .1 .1 .1 .1 .0 ∙ c .before .before .before .before .before .before .before .before .before .before .before .before .before .before .before .before .before .clear .kept .0 ∙ c .before .before .before .before .before .before .before .before .before .before .before .before .before .before .before .before .before .before .before .before .before .regions-row .kept .1 .1 .1 .0
 
 same-length-2 : tie.Need-same-length-2
 same-length-2 c = c .before .before .put-row .kept .0 ∙ c .before .before .before .before .before .before .put-rows .kept .1 .1 .0
@@ -76,14 +77,14 @@ returns c =
     let o = w .2 in
     let x = rw (c .before .before .before .before .before .before .before .before .before .before .before .before .before .before .top-of .ensures, c .before .before .before .before .before .before .before .before .before .before .before .before .before .before .before .before .before .before .before .before .before .before .before .index .ensures) at (c .before .before .before .before .before .before .before .before .before .before .before .before .add-top .ensures (c .before .before .before .before .before .before .before .before .before .if1 .taken)) in (
       λ z.
-          rw (c .before .before .before .before .before .before .put-rows .ensures, c .before .before .before .before .before .before .before .before .before .before .before .before .before .before .before .before .before .before .before .before .before .row-of .ensures, c .before .before .before .before .before .before .before .before .before .before .before .before .before .before .before .before .before .before .before .before .before .before .before .index .ensures) at (c .before .before .put-row .ensures)
+          rw (c .before .before .before .before .before .before .put-rows .ensures, c .before .before .before .before .before .before .before .before .before .before .before .before .before .before .before .before .before .before .before .before .before .regions-row .ensures, c .before .before .before .before .before .before .before .before .before .before .before .before .before .before .before .before .before .before .before .before .before .before .before .index .ensures) at (c .before .before .put-row .ensures)
           ∙ rows-last _ (sheetItems (A .head .now) (A .e .now) (A .a .now)) (A .a .now) (length (A .out .now)) (aperturesUsed (A .head .now))
           (λ b l. x .1 .rows b l ∙ top-flat (A .head .now) (A .e .now) (A .a .now) (w .0 .ok) (askedBy (A .a .now) b) (x .0)) (omega arith),
       λ z. absurd (true≢false z),
     )
 
 same-length-3 : tie.Need-same-length-3
-same-length-3 c = c .before .before .before .add-top .kept .1 .1 .1 .1 .0 ∙ c .before .before .before .before .before .before .before .before .clear .kept .0 ∙ c .before .before .before .before .before .before .before .before .before .before .before .before .row-of .kept .1 .1 .1 .1 .0
+same-length-3 c = c .before .before .before .add-top .kept .1 .1 .1 .1 .0 ∙ c .before .before .before .before .before .before .before .before .clear .kept .0 ∙ c .before .before .before .before .before .before .before .before .before .before .before .before .regions-row .kept .1 .1 .1 .0
 
 returns-2 : tie.Need-returns-2
 returns-2 c = (λ z. absurd (true≢false (sym z)), λ z. refl)
@@ -94,7 +95,7 @@ fill-at-once-spec =
     (tie.spec
     element-copy-out-index
     index-requires
-    row-of-requires
+    regions-row-requires
     clear-requires
     top-of-requires
     add-top-requires
