@@ -99,8 +99,8 @@ fn is_followed(file: &[u8], from: usize) -> bool
     scan::is_printable(base::byte_at(file, text::past_breaks(file, from)))
 }
 
-// The list of these bytes is as long as it was lent, and zeros.
-fn clear_bytes(s: &mut [u8])
+// Zeros in every byte.
+pub fn clear_bytes(s: &mut [u8])
     ensures { λ _. ⌜ now (s .exit) ≡ replicate (length (now (s .entry))) 0 ⌝ }
 {
     let mut i: usize = 0;
