@@ -1,3 +1,4 @@
+pub mod Laws
 pub mod Mends
 pub mod Outcome
 pub mod Steps
