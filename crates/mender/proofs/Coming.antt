@@ -25,7 +25,7 @@ use Rattle.mending.specs.declared.Written.the-variants.{Both, File, Nothing}
 use Rattle.mending.proofs.Filled.{Says, said}
 use Rattle.mender.specs.Outcome.{Outcome, accepted, refused, stillRefused, judged, mendingOf}
 use Rattle.mender.specs.Mends.{Given, Mends}
-use Rattle.mender.specs.Steps.{hasFile, hasReport, bytesOf, changesOf, answerFrom, isMended, Stopped, Comes}
+use Rattle.mender.specs.Steps.{hasFile, hasReport, bytesWritten, changesWritten, answerFrom, isMended, Stopped, Comes}
 use Rattle.mender.specs.declared.Answer as code
 use Rattle.mender.specs.declared.Answer.the-variants as answer
 
@@ -68,26 +68,26 @@ module _ {book : Book} {file : List ℕ} {bytes words : ℕ} {w : Written} {out 
         go (File b) s h = sym (s .1)
         go Nothing s h = absurd (let z : _≡_ {A = ℕ} 0 1 = cc in omega arith)
 
-    bytes-told : bytesOf w ≡ length (mended book file)
-    unfolding hasFile bytesOf
+    bytes-told : bytesWritten w ≡ length (mended book file)
+    unfolding hasFile bytesWritten
     bytes-told = go w (said d) h
       where
-        go : (w : Written) → Says w (fileFits book file bytes) (reportFits book file words) (length (mended book file)) (length (changes book file)) → hasFile w ≡ true → bytesOf w ≡ length (mended book file)
+        go : (w : Written) → Says w (fileFits book file bytes) (reportFits book file words) (length (mended book file)) (length (changes book file)) → hasFile w ≡ true → bytesWritten w ≡ length (mended book file)
         go (Both b k) s h = s .2
         go (File b) s h = s .2
         go Nothing s h = absurd (let z : _≡_ {A = ℕ} 0 1 = cc in omega arith)
 
-    changes-told : hasReport w ≡ true → changesOf w ≡ length (changes book file)
-    unfolding hasFile hasReport changesOf
+    changes-told : hasReport w ≡ true → changesWritten w ≡ length (changes book file)
+    unfolding hasFile hasReport changesWritten
     changes-told g = go w (said d) g
       where
-        go : (w : Written) → Says w (fileFits book file bytes) (reportFits book file words) (length (mended book file)) (length (changes book file)) → hasReport w ≡ true → changesOf w ≡ length (changes book file)
+        go : (w : Written) → Says w (fileFits book file bytes) (reportFits book file words) (length (mended book file)) (length (changes book file)) → hasReport w ≡ true → changesWritten w ≡ length (changes book file)
         go (Both b k) s g = s .3
         go (File b) s g = absurd (let z : _≡_ {A = ℕ} 0 1 = cc in omega arith)
         go Nothing s g = absurd (let z : _≡_ {A = ℕ} 0 1 = cc in omega arith)
 
     -- the bytes that were written are the mended file
-    pub written-mended : take (bytesOf w) out ≡ mended book file
+    pub written-mended : take (bytesWritten w) out ≡ mended book file
     unfolding written
     written-mended = rw (bytes-told, d .file-left (sym file-told ∙ h), written) (take-append-seam (mended book file) _)
 
@@ -128,7 +128,7 @@ module _ {book : Book} {file : List ℕ} {bytes words : ℕ} {w : Written} {out 
   stops number q l = record { answer = q; file-long = d .as-long; report-long = d .as-many; as-long = long-same file (mended book file) e a m n e′ a′ m′ n′ l }
 
   gives : (s : State) (r : reader.Answer) → hasReport w ≡ true → Reads (roundedIn book (mended book file)) (reading.accepted s) (lent (mended book file)) (left (mended book file)) head r →
-      Comes book (accepted s) (lent file) (left file) bytes out words noted head (answerFrom true (bytesOf w) (changesOf w) r)
+      Comes book (accepted s) (lent file) (left file) bytes out words noted head (answerFrom true (bytesWritten w) (changesWritten w) r)
   unfolding Comes Reads answerFrom lentOf
   gives s r g k = record {
     answer = rw (k .0, bytes-told d h, changes-told d h g) refl;
@@ -140,17 +140,17 @@ module _ {book : Book} {file : List ℕ} {bytes words : ℕ} {w : Written} {out 
 
   -- the report does not fit, or the mended file is refused
   short-stops : (s : State) (r : reader.Answer) → Reads (roundedIn book (mended book file)) (reading.accepted s) (lent (mended book file)) (left (mended book file)) head r →
-      Comes book (refused 17) (lent file) (left file) bytes out words noted head (answerFrom false (bytesOf w) (changesOf w) r)
+      Comes book (refused 17) (lent file) (left file) bytes out words noted head (answerFrom false (bytesWritten w) (changesWritten w) r)
   unfolding Reads answerFrom
   short-stops s r k = stops 17 (rw (k .0) refl) (k .1)
 
   refused-stops : (number place : ℕ) (r : reader.Answer) (t : Bool) → Reads (roundedIn book (mended book file)) (reading.refused number place) (lent (mended book file)) (left (mended book file)) head r →
-      Comes book (refused (stillRefused number)) (lent file) (left file) bytes out words noted head (answerFrom t (bytesOf w) (changesOf w) r)
+      Comes book (refused (stillRefused number)) (lent file) (left file) bytes out words noted head (answerFrom t (bytesWritten w) (changesWritten w) r)
   unfolding Reads answerFrom
   refused-stops number place r t k = stops (stillRefused number) (rw (k .0) refl) (zeroed-long (lent (mended book file)) (left (mended book file)) head (k .1))
 
   judges : (x : reading.Answer) (r : reader.Answer) (t : Bool) → hasReport w ≡ t → Reads (roundedIn book (mended book file)) x (lent (mended book file)) (left (mended book file)) head r →
-      Comes book (judged t x) (lent file) (left file) bytes out words noted head (answerFrom t (bytesOf w) (changesOf w) r)
+      Comes book (judged t x) (lent file) (left file) bytes out words noted head (answerFrom t (bytesWritten w) (changesWritten w) r)
   unfolding judged
   judges (reading.accepted s) r true g k = gives s r g k
   judges (reading.accepted s) r false g k = short-stops s r k
@@ -158,7 +158,7 @@ module _ {book : Book} {file : List ℕ} {bytes words : ℕ} {w : Written} {out 
 
   -- the whole: the bytes that were written are read
   pub comes : (r : reader.Answer) {x : code.Answer} → fits file ≡ true →
-      {b k : ℕ} {t : Bool} → b ≡ bytesOf w → t ≡ hasReport w → k ≡ changesOf w →
+      {b k : ℕ} {t : Bool} → b ≡ bytesWritten w → t ≡ hasReport w → k ≡ changesWritten w →
       Reads (roundedIn book (take b out)) (reading.reading book (roomOf (lent (take b out))) (take b out)) (lent (take b out)) (left (take b out)) head r →
       x ≡ answerFrom t b k r →
       Comes book (mendingOf book (roomOf (lent file)) bytes words file) (lent file) (left file) bytes out words noted head x

@@ -27,15 +27,15 @@ hasReport (Both bytes changes) = true
 hasReport (File bytes) = false
 hasReport Nothing = false
 
-unfoldable pub bytesOf : Written → ℕ
-bytesOf (Both bytes changes) = bytes
-bytesOf (File bytes) = bytes
-bytesOf Nothing = 0
+unfoldable pub bytesWritten : Written → ℕ
+bytesWritten (Both bytes changes) = bytes
+bytesWritten (File bytes) = bytes
+bytesWritten Nothing = 0
 
-unfoldable pub changesOf : Written → ℕ
-changesOf (Both bytes changes) = changes
-changesOf (File bytes) = 0
-changesOf Nothing = 0
+unfoldable pub changesWritten : Written → ℕ
+changesWritten (Both bytes changes) = changes
+changesWritten (File bytes) = 0
+changesWritten Nothing = 0
 
 -- the answer, by that of the reader and by whether the report fits
 unfoldable pub answerFrom : Bool → ℕ → ℕ → reader.Answer → code.Answer

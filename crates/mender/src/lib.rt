@@ -10,7 +10,7 @@ ghost use Rattle.progress.specs.Lent.{lentOf, roomOf};
 ghost use Rattle.reader.specs.Reads.{Reads};
 ghost use Rattle.mender.specs.Outcome.{stillRefused, mendingOf};
 ghost use Rattle.mender.specs.Mends.{Mends};
-ghost use Rattle.mender.specs.Steps.{hasFile, hasReport, bytesOf, changesOf, answerFrom, isMended, Comes};
+ghost use Rattle.mender.specs.Steps.{hasFile, hasReport, bytesWritten, changesWritten, answerFrom, isMended, Comes};
 
 // So many bytes of the mended file, so many changes, the unit of its sheet, 1 mm or 2 inch, and how many decimals were rounded; or a
 // number, whose place is 0.
@@ -131,7 +131,7 @@ fn has_report(w: Written) -> bool
 
 // How many bytes the mended file has.
 fn bytes_of(w: Written) -> usize
-    ensures { λ r. ⌜ r ≡ bytesOf w ⌝ }
+    ensures { λ r. ⌜ r ≡ bytesWritten w ⌝ }
 {
     match w {
         Written::Both { bytes, changes: _ } => bytes,
@@ -142,7 +142,7 @@ fn bytes_of(w: Written) -> usize
 
 // How many changes the report has.
 fn changes_of(w: Written) -> usize
-    ensures { λ r. ⌜ r ≡ changesOf w ⌝ }
+    ensures { λ r. ⌜ r ≡ changesWritten w ⌝ }
 {
     match w {
         Written::Both { bytes: _, changes } => changes,
@@ -182,7 +182,7 @@ fn mend_over(
 }
 
 // Zeros in everything that is lent.
-fn clear(
+pub fn clear(
     out: &mut [u8],
     report: &mut [u64],
     head: &mut [u64; 8],

@@ -1,6 +1,6 @@
 -- `mender::bytes_of` meets its contract: case by case.
 -- Assumes nothing.
-use Rattle.mender.specs.Steps.{bytesOf}
+use Rattle.mender.specs.Steps.{bytesWritten}
 use borrow.Author.Needs.{needs}
 use Rattle.mender.proofs.bytes_of.Statement.{statement}
 use Rattle.mender.proofs.bytes_of.Tie as tie
@@ -15,15 +15,15 @@ enum-told : tie.Need-enum-told
 enum-told c = search needs
 
 returns : tie.Need-returns
-unfolding bytesOf
+unfolding bytesWritten
 returns c = search needs
 
 returns-2 : tie.Need-returns-2
-unfolding bytesOf
+unfolding bytesWritten
 returns-2 c = search needs
 
 returns-3 : tie.Need-returns-3
-unfolding bytesOf
+unfolding bytesWritten
 returns-3 c = search needs
 
 pub bytes-of-spec : {M : Type 1} → statement M

@@ -1,6 +1,6 @@
 -- `mender::changes_of` meets its contract: case by case.
 -- Assumes nothing.
-use Rattle.mender.specs.Steps.{changesOf}
+use Rattle.mender.specs.Steps.{changesWritten}
 use borrow.Author.Needs.{needs}
 use Rattle.mender.proofs.changes_of.Statement.{statement}
 use Rattle.mender.proofs.changes_of.Tie as tie
@@ -15,15 +15,15 @@ enum-told-2 : tie.Need-enum-told-2
 enum-told-2 c = search needs
 
 returns : tie.Need-returns
-unfolding changesOf
+unfolding changesWritten
 returns c = search needs
 
 returns-2 : tie.Need-returns-2
-unfolding changesOf
+unfolding changesWritten
 returns-2 c = search needs
 
 returns-3 : tie.Need-returns-3
-unfolding changesOf
+unfolding changesWritten
 returns-3 c = search needs
 
 pub changes-of-spec : {M : Type 1} → statement M
