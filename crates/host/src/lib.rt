@@ -318,7 +318,17 @@ pub extern "C" fn sheet_mend(
         (lentOf (now (file .entry)) (now (entries .exit)) (now (apertures .exit)) (now (macros .exit)) (now (numbers .exit)))
         (length (now (out .entry))) (now (out .exit)) (length (now (report .entry))) (now (report .exit)) (now (head .exit)) r (now (bytes .exit)) (now (changes .exit)) (now (unit .exit)) (now (rounded .exit)) ⌝ }
 {
-    let a = numbered::mend(letters, file, out, report, head, entries, apertures, macros, numbers);
+    let a = numbered::mend(
+        letters,
+        file,
+        out,
+        report,
+        head,
+        entries,
+        apertures,
+        macros,
+        numbers,
+    );
     match a {
         mender::Answer::Mended {
             bytes: b,
