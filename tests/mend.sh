@@ -1,5 +1,6 @@
 #!/usr/bin/env bash
-# Mending: the program mend, its output, its words and its exit status; the sample host against the second reader on broken files that are
+# Mending: the call from C (tests/mending.c), also under AddressSanitizer where it runs; the program mend, its output, its words and its exit
+# status; the sample host against the second reader on broken files that are
 # made for it, with room for all and in small rooms, under every edition and rule of letters that it knows; and on cuts of real layers that
 # stand beside the repository, where they do: ten of them, at each of their last 150 bytes, or as many as are asked for.
 #   tests/mend.sh [CUTS [FILES [SEED]]]
@@ -16,6 +17,12 @@ second=$PWD/target/second/release/second
 CARGO_NET_OFFLINE=true cargo build --release --quiet --manifest-path second/Cargo.toml --target-dir target/second
 room=$(mktemp -d)
 trap 'rm -rf "$room"' EXIT
+host/build tests/mending.c "$made/mending"
+${emulator:+"$emulator"} "$made/mending"
+if [ -z "$emulator" ] && host/build tests/mending.c "$made/mending-asan" -fsanitize=address -g 2>/dev/null; then
+    "$made/mending-asan" >/dev/null
+    echo "mend: the same under AddressSanitizer"
+fi
 imager() { ${emulator:+"$emulator"} "$made/imager" "$@"; }
 mend() { ${emulator:+"$emulator"} "$made/mend" "$@"; }
 
