@@ -10,9 +10,14 @@
  *   imager numbers                      a line for each AD: its aperture, then the numbers kept
  *   imager attribute TA|TO PLACE NAME   attribute, place, length of the value (`attr` answers with attr)
  *   imager verify                       signed and the digest that the file bears
+ *   imager mend [--raw] [--room E,A,M,N]
+ *                                       a line for each change, kind and place, then bytes, how many, MD5 of the mended file; or
+ *                                       unchanged; with --raw the mended file
+ *   imager mends [--room E,A,M,N]       for each file named on standard input: name, what mend answers on one line
+ *   imager cuts COUNT [--room E,A,M,N]  for each of the last COUNT bytes of the file: its place, what mend answers of the file cut there
  *   imager batch [--room E,A,M,N]       for each file named on standard input: name, sheet or refusal, hash of its first 2000 lines
  *
- * The file stands on standard input but for batch; fields are parted by tabs. A refusal prints refused, number and place; of an
+ * The file stands on standard input but for batch and mends; fields are parted by tabs. A refusal prints refused, number and place; of an
  * attribute, refused and number. Every mode takes --letters old|new behind its words: the rule of letters, old where it is not said. */
 #include <errno.h>
 #include <inttypes.h>
@@ -20,6 +25,7 @@
 #include <stdlib.h>
 #include <string.h>
 
+#include "mending.h"
 #include "store.h"
 
 enum { RUN = 65536, HASHED = 2000, LINE = 512 };
@@ -310,7 +316,8 @@ static void batch_line(const char *name, const struct room *room)
     free(file.at);
 }
 
-static void batch(const struct room *room)
+/* For each file named on standard input, its line. */
+static void each_file(void (*tell)(const char *, const struct room *), const struct room *room)
 {
     char *name = NULL;
     size_t size = 0;
@@ -319,14 +326,81 @@ static void batch(const struct room *room)
         if (n > 0 && name[n - 1] == '\n')
             name[n - 1] = 0;
         if (name[0])
-            batch_line(name, room);
+            tell(name, room);
     }
     free(name);
 }
 
+/* What mending a file answers, its fields parted by one character and its lines by another. */
+static void print_mended(const struct mended *m, char part, char line)
+{
+    static const char *const kinds[] = {"none", "drop-repeat", "add-end", "drop-tail", "drop-after-end"};
+    uint8_t digest[SHEET_DIGEST_BYTES];
+    if (m->number != SHEET_ACCEPTED) {
+        printf("refused%c%" PRIu64 "%c0", part, m->number, part);
+        return;
+    }
+    if (m->changes == 0) {
+        printf("unchanged");
+        return;
+    }
+    for (size_t i = 0; i < m->changes; i++) {
+        const uint64_t *change = m->report + i * SHEET_CHANGE_WORDS;
+        printf("%s%c%" PRIu64 "%c", kinds[change[0] <= 4 ? change[0] : 0], part, change[1], line);
+    }
+    sheet_digest(m->file, (size_t)m->bytes, digest);
+    printf("bytes%c%" PRIu64 "%c", part, m->bytes, part);
+    for (size_t i = 0; i < sizeof digest; i++)
+        printf("%02x", digest[i]);
+}
+
+/* Room for the sheet as asked for, or for that of any mended file. */
+static struct mended mended(const uint8_t *file, size_t count, const struct room *room)
+{
+    return mend_with(letters, file, count, room ? *room : room_for(count > SHEET_FILE_LIMIT ? count : sheet_mended_for(count)));
+}
+
+static void mend(struct bytes file, int raw, const struct room *room)
+{
+    struct mended m = mended(file.at, file.count, room);
+    if (raw && m.number == SHEET_ACCEPTED) {
+        fwrite(m.file, 1, (size_t)m.bytes, stdout);
+    } else {
+        print_mended(&m, '\t', '\n');
+        putchar('\n');
+    }
+    give_back_mended(&m);
+}
+
+static void mends_line(const char *name, const struct room *room)
+{
+    FILE *in = fopen(name, "rb");
+    if (!in)
+        fail(strerror(errno));
+    struct bytes file = all_of(in);
+    fclose(in);
+    struct mended m = mended(file.at, file.count, room);
+    printf("%s\t", name);
+    print_mended(&m, ' ', ' ');
+    putchar('\n');
+    give_back_mended(&m);
+    free(file.at);
+}
+
+static void cuts(struct bytes file, uint64_t count, const struct room *room)
+{
+    for (size_t length = file.count > count ? file.count - (size_t)count : 0; length < file.count; length++) {
+        struct mended m = mended(file.at, length, room);
+        printf("%zu\t", length);
+        print_mended(&m, ' ', ' ');
+        putchar('\n');
+        give_back_mended(&m);
+    }
+}
+
 static int usage(void)
 {
-    fputs("usage: imager list|sheet|batch [--room E,A,M,N], items K COUNT, address K, number COPY [POSITION..], summary [--rows N], "
+    fputs("usage: imager list|sheet|batch|mends [--room E,A,M,N], mend [--raw] [--room E,A,M,N], cuts COUNT [--room E,A,M,N], items K COUNT, address K, number COPY [POSITION..], summary [--rows N], "
           "numbers, attribute TA|TO PLACE NAME, verify; all with [--letters old|new]\n", stderr);
     return 2;
 }
@@ -345,18 +419,47 @@ static int is(const char *word, const char *other)
     return strcmp(word, other) == 0;
 }
 
+/* `--room E,A,M,N`, or nothing; 0 where the words are something else. */
+static int room_in(int words, char **word, struct room *r, const struct room **room)
+{
+    *room = words != 0 ? r : NULL;
+    return words == 0 || (words == 2 && is(word[0], "--room") &&
+                          sscanf(word[1], "%zu,%zu,%zu,%zu", &r->entries, &r->apertures, &r->macros, &r->numbers) == 4);
+}
+
+/* The modes of mending. */
+static int mending(const char *mode, int words, char **word)
+{
+    struct room r;
+    const struct room *room;
+    uint64_t count = 0;
+    int raw = is(mode, "mend") && words > 0 && is(word[0], "--raw"), asks_cuts = is(mode, "cuts");
+    if (asks_cuts && !(words > 0 && whole(word[0], &count)))
+        return usage();
+    if (!room_in(words - raw - asks_cuts, word + raw + asks_cuts, &r, &room))
+        return usage();
+    if (is(mode, "mends")) {
+        each_file(mends_line, room);
+        return 0;
+    }
+    struct bytes file = all_of(stdin);
+    if (asks_cuts)
+        cuts(file, count, room);
+    else
+        mend(file, raw, room);
+    free(file.at);
+    return 0;
+}
+
 /* The modes that may be given a room. */
 static int with_room(const char *mode, int words, char **word)
 {
-    struct room r, *room = NULL;
-    if (words != 0) {
-        if (words != 2 || !is(word[0], "--room") ||
-            sscanf(word[1], "%zu,%zu,%zu,%zu", &r.entries, &r.apertures, &r.macros, &r.numbers) != 4)
-            return usage();
-        room = &r;
-    }
+    struct room r;
+    const struct room *room;
+    if (!room_in(words, word, &r, &room))
+        return usage();
     if (is(mode, "batch")) {
-        batch(room);
+        each_file(batch_line, room);
         return 0;
     }
     struct bytes file = all_of(stdin);
@@ -396,6 +499,8 @@ int main(int argc, char **argv)
     uint64_t k = 0, count = 0;
     if (is(mode, "list") || is(mode, "sheet") || is(mode, "batch"))
         return with_room(mode, argc - 2, argv + 2);
+    if (is(mode, "mend") || is(mode, "mends") || is(mode, "cuts"))
+        return mending(mode, argc - 2, argv + 2);
     if ((is(mode, "attribute") || is(mode, "attr")) && argc == 5 && (is(argv[2], "TA") || is(argv[2], "TO")) && whole(argv[3], &k)) {
         struct bytes file = all_of(stdin);
         attribute(file, mode, is(argv[2], "TA"), (size_t)k, argv[4]);

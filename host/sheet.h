@@ -62,6 +62,7 @@ enum sheet_number {
     SHEET_UNSIGNED = 25,        /* no signature just before M02 */
     SHEET_OWN_MOVE = 29,        /* in a region, a first D01 without a D02 since its G36; after 11 and before 12 (document 02, [7]) */
     SHEET_NO_ADDRESS = 32,      /* an address that names nothing (document 02, [12]) */
+    SHEET_UNMENDED = 33,        /* a file that is still refused when mended, other than by 17 (document 02, [13]) */
     SHEET_NO_LETTERS = 101      /* the number names no rule of letters; before all else, place 0 (decision 420) */
 };
 
@@ -259,6 +260,37 @@ uint64_t sheet_object_attribute(uint64_t letters, const uint8_t *file, size_t fi
  *   digest              SHEET_DIGEST_BYTES bytes: the digest, zeros where the file is refused
  * Answers 0; or 2, 3, 24, 25 or 101. */
 uint64_t sheet_signature(uint64_t letters, const uint8_t *file, size_t file_bytes, uint64_t *place, uint8_t *digest);
+
+/* What mending changes (document 02, [13]), and where in the file: a later FS or MO with the text of the first is dropped, from its `%`;
+ * a missing `M02*` is added behind the last complete command; what follows that command is dropped; what follows M02 is dropped, from
+ * behind its `*`. */
+enum sheet_change { SHEET_DROP_REPEAT = 1, SHEET_ADD_END = 2, SHEET_DROP_TAIL = 3, SHEET_DROP_AFTER_END = 4 };
+
+/* How many bytes to lend for the mended file of a file of n bytes, and how many changes it has at most: a repeat has 4 bytes at least
+ * (`%FS%`), and an end or a tail comes once. */
+#define SHEET_CHANGE_WORDS 2
+static inline size_t sheet_mended_for(size_t n) { return n + 4; }
+static inline size_t sheet_changes_for(size_t n) { return n / 4 + 2; }
+
+/* Mending: the file with all changes that apply is made, and read.
+ *   letters                       the rule of letters
+ *   file, file_bytes              the file, any bytes
+ *   mended, mended_bytes          room for so many bytes of the mended file
+ *   report, report_words          room for report_words / SHEET_CHANGE_WORDS changes, each its kind (enum sheet_change) and its place
+ *   head .. numbers_count         as in sheet_read, for the sheet of the mended file: enough for sheet_mended_for(file_bytes) bytes
+ *   bytes, changes                one word each: how many bytes the mended file has, and how many changes were made
+ *   unit, rounded                 one word each, as in sheet_read
+ * Answers 0 (then the stores hold the sheet of the mended file, the changes stand in the order of their places, and bytes and words not
+ * used are 0; a file that is accepted as it is comes back unchanged, with no changes); or 1, 33, 17, in this order, or 101 (then all that
+ * is lent to be written is 0). 17 is for stores, output or report that are too short. */
+uint64_t sheet_mend(uint64_t letters, const uint8_t *file, size_t file_bytes, uint8_t *mended, size_t mended_bytes, uint64_t *report,
+                    size_t report_words, uint64_t *head, uint64_t *entries, size_t entries_words, uint64_t *apertures,
+                    size_t apertures_words, uint64_t *macros, size_t macros_words, int64_t *numbers, size_t numbers_count,
+                    uint64_t *bytes, uint64_t *changes, uint64_t *unit, uint64_t *rounded);
+
+/* The MD5 of some bytes (RFC 1321), to tell one file from another.
+ *   digest    SHEET_DIGEST_BYTES bytes */
+void sheet_digest(const uint8_t *bytes, size_t count, uint8_t *digest);
 
 #ifdef __cplusplus
 }

@@ -158,9 +158,7 @@ for terms in "--letters new" "--edition old" "--edition old --letters new"; do
         numbers+=(30 31)
     fi
 done
-by_mode mend 600 mend
-by_mode mend 100 mend --raw
-by_mode mend 100 mend --room 2,2,1,4
+by_mode mend 100 mend --raw # what was changed, in tests/mend.sh
 by_mode placement 600 placement
 by_mode placement 100 placement --out 60
 # Files of 16,777,217 bytes are tried elsewhere (1).

@@ -6,6 +6,7 @@ use std::io::{self, Write};
 use std::path::{Path, PathBuf};
 
 use crate::listing;
+use crate::mend::mend;
 use crate::question::{answer, asked};
 use crate::rules::read;
 use crate::sheet::{Room, Sheet};
@@ -32,6 +33,38 @@ fn batch_line(name: &str, file: &[u8], terms: Terms, room: Room) -> String {
         Err(refusal) => (listing::refusal_line(refusal), String::from("-")),
     };
     format!("{name}\t{}\t{hash}", line.replace('\t', " "))
+}
+
+/// Per file named in the list: its name, and what `mend` answers on one line.
+pub fn mends(list: &str, terms: Terms, room: Room, out: &mut dyn Write) -> io::Result<()> {
+    for name in list.lines().filter(|name| !name.is_empty()) {
+        let file = fs::read(name)?;
+        writeln!(out, "{name}\t{}", mended_line(&file, terms, room))?;
+    }
+    Ok(())
+}
+
+/// Per byte of the last so many of a file: its place, and what `mend` answers of the file cut there.
+pub fn cuts(
+    file: &[u8],
+    count: usize,
+    terms: Terms,
+    room: Room,
+    out: &mut dyn Write,
+) -> io::Result<()> {
+    for length in file.len().saturating_sub(count)..file.len() {
+        writeln!(out, "{length}\t{}", mended_line(&file[..length], terms, room))?;
+    }
+    Ok(())
+}
+
+fn mended_line(file: &[u8], terms: Terms, room: Room) -> String {
+    let mut lines = Vec::new();
+    match mend(file, terms, room) {
+        Ok(mended) => listing::write_changes(&mut lines, &mended).expect("room for all bytes"),
+        Err(refusal) => lines.extend(listing::refusal_line(refusal).bytes()),
+    }
+    String::from_utf8_lossy(&lines).trim_end().replace(['\t', '\n'], " ")
 }
 
 /// FNV-1a, 64 bits.

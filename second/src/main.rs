@@ -46,10 +46,12 @@ second MODE, with the file on standard input:
   label                                        the file attributes
   placement [--out BYTES]                      the placement list of a component layer
   mend [--raw] [--room E,A,M,N]                what was changed, bytes and MD5 of the mended file; or that file
+  cuts COUNT [--room E,A,M,N]                  what mend answers of the file cut at each of its last so many bytes
   summary [--rows N]                           per aperture, then for all regions: how many items, and their bounds
   questions SEED                               some questions about the file, a line each
 with a list of file names on standard input:
   batch [--room E,A,M,N]                       a line per file: name, sheet or refusal, hash
+  mends [--room E,A,M,N]                       a line per file: name, what mend answers
 on folders and files:
   make SEED COUNT DIR [--for mend|placement]   writes generated files, broken ones, or component layers
   census DIR [--room E,A,M,N]                  how many files are answered with each number
@@ -114,6 +116,19 @@ fn run(words: &[String], out: &mut dyn Write) -> io::Result<bool> {
             };
             let list = io::read_to_string(io::stdin().lock())?;
             compare::batch(&list, terms, room, out)?;
+        }
+        ("mends", rest) => {
+            let Some(room) = question::only_room(rest) else {
+                return Ok(false);
+            };
+            let list = io::read_to_string(io::stdin().lock())?;
+            compare::mends(&list, terms, room, out)?;
+        }
+        ("cuts", [count, rest @ ..]) => {
+            let (Ok(count), Some(room)) = (count.parse(), question::only_room(rest)) else {
+                return Ok(false);
+            };
+            compare::cuts(&input()?, count, terms, room, out)?;
         }
         ("census", [folder, rest @ ..]) => {
             let Some(room) = question::only_room(rest) else {

@@ -16,6 +16,8 @@ ghost use Rattle.descend.specs.Slots.{itemWords, fetchOf, fetchNumber, fetched}
 ghost use Rattle.address.specs.Answers.{replyOf};
 ghost use Rattle.addressing.specs.Answers.{addressNumber, addressWords};
 ghost use Rattle.summary.specs.Answers.{outcomeOf, outcomeNumber, summed};
+ghost use Rattle.digest.specs.Md5.{md5};
+ghost use Rattle.host.specs.Mends.{MendsInto};
 ghost use Rattle.host.specs.Reads.{ReadsInto};
 ghost use Rattle.host.specs.Widths.{ItemsAre, EntriesAre, AperturesAre, MacrosAre, RowsAre, ScratchIs};
 
@@ -290,4 +292,71 @@ pub extern "C" fn sheet_scratch_words() -> usize
     ensures { λ r. ⌜ ScratchIs r ⌝ }
 {
     summary::SCRATCH_WORDS
+}
+
+// Mends a file by the rule of letters that the number names: the mended file in out, its changes in report, two words each, kind and
+// place, and its sheet in the stores, with the bytes and changes, the unit and how many decimals were rounded; or 1, 17, 33 or 101, and
+// zeros in everything that is lent.
+#[no_mangle]
+pub extern "C" fn sheet_mend(
+    letters: u64,
+    file: &[u8],
+    out: &mut [u8],
+    report: &mut [u64],
+    head: &mut [u64; 8],
+    entries: &mut [u64],
+    apertures: &mut [u64],
+    macros: &mut [u64],
+    numbers: &mut [i64],
+    bytes: &mut u64,
+    changes: &mut u64,
+    unit: &mut u64,
+    rounded: &mut u64,
+) -> u64
+    ensures { λ r. ⌜ MendsInto (choiceOf letters)
+        (lentOf (now (file .entry)) (now (entries .entry)) (now (apertures .entry)) (now (macros .entry)) (now (numbers .entry)))
+        (lentOf (now (file .entry)) (now (entries .exit)) (now (apertures .exit)) (now (macros .exit)) (now (numbers .exit)))
+        (length (now (out .entry))) (now (out .exit)) (length (now (report .entry))) (now (report .exit)) (now (head .exit)) r (now (bytes .exit)) (now (changes .exit)) (now (unit .exit)) (now (rounded .exit)) ⌝ }
+{
+    let a = numbered::mend(
+        letters,
+        file,
+        out,
+        report,
+        head,
+        entries,
+        apertures,
+        macros,
+        numbers,
+    );
+    match a {
+        mender::Answer::Mended {
+            bytes: b,
+            changes: n,
+            unit: u,
+            rounded: d,
+        } => {
+            *bytes = b as u64;
+            *changes = n as u64;
+            *unit = u;
+            *rounded = d as u64;
+            0
+        }
+        mender::Answer::Refused { number } => {
+            *bytes = 0;
+            *changes = 0;
+            *unit = 0;
+            *rounded = 0;
+            number
+        }
+    }
+}
+
+// The MD5 of some bytes, by which a file is told from another.
+#[no_mangle]
+pub extern "C" fn sheet_digest(bytes: &[u8], digest: &mut [u8; 16])
+    ensures { λ _. ⌜ now (digest .exit) ≡ md5 (now (bytes .entry)) ⌝ }
+{
+    let d = digest::digest(bytes);
+    *digest = d;
 }

@@ -8,6 +8,8 @@ ghost use mathlib.Core.Path.{_≡_};
 ghost use Rattle.progress.specs.Lent.{lentOf, roomOf};
 ghost use Rattle.reader.specs.Reads.{Reads};
 ghost use Rattle.numbered.specs.Choice.{choiceOf};
+ghost use lib.ListN.{length};
+ghost use Rattle.numbered.specs.Mending.{MendsBy};
 ghost use Rattle.numbered.specs.Calls.{attributeBy, signatureBy, readingBy, roundedBy};
 
 // The book that is named, or none.
@@ -86,6 +88,33 @@ pub fn read(
                 number: 101,
                 place: 0,
             }
+        }
+    }
+}
+
+// Mends a file into what is lent, likewise; a number that names no book leaves zeros in all of it.
+pub fn mend(
+    letters: u64,
+    file: &[u8],
+    out: &mut [u8],
+    report: &mut [u64],
+    head: &mut [u64; 8],
+    e: &mut [u64],
+    a: &mut [u64],
+    m: &mut [u64],
+    numbers: &mut [i64],
+) -> mender::Answer
+    ensures { λ r. ⌜ MendsBy (choiceOf letters)
+        (lentOf (now (file .entry)) (now (e .entry)) (now (a .entry)) (now (m .entry)) (now (numbers .entry)))
+        (lentOf (now (file .entry)) (now (e .exit)) (now (a .exit)) (now (m .exit)) (now (numbers .exit)))
+        (length (now (out .entry))) (now (out .exit)) (length (now (report .entry))) (now (report .exit)) (now (head .exit)) r ⌝ }
+{
+    let c = choice_of(letters);
+    match c {
+        Choice::By(book) => mender::mend(book, file, out, report, head, e, a, m, numbers),
+        Choice::Unknown => {
+            mender::clear(out, report, head, e, a, m, numbers);
+            mender::Answer::Refused { number: 101 }
         }
     }
 }

@@ -1,0 +1,38 @@
+-- `mender::read_bytes` meets its contract: the bytes up to a place are read.
+-- Assumes nothing.
+use borrow.Author.Needs.{needs}
+use Rattle.mender.proofs.read_bytes.Statement.{statement}
+use Rattle.mender.proofs.read_bytes.Tie as tie
+
+up-to-requires : tie.Need-up-to-requires
+up-to-requires c κs = search needs
+
+read-requires : tie.Need-read-requires
+read-requires c κs = search needs
+
+same-length : tie.Need-same-length
+same-length c = search needs
+
+same-length-2 : tie.Need-same-length-2
+same-length-2 c = search needs
+
+same-length-3 : tie.Need-same-length-3
+same-length-3 c = search needs
+
+same-length-4 : tie.Need-same-length-4
+same-length-4 c = search needs
+
+returns : tie.Need-returns
+returns c = rw (c .before .before .before .before .before .before .before .before .before .before .before .before .before .up-to .ensures) at (c .before .before .before .before .before .before .before .read .ensures)
+
+pub read-bytes-spec : {M : Type 1} → statement M
+read-bytes-spec =
+    tie.close
+    (tie.spec
+    up-to-requires
+    read-requires
+    same-length
+    same-length-2
+    same-length-3
+    same-length-4
+    returns)

@@ -1,0 +1,5 @@
+pub mod Answers
+pub mod Laws
+pub mod Mends
+pub mod Outcome
+pub mod Steps

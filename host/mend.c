@@ -1,0 +1,96 @@
+/* mend: takes a layer file on standard input and writes the mended file to standard output (document 02, [13]).
+ *
+ *   mend [--letters old|new] <FILE >MENDED
+ *
+ * What was done stands on standard error, a line for each change; a file that needs none comes back as it is. A file that cannot be
+ * mended is not written at all: standard error says why, and the exit status is 1, as it is where a file cannot be read or written. */
+#include <errno.h>
+#include <inttypes.h>
+#include <string.h>
+
+#include "mending.h"
+
+/* No more numbers than these are lent; sheet.h says why there is no room that is always enough. */
+static const size_t most_numbers = (size_t)1 << 24;
+
+static int fail(const char *what)
+{
+    fprintf(stderr, "mend: %s\n", what);
+    return 1;
+}
+
+/* Standard input, or as much of it as tells that it is too long. */
+static uint8_t *all_of_input(size_t *count)
+{
+    size_t room = SHEET_FILE_LIMIT + 1;
+    uint8_t *file = lend(room, 1);
+    *count = fread(file, 1, room, stdin);
+    return file;
+}
+
+static struct room room_for(size_t n)
+{
+    struct room r = {sheet_entries_for(n), sheet_apertures_for(n), sheet_macros_for(n), sheet_numbers_for(n)};
+    if (r.numbers > most_numbers)
+        r.numbers = most_numbers;
+    return r;
+}
+
+static void tell(uint64_t kind, uint64_t place, const uint8_t *file, size_t count)
+{
+    fprintf(stderr, "mend: at byte %" PRIu64 ": ", place);
+    switch (kind) {
+    case SHEET_DROP_REPEAT:
+        fprintf(stderr, "%.2s stands there once more, word for word as the first time; the repeat is taken out\n",
+                (const char *)file + place + 1);
+        break;
+    case SHEET_ADD_END:
+        fprintf(stderr, "the file stops without its end; M02* is added behind the last whole command\n");
+        break;
+    case SHEET_DROP_TAIL:
+        fprintf(stderr, "what follows that command is no whole command; %" PRIu64 " bytes are taken off\n", (uint64_t)count - place);
+        break;
+    default:
+        fprintf(stderr, "more follows the end of the file, M02*; %" PRIu64 " bytes are taken off\n", (uint64_t)count - place);
+    }
+}
+
+static int refuse(uint64_t number)
+{
+    const char *why = "the rule of letters is not known";
+    if (number == SHEET_TOO_LONG)
+        why = "the file is longer than 16,777,216 bytes";
+    else if (number == SHEET_UNMENDED)
+        why = "it is broken in a way that may not be mended; ask the sender for it again";
+    else if (number == SHEET_ROOM)
+        why = "there is not enough room for what it draws";
+    fprintf(stderr, "mend: not mended (%" PRIu64 "): %s\n", number, why);
+    return 1;
+}
+
+int main(int argc, char **argv)
+{
+    uint64_t letters = SHEET_OLD_LETTERS;
+    if (argc == 3 && strcmp(argv[1], "--letters") == 0 && strcmp(argv[2], "new") == 0)
+        letters = SHEET_NEW_LETTERS;
+    else if (argc != 1 && !(argc == 3 && strcmp(argv[1], "--letters") == 0 && strcmp(argv[2], "old") == 0)) {
+        fputs("usage: mend [--letters old|new] <FILE >MENDED\n", stderr);
+        return 2;
+    }
+    size_t count;
+    uint8_t *file = all_of_input(&count);
+    if (ferror(stdin))
+        return fail("the file cannot be read");
+    struct mended m = mend_with(letters, file, count, room_for(count > SHEET_FILE_LIMIT ? 0 : sheet_mended_for(count)));
+    if (m.number != SHEET_ACCEPTED)
+        return refuse(m.number);
+    for (size_t i = 0; i < m.changes; i++)
+        tell(m.report[i * SHEET_CHANGE_WORDS], m.report[i * SHEET_CHANGE_WORDS + 1], file, count);
+    if (m.changes == 0)
+        fputs("mend: nothing to mend; the file is as it was\n", stderr);
+    if (fwrite(m.file, 1, (size_t)m.bytes, stdout) != m.bytes || fflush(stdout) != 0)
+        return fail(strerror(errno));
+    give_back_mended(&m);
+    free(file);
+    return 0;
+}
