@@ -310,13 +310,13 @@ pub extern "C" fn sheet_mend(
     numbers: &mut [i64],
     bytes: &mut u64,
     changes: &mut u64,
-    unit_of: &mut u64,
-    rounded_of: &mut u64,
+    unit: &mut u64,
+    rounded: &mut u64,
 ) -> u64
     ensures { λ r. ⌜ MendsInto (choiceOf letters)
         (lentOf (now (file .entry)) (now (entries .entry)) (now (apertures .entry)) (now (macros .entry)) (now (numbers .entry)))
         (lentOf (now (file .entry)) (now (entries .exit)) (now (apertures .exit)) (now (macros .exit)) (now (numbers .exit)))
-        (length (now (out .entry))) (now (out .exit)) (length (now (report .entry))) (now (report .exit)) (now (head .exit)) r (now (bytes .exit)) (now (changes .exit)) (now (unit_of .exit)) (now (rounded_of .exit)) ⌝ }
+        (length (now (out .entry))) (now (out .exit)) (length (now (report .entry))) (now (report .exit)) (now (head .exit)) r (now (bytes .exit)) (now (changes .exit)) (now (unit .exit)) (now (rounded .exit)) ⌝ }
 {
     let a = numbered::mend(
         letters,
@@ -338,15 +338,15 @@ pub extern "C" fn sheet_mend(
         } => {
             *bytes = b as u64;
             *changes = n as u64;
-            *unit_of = u;
-            *rounded_of = d as u64;
+            *unit = u;
+            *rounded = d as u64;
             0
         }
         mender::Answer::Refused { number } => {
             *bytes = 0;
             *changes = 0;
-            *unit_of = 0;
-            *rounded_of = 0;
+            *unit = 0;
+            *rounded = 0;
             number
         }
     }
