@@ -2,9 +2,10 @@
 use Prim.Native.Nat.{ℕ}
 use mathlib.Core.Bool.{Bool, false}
 use lib.IntN.{pos}
+use Rattle.formats.specs.Format.{noFormat}
 use Rattle.points.specs.Points.{pt}
 use Rattle.points.specs.declared.Point.{Point}
-use Rattle.graphics.specs.declared.Format.{Format}
+use Rattle.graphics.specs.declared.Header.{Header}
 use Rattle.graphics.specs.declared.Current.{Current}
 use Rattle.graphics.specs.declared.Selected.{Selected}
 use Rattle.graphics.specs.declared.Transform.{Transform}
@@ -28,7 +29,7 @@ noRegion = record { on = false; moved = false; contour = false; first = origin }
 unfoldable pub start : Bool → Graphics
 start old = record {
   old = old;
-  format = record { digits = 0; unit = 0; coded = 0 };
+  header = record { format = noFormat; unit = 0; coded = 0 };
   incremental = false;
   point = unset;
   aperture = noAperture;
@@ -39,30 +40,30 @@ start old = record {
 }
 
 -- a state by its parts
-abbrev pub state : Bool → Format → Bool → Current → Selected → ℕ → Bool → Transform → Region → Graphics
-state old f i p a m q t r =
-    record { old = old; format = f; incremental = i; point = p; aperture = a; mode = m; quadrants = q; transform = t; region = r }
+abbrev pub state : Bool → Header → Bool → Current → Selected → ℕ → Bool → Transform → Region → Graphics
+state old h i p a m q t r =
+    record { old = old; header = h; incremental = i; point = p; aperture = a; mode = m; quadrants = q; transform = t; region = r }
 
-unfoldable pub withFormat : Format → Graphics → Graphics
-withFormat v g = state (g .old) v (g .incremental) (g .point) (g .aperture) (g .mode) (g .quadrants) (g .transform) (g .region)
+unfoldable pub withHeader : Header → Graphics → Graphics
+withHeader v g = state (g .old) v (g .incremental) (g .point) (g .aperture) (g .mode) (g .quadrants) (g .transform) (g .region)
 
 unfoldable pub withNotation : Bool → Graphics → Graphics
-withNotation v g = state (g .old) (g .format) v (g .point) (g .aperture) (g .mode) (g .quadrants) (g .transform) (g .region)
+withNotation v g = state (g .old) (g .header) v (g .point) (g .aperture) (g .mode) (g .quadrants) (g .transform) (g .region)
 
 unfoldable pub withPoint : Current → Graphics → Graphics
-withPoint v g = state (g .old) (g .format) (g .incremental) v (g .aperture) (g .mode) (g .quadrants) (g .transform) (g .region)
+withPoint v g = state (g .old) (g .header) (g .incremental) v (g .aperture) (g .mode) (g .quadrants) (g .transform) (g .region)
 
 unfoldable pub withAperture : Selected → Graphics → Graphics
-withAperture v g = state (g .old) (g .format) (g .incremental) (g .point) v (g .mode) (g .quadrants) (g .transform) (g .region)
+withAperture v g = state (g .old) (g .header) (g .incremental) (g .point) v (g .mode) (g .quadrants) (g .transform) (g .region)
 
 unfoldable pub withMode : ℕ → Graphics → Graphics
-withMode v g = state (g .old) (g .format) (g .incremental) (g .point) (g .aperture) v (g .quadrants) (g .transform) (g .region)
+withMode v g = state (g .old) (g .header) (g .incremental) (g .point) (g .aperture) v (g .quadrants) (g .transform) (g .region)
 
 unfoldable pub withQuadrants : Bool → Graphics → Graphics
-withQuadrants v g = state (g .old) (g .format) (g .incremental) (g .point) (g .aperture) (g .mode) v (g .transform) (g .region)
+withQuadrants v g = state (g .old) (g .header) (g .incremental) (g .point) (g .aperture) (g .mode) v (g .transform) (g .region)
 
 unfoldable pub withTransform : Transform → Graphics → Graphics
-withTransform v g = state (g .old) (g .format) (g .incremental) (g .point) (g .aperture) (g .mode) (g .quadrants) v (g .region)
+withTransform v g = state (g .old) (g .header) (g .incremental) (g .point) (g .aperture) (g .mode) (g .quadrants) v (g .region)
 
 unfoldable pub withRegion : Region → Graphics → Graphics
-withRegion v g = state (g .old) (g .format) (g .incremental) (g .point) (g .aperture) (g .mode) (g .quadrants) (g .transform) v
+withRegion v g = state (g .old) (g .header) (g .incremental) (g .point) (g .aperture) (g .mode) (g .quadrants) (g .transform) v

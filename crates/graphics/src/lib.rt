@@ -1,12 +1,13 @@
 // The state, by value: the graphics state, which is what the commands so far have set, and what stands open.
 ghost use mathlib.Core.Path.{_≡_};
-ghost use Rattle.graphics.specs.Graphics.{start, withFormat, withNotation, withPoint, withAperture, withMode, withQuadrants, withTransform, withRegion};
+ghost use Rattle.graphics.specs.Graphics.{start, withHeader, withNotation, withPoint, withAperture, withMode, withQuadrants, withTransform, withRegion};
 ghost use Rattle.graphics.specs.Orientation.{angleOf, angleAfter, orientation};
+use formats::Format;
 use points::Point;
 
-// How many digits FS gives a coordinate, MO's unit, and that of the first G70 or G71, 1 mm or 2 inch; 0 before each.
-pub struct Format {
-    pub digits: usize,
+// What FS says, without places before it; MO's unit, and that of the first G70 or G71, 1 mm or 2 inch, 0 before each.
+pub struct Header {
+    pub format: Format,
     pub unit: u64,
     pub coded: u64,
 }
@@ -56,7 +57,7 @@ pub struct Region {
 // is set, else the kind of item that a D01 draws: 1 line, 2 clockwise, 3 counterclockwise; G75 is in force where `quadrants` is.
 pub struct Graphics {
     pub old: bool,
-    pub format: Format,
+    pub header: Header,
     pub incremental: bool,
     pub point: Current,
     pub aperture: Selected,
@@ -90,8 +91,13 @@ pub fn start(old: bool) -> Graphics
     let origin = Point { x: 0, y: 0 };
     Graphics {
         old,
-        format: Format {
-            digits: 0,
+        header: Header {
+            format: Format {
+                integers: 0,
+                decimals: 0,
+                trailing: false,
+                incremental: false,
+            },
             unit: 0,
             coded: 0,
         },
@@ -127,9 +133,9 @@ pub fn start(old: bool) -> Graphics
     }
 }
 
-// The state with FS and MO set anew.
-pub fn with_format(v: Format, g: Graphics) -> Graphics
-    ensures { λ r. ⌜ r ≡ withFormat v g ⌝ }
+// The state with FS, MO and the unit's code set anew.
+pub fn with_header(v: Header, g: Graphics) -> Graphics
+    ensures { λ r. ⌜ r ≡ withHeader v g ⌝ }
 {
     let point = g.point;
     let aperture = g.aperture;
@@ -137,7 +143,7 @@ pub fn with_format(v: Format, g: Graphics) -> Graphics
     let region = g.region;
     Graphics {
         old: g.old,
-        format: v,
+        header: v,
         incremental: g.incremental,
         point: point,
         aperture: aperture,
@@ -152,14 +158,14 @@ pub fn with_format(v: Format, g: Graphics) -> Graphics
 pub fn with_notation(v: bool, g: Graphics) -> Graphics
     ensures { λ r. ⌜ r ≡ withNotation v g ⌝ }
 {
-    let format = g.format;
+    let header = g.header;
     let point = g.point;
     let aperture = g.aperture;
     let transform = g.transform;
     let region = g.region;
     Graphics {
         old: g.old,
-        format: format,
+        header: header,
         incremental: v,
         point: point,
         aperture: aperture,
@@ -174,13 +180,13 @@ pub fn with_notation(v: bool, g: Graphics) -> Graphics
 pub fn with_point(v: Current, g: Graphics) -> Graphics
     ensures { λ r. ⌜ r ≡ withPoint v g ⌝ }
 {
-    let format = g.format;
+    let header = g.header;
     let aperture = g.aperture;
     let transform = g.transform;
     let region = g.region;
     Graphics {
         old: g.old,
-        format: format,
+        header: header,
         incremental: g.incremental,
         point: v,
         aperture: aperture,
@@ -195,13 +201,13 @@ pub fn with_point(v: Current, g: Graphics) -> Graphics
 pub fn with_aperture(v: Selected, g: Graphics) -> Graphics
     ensures { λ r. ⌜ r ≡ withAperture v g ⌝ }
 {
-    let format = g.format;
+    let header = g.header;
     let point = g.point;
     let transform = g.transform;
     let region = g.region;
     Graphics {
         old: g.old,
-        format: format,
+        header: header,
         incremental: g.incremental,
         point: point,
         aperture: v,
@@ -216,14 +222,14 @@ pub fn with_aperture(v: Selected, g: Graphics) -> Graphics
 pub fn with_mode(v: u64, g: Graphics) -> Graphics
     ensures { λ r. ⌜ r ≡ withMode v g ⌝ }
 {
-    let format = g.format;
+    let header = g.header;
     let point = g.point;
     let aperture = g.aperture;
     let transform = g.transform;
     let region = g.region;
     Graphics {
         old: g.old,
-        format: format,
+        header: header,
         incremental: g.incremental,
         point: point,
         aperture: aperture,
@@ -238,14 +244,14 @@ pub fn with_mode(v: u64, g: Graphics) -> Graphics
 pub fn with_quadrants(v: bool, g: Graphics) -> Graphics
     ensures { λ r. ⌜ r ≡ withQuadrants v g ⌝ }
 {
-    let format = g.format;
+    let header = g.header;
     let point = g.point;
     let aperture = g.aperture;
     let transform = g.transform;
     let region = g.region;
     Graphics {
         old: g.old,
-        format: format,
+        header: header,
         incremental: g.incremental,
         point: point,
         aperture: aperture,
@@ -260,13 +266,13 @@ pub fn with_quadrants(v: bool, g: Graphics) -> Graphics
 pub fn with_transform(v: Transform, g: Graphics) -> Graphics
     ensures { λ r. ⌜ r ≡ withTransform v g ⌝ }
 {
-    let format = g.format;
+    let header = g.header;
     let point = g.point;
     let aperture = g.aperture;
     let region = g.region;
     Graphics {
         old: g.old,
-        format: format,
+        header: header,
         incremental: g.incremental,
         point: point,
         aperture: aperture,
@@ -281,13 +287,13 @@ pub fn with_transform(v: Transform, g: Graphics) -> Graphics
 pub fn with_region(v: Region, g: Graphics) -> Graphics
     ensures { λ r. ⌜ r ≡ withRegion v g ⌝ }
 {
-    let format = g.format;
+    let header = g.header;
     let point = g.point;
     let aperture = g.aperture;
     let transform = g.transform;
     Graphics {
         old: g.old,
-        format: format,
+        header: header,
         incremental: g.incremental,
         point: point,
         aperture: aperture,
