@@ -1,6 +1,6 @@
 -- The points of a D01 behind FS that does not break 5 are near, and so is its centre.
 -- Assumes nothing.
-use Prim.Native.Nat.{_*_, _^_}
+use Prim.Native.Nat.{_*_, _^_, _≤_}
 use mathlib.Core.Path.{_≡_, refl}
 use mathlib.Core.Bool.{Bool, true, false, cond}
 use native.Mathlib.Omega.{arith}
@@ -22,7 +22,7 @@ use Rattle.changes.specs.After.{target}
 use Rattle.reach.specs.Far.{isFormatted, isFar, goesFar}
 use Rattle.reach.proofs.Laws.{Less, less, less-within, Reaches, reaches, neither-left, neither-right}
 use Rattle.fits.specs.Fits.{circular, offsetOf, drawsFar}
-use Rattle.arcs.specs.Arcs.{single, choiceFor, centreOf, chosenAt, arcCentre}
+use Rattle.arcs.specs.Arcs.{single, rests, choiceFor, centreOf, chosenAt, kindDrawn, arcCentre}
 use Rattle.arcs.specs.Near.{Near}
 
 -- I and J
@@ -70,3 +70,12 @@ module _ (g : Graphics) (end : Point) (o : Offset) (h : Near g end o) where
       go true true false = chosen-near
       go true false rests = given-within
       go false one rests = origin-within
+
+-- a D01 draws a line or an arc
+pub kind-most : (g : Graphics) (end : Point) → g .mode ≤ 3 → kindDrawn g end ≤ 3
+unfolding kindDrawn
+kind-most g end m = go (rests g end)
+  where
+    go : (t : Bool) → cond t kind.line (g .mode) ≤ 3
+    go true = omega arith
+    go false = m
