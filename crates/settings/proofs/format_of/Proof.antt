@@ -7,7 +7,6 @@ use borrow.Author.Needs.{needs}
 use Rattle.settings.proofs.format_of.Statement.{statement}
 use Rattle.settings.proofs.format_of.Tie as tie
 
-
 is-old-requires : tie.Need-is-old-requires
 is-old-requires c κs = search needs
 

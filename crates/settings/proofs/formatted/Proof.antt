@@ -5,7 +5,6 @@ use borrow.Author.Needs.{needs}
 use Rattle.settings.proofs.formatted.Statement.{statement}
 use Rattle.settings.proofs.formatted.Tie as tie
 
-
 enum-told : tie.Need-enum-told
 enum-told c = search needs
 
