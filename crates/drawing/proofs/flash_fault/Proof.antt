@@ -52,7 +52,7 @@ row-requires-8 c κs = search needs
 
 returns : tie.Need-returns
 unfolding flashFault
-returns c = 
+returns c =
     simp (
       c .row8 .ensures,
       c .before .goes-far .ensures,

@@ -31,7 +31,7 @@ row-requires-4 c κs = search needs
 
 returns : tie.Need-returns
 unfolding moveFault
-returns c = 
+returns c =
     simp (
       c .row4 .ensures,
       c .before .goes-far .ensures,

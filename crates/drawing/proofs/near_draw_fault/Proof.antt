@@ -47,7 +47,7 @@ row-requires-7 : tie.Need-row-requires-7
 row-requires-7 c κs = search needs
 
 returns : tie.Need-returns
-returns c = 
+returns c =
     simp (
       c .row7 .ensures,
       c .before .is-unready .ensures,
