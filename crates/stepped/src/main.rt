@@ -387,11 +387,7 @@ fn quarters(g: Graphics) -> Graphics {
     let g3 = plainly(g2, b"G2X-1Y-1I1D1", quarter);
     let g4 = plainly(g3, b"X1Y1I-1D1", arc(one, one, -1, true));
     let g5 = plainly(g4, b"X1Y1I0D1", arc(one, one, 0, false));
-    plainly(
-        g5,
-        b"G37X1Y1D1",
-        coded(Setting::RegionEnd, line(one, one)),
-    )
+    plainly(g5, b"G37X1Y1D1", coded(Setting::RegionEnd, line(one, one)))
 }
 
 // G90 and G91 before an operation, and a point of 10^12; in a region, a contour without a D02 before it.
@@ -414,22 +410,10 @@ fn notations(g: Graphics) -> Graphics {
     );
     let g3 = plainly(g2, b"G36", set(Setting::RegionStart));
     let g4 = take(g3, b"G1Y0D1", top, starts, two);
-    let g5 = plainly(
-        g4,
-        b"G91Y1D1",
-        coded(Setting::Incremental, line(kept, one)),
-    );
-    let g6 = plainly(
-        g5,
-        b"G37Y1D1",
-        coded(Setting::RegionEnd, line(kept, one)),
-    );
+    let g5 = plainly(g4, b"G91Y1D1", coded(Setting::Incremental, line(kept, one)));
+    let g6 = plainly(g5, b"G37Y1D1", coded(Setting::RegionEnd, line(kept, one)));
     let g7 = plainly(g6, b"G1Y1D1", coded(Setting::Linear, line(kept, one)));
-    plainly(
-        g7,
-        b"G37X1D2",
-        coded(Setting::RegionEnd, going(one, kept)),
-    )
+    plainly(g7, b"G37X1D2", coded(Setting::RegionEnd, going(one, kept)))
 }
 
 fn main() {
