@@ -17,9 +17,9 @@ use Rattle.progress.specs.Lent.{Lent, roomOf}
 use Rattle.reader.specs.declared.Answer as code
 use Rattle.reader.specs.Leaves.{Leaves}
 use Rattle.reader.specs.Reads.{Reads}
-use Rattle.demands.specs.Kept.{Keeps, nothing, one}
+use Rattle.kept.specs.Kept.{Keeps, nothing, one}
 use Rattle.demands.specs.Demands.{Accepts}
-use Rattle.demands.proofs.Kept.{keeps-accepted}
+use Rattle.kept.proofs.Kept.{keeps-accepted}
 use Rattle.tally.specs.Summarised.{Summarised}
 use Rattle.tally.proofs.Knowing.{Knows}
 use Rattle.tally.proofs.Steps.{step-knows, begun-knows}

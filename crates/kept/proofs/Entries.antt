@@ -10,6 +10,7 @@ use Rattle.base.specs.And.{_and_}
 use Rattle.place.specs.Mark.{Mark, draw, contour, edge, flash, begin, finish}
 use Rattle.command.specs.declared.Axis.{Axis}
 use Rattle.command.specs.declared.Offset.{Offset}
+use Rattle.command.specs.declared.Setting.{Setting}
 use Rattle.command.specs.declared.Operation.{Operation}
 use Rattle.command.specs.declared.Operation.the-variants as operation
 use Rattle.command.specs.declared.Definition.{Definition}
@@ -19,7 +20,7 @@ use Rattle.command.specs.declared.Bracket.the-variants as bracket
 use Rattle.command.specs.declared.Deed.{Deed}
 use Rattle.command.specs.declared.Deed.the-variants as deed
 use Rattle.command.specs.declared.Command.{Command}
-use Rattle.command.specs.declared.Command.the-variants.{Broken, Note, End, Set, Operate, Select, Define, Contain, Attribute}
+use Rattle.command.specs.declared.Command.the-variants.{Broken, Note, End, Set, Operate, Coded, Select, Define, Contain, Attribute}
 use Rattle.commands.specs.Commands.{commandsOf}
 use Rattle.commands.specs.declared.Placed.{Placed}
 use Rattle.graphics.specs.declared.Graphics.{Graphics}
@@ -52,14 +53,15 @@ use Rattle.reading.specs.Steps.{
   settingStep,
   moveStep,
   operationStep,
+  codedStep,
   definitionStep,
   bracketStep,
   deedStep,
   stepOf,
 }
 use Rattle.reading.specs.Reading.{stepAt}
-use Rattle.demands.specs.Kept.{Keeps, nothing, one, KeepsRules}
-use Rattle.demands.specs.Entries.{operationEntries, bracketEntries, commandEntries, entriesFor, contours}
+use Rattle.kept.specs.Kept.{Keeps, nothing, one, KeepsRules}
+use Rattle.kept.specs.Entries.{operationEntries, bracketEntries, commandEntries, entriesFor, contours}
 
 contours-append : (ms ns : List Mark) → contours (ms ++ ns) ≡ contours ms + contours ns
 unfolding contours
@@ -149,6 +151,10 @@ module _ (room : Room) (t : List ℕ) (p : ℕ) where
   deed-uses (deed.Delete name) s = omega arith
   deed-uses deed.DeleteAll s = omega arith
 
+  coded-uses : (code : Setting) (o : Operation) (s : State) → Uses (Coded code o) s (codedStep room p code o s .next)
+  unfolding codedStep settingStep withGraphics commandEntries
+  coded-uses code o s = operation-uses o (settingStep code s .next)
+
   step-uses : (c : Command) (s : State) → Uses c s (stepOf room t p c s .next)
   unfolding stepOf settingStep selectStep withGraphics commandEntries
   step-uses (Broken flaw) s = omega arith
@@ -156,6 +162,7 @@ module _ (room : Room) (t : List ℕ) (p : ℕ) where
   step-uses End s = omega arith
   step-uses (Set x) s = omega arith
   step-uses (Operate o) s = operation-uses o s
+  step-uses (Coded code o) s = coded-uses code o s
   step-uses (Select n) s = omega arith
   step-uses (Define d) s = definition-uses d s
   step-uses (Contain b) s = bracket-uses b s

@@ -9,7 +9,7 @@ use lib.Dec.{eqb}
 use lib.IntN.{ℤ}
 use borrow.Author.Tests.{eqb-true, eqb-false}
 use Rattle.macros.specs.Work.{Effect, verdict, primitiveDone, blockDone, behind, workedOut}
-use Rattle.demands.specs.Macros.{Worked, nothing, one, FirstAtFault, MacroOrder}
+use Rattle.kept.specs.Macros.{Worked, nothing, one, FirstAtFault, MacroOrder}
 
 behind-one : {vs : List ℤ} {b : List ℕ} {bs : List (List ℕ)} {number : ℕ} → blockDone vs b .fault ≡ 0 → FirstAtFault (blockDone vs b .variables) bs number →
     FirstAtFault vs (b ∷ bs) number

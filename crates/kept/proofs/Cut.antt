@@ -1,4 +1,4 @@
--- The commands of a file one by one: from where each was looked for, what its text says under the digits of the FS before it, and
+-- The commands of a file one by one: from where each was looked for, what its text says by the format of the FS before it, and
 -- where the fault behind them stands. By induction over the turns of `commandsFrom`.
 -- Assumes nothing.
 use Prim.Native.Nat.{ℕ, zero, suc, _+_, _-_, _≤_, _<_}
@@ -26,8 +26,17 @@ use Rattle.scan.specs.declared.Scan.{Scan}
 use Rattle.scan.specs.declared.Scan.the-variants as scan
 use Rattle.scan.proofs.Bad.{bad-from}
 use Rattle.scan.proofs.Within.{Within, next-within}
+use Rattle.formats.specs.Format.{noFormat}
+use Rattle.formats.specs.declared.Format.{Format}
+use Rattle.command.specs.Flaws.{flawNumber}
+use Rattle.command.specs.declared.Flaw.{Flaw}
+use Rattle.command.specs.declared.Flaw.the-variants as flaw
+use Rattle.command.specs.declared.Setting.{Setting}
+use Rattle.command.specs.declared.Setting.the-variants as setting
+use Rattle.command.specs.declared.Command.{Command}
+use Rattle.command.specs.declared.Command.the-variants as command
 use Rattle.recognise.specs.Commands.{commandOf}
-use Rattle.commands.specs.Leads.{leadOf}
+use Rattle.commands.specs.Leads.{leadOfFlaw, leadOfSetting, leadOf}
 use Rattle.commands.specs.Turns.{refusal, led, turned, turnOf, tailFault}
 use Rattle.commands.specs.Commands.{Sequence, commandsFrom, commandsOf}
 use Rattle.commands.specs.declared.Lead.{Lead}
@@ -37,30 +46,30 @@ use Rattle.commands.specs.declared.Refusal.{Refusal}
 use Rattle.commands.specs.declared.Turn.{Turn}
 use Rattle.commands.specs.declared.Turn.the-variants as turn
 use Rattle.bounds.proofs.Tables.{neither}
-use Rattle.demands.specs.Places.{Looked, start, behind, FirstByte, Stands}
+use Rattle.kept.specs.Places.{Looked, start, behind, FirstByte, Stands}
 
--- a command, looked for under the digits n
-pub record Cut (book : Book) (file : List ℕ) (n : ℕ) (c : Placed) : Type 0 where
+-- a command, looked for in the format f
+pub record Cut (book : Book) (file : List ℕ) (f : Format) (c : Placed) : Type 0 where
   pub at : ℕ
   pub looked : Looked book file at
   pub kind : Kind
   pub next : ℕ
   pub found : nextCommand book file at ≡ scan.Command kind (c .place) (c .from) (c .end) next
-  pub says : c .command ≡ commandOf n kind (slice (c .from) (c .end) file)
+  pub says : c .command ≡ commandOf book f kind (slice (c .from) (c .end) file)
   pub inside : c .place < length file
 
--- FS carries its digits on
-abbrev pub carried : ℕ → Lead → ℕ
-carried n (lead.Format m) = m
-carried n lead.Broken = n
-carried n lead.Last = n
-carried n lead.Plain = n
+-- FS carries its format on
+abbrev pub carried : Format → Lead → Format
+carried f (lead.Format g) = g
+carried f (lead.Broken number) = f
+carried f lead.Last = f
+carried f lead.Plain = f
 
-abbrev pub AllCut : Book → List ℕ → ℕ → List Placed → Type 0
-AllCut book file n [] = Unit
-AllCut book file n (c ∷ cs) = Cut book file n c × AllCut book file (carried n (leadOf (c .command))) cs
+abbrev pub AllCut : Book → List ℕ → Format → List Placed → Type 0
+AllCut book file f [] = Unit
+AllCut book file f (c ∷ cs) = Cut book file f c × AllCut book file (carried f (leadOf (c .command))) cs
 
-pub first-byte : {book : Book} {file : List ℕ} {n : ℕ} {c : Placed} → Cut book file n c → FirstByte book file (c .place)
+pub first-byte : {book : Book} {file : List ℕ} {f : Format} {c : Placed} → Cut book file f c → FirstByte book file (c .place)
 first-byte k = record { at = k .at; looked = k .looked; kind = k .kind; from = _; end = _; next = k .next; found = k .found; inside = k .inside }
 
 -- each number at its own place
@@ -94,12 +103,61 @@ stands-three q = record {
   command = λ a b c d. absurd (c refl);
 }
 
-stands-four : {book : Book} {file : List ℕ} {p : ℕ} → FirstByte book file p → Stands book file 4 p
-stands-four k = record {
-  one = λ e. absurd (omega arith);
-  two = λ e. absurd (omega arith);
-  three = λ e. absurd (omega arith);
-  eighteen = λ e. absurd (omega arith);
+-- 4 and 30 stand at their commands
+abbrev Flawed : Lead → Type 0
+Flawed (lead.Broken number) = (number ≡ 4) ⊎ (number ≡ 30)
+Flawed lead.Last = Unit
+Flawed (lead.Format g) = Unit
+Flawed lead.Plain = Unit
+
+flaw-lead : (f : Flaw) → Flawed (leadOfFlaw f)
+unfolding leadOfFlaw flawNumber
+flaw-lead flaw.NotForm = inl refl
+flaw-lead flaw.Unread = inr refl
+flaw-lead flaw.TooLong = tt
+
+setting-lead : (x : Setting) → Flawed (leadOfSetting x)
+unfolding leadOfSetting
+setting-lead setting.Linear = tt
+setting-lead setting.Clockwise = tt
+setting-lead setting.Counterclockwise = tt
+setting-lead setting.SingleQuadrant = tt
+setting-lead setting.MultiQuadrant = tt
+setting-lead setting.RegionStart = tt
+setting-lead setting.RegionEnd = tt
+setting-lead (setting.Format f) = tt
+setting-lead setting.Absolute = tt
+setting-lead setting.Incremental = tt
+setting-lead setting.Millimetres = tt
+setting-lead setting.Inches = tt
+setting-lead setting.CodedMillimetres = tt
+setting-lead setting.CodedInches = tt
+setting-lead setting.Halt = tt
+setting-lead setting.Dark = tt
+setting-lead setting.Clear = tt
+setting-lead (setting.Mirror x y) = tt
+setting-lead (setting.Rotation a rounded) = tt
+setting-lead (setting.Scale a rounded) = tt
+
+command-lead : (c : Command) → Flawed (leadOf c)
+unfolding leadOf
+command-lead (command.Broken f) = flaw-lead f
+command-lead command.Note = tt
+command-lead command.End = tt
+command-lead (command.Set x) = setting-lead x
+command-lead (command.Operate o) = tt
+command-lead (command.Coded code o) = tt
+command-lead (command.Select n) = tt
+command-lead (command.Define d) = tt
+command-lead (command.Contain b) = tt
+command-lead (command.Attribute d) = tt
+
+stands-flaw : {book : Book} {file : List ℕ} {n p : ℕ} → (n ≡ 4) ⊎ (n ≡ 30) → FirstByte book file p → Stands book file n p
+stands-flaw h k = record {
+  one = λ e. absurd (⊎-elim (λ q. omega arith) (λ q. omega arith) h);
+  two = λ e. absurd (⊎-elim (λ q. omega arith) (λ q. omega arith) h);
+  three = λ e. absurd (⊎-elim (λ q. omega arith) (λ q. omega arith) h);
+  eighteen = λ e. absurd (⊎-elim (λ q. omega arith) (λ q. omega arith) h);
   command = λ a b c d. k;
 }
 
@@ -186,31 +244,33 @@ scan-bad book file at p e = go (kindOf (drop (skipped file at) file)) e
         (omega arith, sym (ap printable (behind-place file place (textFrom k 0) (badIn k field 0 0 text from - from) ∙ ap (λ i. getD file i 0) there)) ∙ byte)
 
 -- a turn
-abbrev Known : Book → List ℕ → ℕ → Turn → Type 0
-Known book file n (turn.Fault f) = Fault book file f
-Known book file n (turn.Last c next) = Cut book file n c × Looked book file next × (next ≤ length file)
-Known book file n (turn.More c m next) = Cut book file n c × (m ≡ carried n (leadOf (c .command))) × Looked book file next × (next ≤ length file)
+abbrev Known : Book → List ℕ → Format → Turn → Type 0
+Known book file f (turn.Fault r) = Fault book file r
+Known book file f (turn.Last c next) = Cut book file f c × Looked book file next × (next ≤ length file)
+Known book file f (turn.More c g next) = Cut book file f c × (g ≡ carried f (leadOf (c .command))) × Looked book file next × (next ≤ length file)
 
-led-known : (book : Book) (file : List ℕ) (n : ℕ) (c : Placed) (way : Lead) (next : ℕ) → leadOf (c .command) ≡ way → Cut book file n c → Looked book file next →
-    next ≤ length file → Known book file n (led n c way next)
+led-known : (book : Book) (file : List ℕ) (f : Format) (c : Placed) (way : Lead) (next : ℕ) → leadOf (c .command) ≡ way → Flawed way → Cut book file f c →
+    Looked book file next → next ≤ length file → Known book file f (led f c way next)
 unfolding led
-led-known book file n c lead.Broken next e k l h = inr (stands-four (first-byte k))
-led-known book file n c lead.Last next e k l h = (k, l, h)
-led-known book file n c (lead.Format m) next e k l h = (k, sym (ap (carried n) e), l, h)
-led-known book file n c lead.Plain next e k l h = (k, sym (ap (carried n) e), l, h)
+led-known book file f c (lead.Broken number) next e w k l h = inr (stands-flaw w (first-byte k))
+led-known book file f c lead.Last next e w k l h = (k, l, h)
+led-known book file f c (lead.Format g) next e w k l h = (k, sym (ap (carried f) e), l, h)
+led-known book file f c lead.Plain next e w k l h = (k, sym (ap (carried f) e), l, h)
 
-turned-known : (book : Book) (file : List ℕ) (n at : ℕ) → Looked book file at → (s : Scan) → nextCommand book file at ≡ s → Within (length file) at s → Known book file n (turned n file s)
+turned-known : (book : Book) (file : List ℕ) (f : Format) (at : ℕ) → Looked book file at → (s : Scan) → nextCommand book file at ≡ s → Within (length file) at s →
+    Known book file f (turned book f file s)
 unfolding turned
-turned-known book file n at l (scan.Command kind place from end next) e (h, k, m, q, w) =
-    led-known book file n _ (leadOf (commandOf n kind (slice from end file))) next refl
+turned-known book file f at l (scan.Command kind place from end next) e (h, k, m, q, w) =
+    let c : Command = commandOf book f kind (slice from end file) in
+    led-known book file f _ (leadOf c) next refl (command-lead c)
     (record { at = at; looked = l; kind = kind; next = next; found = e; says = refl; inside = omega arith })
     (behind l e) w
-turned-known book file n at l (scan.BadByte place) e w = let b = scan-bad book file at place e in inr (stands-two (b .0) (b .1))
-turned-known book file n at l (scan.Ended place) e w = inr (stands-three w)
+turned-known book file f at l (scan.BadByte place) e w = let b = scan-bad book file at place e in inr (stands-two (b .0) (b .1))
+turned-known book file f at l (scan.Ended place) e w = inr (stands-three w)
 
-turn-known : (book : Book) (file : List ℕ) (n at : ℕ) → Looked book file at → at ≤ length file → Known book file n (turnOf book n file at)
+turn-known : (book : Book) (file : List ℕ) (f : Format) (at : ℕ) → Looked book file at → at ≤ length file → Known book file f (turnOf book f file at)
 unfolding turnOf
-turn-known book file n at l h = turned-known book file n at l (nextCommand book file at) refl (next-within book file at h)
+turn-known book file f at l h = turned-known book file f at l (nextCommand book file at) refl (next-within book file at h)
 
 tail-known : (book : Book) (file : List ℕ) (at : ℕ) → at ≤ length file → Fault book file (tailFault (tailOf file at))
 unfolding tailOf tailFault
@@ -222,32 +282,32 @@ tail-known book file at h = go (leb (length file) (skipped file at)) refl (print
     go false e true q = rw (e, q) (inr (stands-eighteen (leb-false (length file) (skipped file at) e) q))
     go false e false q = rw (e, q) (inr (stands-two (leb-false (length file) (skipped file at) e) q))
 
-abbrev AllKnown : Book → List ℕ → ℕ → Sequence → Type 0
-AllKnown book file n l = AllCut book file n (l .commands) × Fault book file (l .fault)
+abbrev AllKnown : Book → List ℕ → Format → Sequence → Type 0
+AllKnown book file f l = AllCut book file f (l .commands) × Fault book file (l .fault)
 
-from-known : (book : Book) (file : List ℕ) (k n at : ℕ) → Looked book file at → at ≤ length file → AllKnown book file n (commandsFrom book k n file at)
+from-known : (book : Book) (file : List ℕ) (k : ℕ) (f : Format) (at : ℕ) → Looked book file at → at ≤ length file → AllKnown book file f (commandsFrom book k f file at)
 unfolding commandsFrom
-from-known book file zero n at l h = (tt, inr (stands-three refl))
-from-known book file (suc k) n at l h = go (λ m next. from-known book file k m next) (turnOf book n file at) refl (turn-known book file n at l h)
+from-known book file zero f at l h = (tt, inr (stands-three refl))
+from-known book file (suc k) f at l h = go (λ g next. from-known book file k g next) (turnOf book f file at) refl (turn-known book file f at l h)
   where
-    go : ((m next : ℕ) → Looked book file next → next ≤ length file → AllKnown book file m (commandsFrom book k m file next)) →
-        (t : Turn) → turnOf book n file at ≡ t → Known book file n t → AllKnown book file n (commandsFrom book (suc k) n file at)
-    go ih (turn.Fault f) e o = rw (e, commandsFrom) (tt, o)
+    go : ((g : Format) (next : ℕ) → Looked book file next → next ≤ length file → AllKnown book file g (commandsFrom book k g file next)) →
+        (t : Turn) → turnOf book f file at ≡ t → Known book file f t → AllKnown book file f (commandsFrom book (suc k) f file at)
+    go ih (turn.Fault r) e o = rw (e, commandsFrom) (tt, o)
     go ih (turn.Last c next) e o = rw (e, commandsFrom) ((o .0, tt), tail-known book file next (o .2))
-    go ih (turn.More c m next) e o =
-        let r = ih m next (o .2) (o .3) in
-        rw (e, commandsFrom) ((o .0, subst (λ (x : ℕ). AllCut book file x (commandsFrom book k m file next .commands)) (o .1) (r .0)), r .1)
+    go ih (turn.More c g next) e o =
+        let r = ih g next (o .2) (o .3) in
+        rw (e, commandsFrom) ((o .0, subst (λ (x : Format). AllCut book file x (commandsFrom book k g file next .commands)) (o .1) (r .0)), r .1)
 
-pub commands-known : (book : Book) (file : List ℕ) → AllKnown book file 0 (commandsOf book file)
+pub commands-known : (book : Book) (file : List ℕ) → AllKnown book file noFormat (commandsOf book file)
 unfolding commandsOf
 commands-known book file = go (fits file) refl
   where
-    go : (t : Bool) → fits file ≡ t → AllKnown book file 0 (commandsOf book file)
-    go true e = rw e (from-known book file (suc (length file)) 0 0 start (omega arith))
+    go : (t : Bool) → fits file ≡ t → AllKnown book file noFormat (commandsOf book file)
+    go true e = rw e (from-known book file (suc (length file)) noFormat 0 start (omega arith))
     go false e = rw e (tt, inr (stands-one book file))
 
 -- the command behind others
-pub cut-at : (book : Book) (file : List ℕ) (n : ℕ) (before : List Placed) (c : Placed) (after : List Placed) → AllCut book file n (before ++ c ∷ after) →
-    (m : ℕ) × Cut book file m c
-cut-at book file n [] c after k = (n, k .0)
-cut-at book file n (b ∷ before) c after k = cut-at book file (carried n (leadOf (b .command))) before c after (k .1)
+pub cut-at : (book : Book) (file : List ℕ) (f : Format) (before : List Placed) (c : Placed) (after : List Placed) → AllCut book file f (before ++ c ∷ after) →
+    (g : Format) × Cut book file g c
+cut-at book file f [] c after k = (f, k .0)
+cut-at book file f (b ∷ before) c after k = cut-at book file (carried f (leadOf (b .command))) before c after (k .1)

@@ -8,13 +8,14 @@ use native.Mathlib.Omega.{arith}
 use lib.ListN.{length}
 use lib.Seq.{slice}
 use Rattle.book.specs.declared.Book.{Book}
+use Rattle.formats.specs.Format.{noFormat}
 use Rattle.commands.specs.Commands.{commandsOf}
 use Rattle.reading.specs.State.{Room}
-use Rattle.demands.specs.Kept.{FirstBroken, by, behind}
+use Rattle.kept.specs.Kept.{FirstBroken, by, behind}
 use Rattle.drawing.specs.Order.{order, rankIn, rank}
-use Rattle.demands.specs.Places.{FirstByte, Stands}
-use Rattle.demands.proofs.Tables.{fault-known}
-use Rattle.demands.proofs.Cut.{AllCut, first-byte, commands-known, cut-at}
+use Rattle.kept.specs.Places.{FirstByte, Stands}
+use Rattle.kept.proofs.Tables.{fault-known}
+use Rattle.kept.proofs.Cut.{AllCut, first-byte, commands-known, cut-at}
 
 -- the numbers of commands' rules stand at commands
 ruled : {book : Book} {file : List ℕ} {number place : ℕ} → rank number < length order → FirstByte book file place → Stands book file number place
@@ -33,7 +34,7 @@ broken-stands {book = book} {room = room} {file = file} {number = number} (by k)
     let some = k .some in
     let same = k .fault in
     let l = fault-known room t (k .command .place) (k .command .command) (k .state) (omega arith) in
-    let cut = cut-at book file 0 (k .before) (k .command) (k .after) (subst (AllCut book file 0) (k .order) (commands-known book file .0)) in
+    let cut = cut-at book file noFormat (k .before) (k .command) (k .after) (subst (AllCut book file noFormat) (k .order) (commands-known book file .0)) in
     ruled (subst (λ (x : ℕ). rank x < length order) same l) (subst (FirstByte book file) (k .stands) (first-byte (cut .1)))
 broken-stands {book = book} {file = file} {number = number} {place = place} (behind k) =
     let some = k .some in

@@ -1,16 +1,15 @@
 -- Room decides nothing but 17: in a larger room each table has the same rows, but that those of 17 hold less often, and each step leads to the same state.
 -- Assumes nothing.
-use Prim.Native.Nat.{ℕ, _-_, _≤_}
+use Prim.Native.Nat.{ℕ, zero, suc, _-_, _≤_}
 use mathlib.Core.Path.{_≡_, refl, sym, _∙_, subst}
 use mathlib.Core.Bool.{Bool, true, false, false≢true}
-use mathlib.Core.List.{List, [], _∷_}
+use mathlib.Core.List.{List, [], _∷_, _++_}
 use native.Mathlib.Omega.{arith}
 use lib.Dec.{eqb, leb, ltb}
 use borrow.Author.Tests.{lt-ltb, ltb-true, le-leb, leb-true, eq-eqb, eqb-true}
 use Rattle.book.specs.declared.Book.{Book}
 use Rattle.base.specs.Or.{_or_}
-use Rattle.base.specs.Choose.{pick}
-use Rattle.base.specs.Faults.{Table, firstFault}
+use Rattle.base.specs.Faults.{Table}
 use Rattle.command.specs.declared.Operation.{Operation}
 use Rattle.command.specs.declared.Operation.the-variants as operation
 use Rattle.command.specs.declared.Definition.{Definition}
@@ -20,8 +19,10 @@ use Rattle.command.specs.declared.Bracket.the-variants as bracket
 use Rattle.command.specs.declared.Deed.{Deed}
 use Rattle.command.specs.declared.Deed.the-variants as deed
 use Rattle.command.specs.declared.Command.{Command}
-use Rattle.command.specs.declared.Command.the-variants.{Broken, Note, End, Set, Operate, Select, Define, Contain, Attribute}
+use Rattle.command.specs.declared.Command.the-variants as command
+use Rattle.command.specs.declared.Command.the-variants.{Note, End, Set, Operate, Coded, Select, Define, Contain, Attribute}
 use Rattle.commands.specs.declared.Placed.{Placed}
+use Rattle.rules.specs.Settings.{settingRules}
 use Rattle.reading.specs.State.{Room, State}
 use Rattle.reading.specs.Steps.{
   drawStep,
@@ -32,15 +33,19 @@ use Rattle.reading.specs.Steps.{
   blockStartStep,
   repeatStartStep,
   operationStep,
+  settingStep,
+  codedStep,
   definitionStep,
   bracketStep,
   stepOf,
 }
 use Rattle.reading.specs.Reading.{stepAt}
-use Rattle.demands.specs.Kept.{Keeps, nothing, one, KeepsRules, FirstBroken, by, behind}
-use Rattle.demands.specs.Rooms.{AtLeast}
-use Rattle.demands.specs.Tables.{adRules, amRules, operationRules, definitionRules, bracketRules, deedRules, rulesOf}
-use Rattle.demands.proofs.Tables.{fault-first}
+use Rattle.kept.specs.Kept.{Keeps, nothing, one, KeepsRules, FirstBroken, by, behind}
+use Rattle.kept.specs.Rooms.{AtLeast}
+use Rattle.kept.specs.Tables.{adRules, amRules, operationRules, definitionRules, bracketRules, deedRules, rulesOf}
+use Rattle.kept.specs.Order.{Broken, here, further, Lowest}
+use Rattle.kept.proofs.Order.{rank-one, Ruled}
+use Rattle.kept.proofs.Tables.{fault-ruled}
 
 -- the same rows, but that those of 17 hold in the first table where they do in the second
 data Looser : Table → Table → Type 0 where
@@ -48,26 +53,38 @@ data Looser : Table → Table → Type 0 where
   same : {row : Bool × ℕ} {rows rows′ : Table} → Looser rows rows′ → Looser (row ∷ rows) (row ∷ rows′)
   roomier : {b b′ : Bool} {rows rows′ : Table} → (b′ ≡ true → b ≡ true) → Looser rows rows′ → Looser ((b, 17) ∷ rows) ((b′, 17) ∷ rows′)
 
-looser-first : {rows rows′ : Table} → Looser rows rows′ → (firstFault rows ≡ 17 → ⊥) → firstFault rows′ ≡ firstFault rows
-unfolding pick
-looser-first end n = refl
-looser-first (same {row = row} {rows = rows} {rows′ = rows′} l) n = go (looser-first l) (row .0) n
+-- what is broken of the second is broken of the first, and what is broken of the first and is not 17 is broken of the second
+looser-broken : {n : ℕ} {rows rows′ : Table} → Looser rows rows′ → Broken n rows′ → Broken n rows
+looser-broken (same l) (here e q) = here e q
+looser-broken (same l) (further b) = further (looser-broken l b)
+looser-broken (roomier m l) (here e q) = here (m e) q
+looser-broken (roomier m l) (further b) = further (looser-broken l b)
+
+looser-kept : {n : ℕ} {rows rows′ : Table} → Looser rows rows′ → (n ≡ 17 → ⊥) → Broken n rows → Broken n rows′
+looser-kept (same l) other (here e q) = here e q
+looser-kept (same l) other (further b) = further (looser-kept l other b)
+looser-kept (roomier m l) other (here e q) = absurd (other (sym q))
+looser-kept (roomier m l) other (further b) = further (looser-kept l other b)
+
+-- so the lowest rule broken is the same, where it is not 17
+looser-same : {rows rows′ : Table} {m n : ℕ} → Looser rows rows′ → Ruled rows m → Ruled rows′ n → (m ≡ 17 → ⊥) → n ≡ m
+looser-same {m = m} {n = n} l p q other = go m refl n refl
   where
-    go : ((firstFault rows ≡ 17 → ⊥) → firstFault rows′ ≡ firstFault rows) → (t : Bool) → (pick t (row .1) (firstFault rows) ≡ 17 → ⊥) →
-        pick t (row .1) (firstFault rows′) ≡ pick t (row .1) (firstFault rows)
-    go ih true n = refl
-    go ih false n = ih n
-looser-first (roomier {b = b} {b′ = b′} {rows = rows} {rows′ = rows′} m l) n = go (looser-first l) b b′ m n
-  where
-    go : ((firstFault rows ≡ 17 → ⊥) → firstFault rows′ ≡ firstFault rows) → (b b′ : Bool) → (b′ ≡ true → b ≡ true) → (pick b 17 (firstFault rows) ≡ 17 → ⊥) →
-        pick b′ 17 (firstFault rows′) ≡ pick b 17 (firstFault rows)
-    go ih true b′ m n = absurd (n refl)
-    go ih false true m n = absurd (false≢true (m refl))
-    go ih false false m n = ih n
+    go : (a : ℕ) → m ≡ a → (b : ℕ) → n ≡ b → n ≡ m
+    go zero e zero f = f ∙ sym e
+    go zero e (suc b) f = absurd (p .lowest .none e n (looser-broken l (q .lowest .one (omega arith))))
+    go (suc a) e zero f = absurd (q .lowest .none f m (looser-kept l other (p .lowest .one (omega arith))))
+    go (suc a) e (suc b) f =
+        let broken = q .lowest .one (omega arith) in
+        rank-one n m (q .lowest .least m (looser-kept l other (p .lowest .one (omega arith)))) (p .lowest .least n (looser-broken l broken)) (q .known broken)
 
 as-it-is : (rows : Table) → Looser rows rows
 as-it-is [] = end
 as-it-is (row ∷ rows) = same (as-it-is rows)
+
+one-behind : (rows : Table) {more more′ : Table} → Looser more more′ → Looser (rows ++ more) (rows ++ more′)
+one-behind [] l = l
+one-behind (row ∷ rows) l = same (one-behind rows l)
 
 -- what is too little of a larger room is too little of a smaller one
 either : {a b a′ b′ : Bool} → (a′ ≡ true → a ≡ true) → (b′ ≡ true → b ≡ true) → (a′ or b′) ≡ true → (a or b) ≡ true
@@ -88,9 +105,9 @@ none-left small large used l e = let h = eqb-true (large - used) 0 e in eq-eqb (
 module _ (small large : Room) (l : AtLeast small large) (t : List ℕ) (p : ℕ) where
   operation-loosens : (o : Operation) (s : State) → Looser (operationRules small o s) (operationRules large o s)
   unfolding operationRules
-  operation-loosens (operation.Draw x y o) s = same (same (same (same (same (roomier (too-few _ _ _ _ (l .entries)) end)))))
+  operation-loosens (operation.Draw x y o) s = same (same (same (same (same (same (same (roomier (too-few _ _ _ _ (l .entries)) end)))))))
   operation-loosens (operation.Move x y) s = as-it-is _
-  operation-loosens (operation.Flash x y) s = same (same (same (same (same (same (roomier (too-few _ _ _ _ (l .entries)) end))))))
+  operation-loosens (operation.Flash x y) s = same (same (same (same (same (same (same (roomier (too-few _ _ _ _ (l .entries)) end)))))))
 
   definition-loosens : (d : Definition) (s : State) → Looser (definitionRules small t d s) (definitionRules large t d s)
   unfolding definitionRules adRules amRules
@@ -107,30 +124,35 @@ module _ (small large : Room) (l : AtLeast small large) (t : List ℕ) (p : ℕ)
 
   loosens : (c : Command) (s : State) → Looser (rulesOf small t c s) (rulesOf large t c s)
   unfolding rulesOf
-  loosens (Broken flaw) s = as-it-is _
+  loosens (command.Broken flaw) s = as-it-is _
   loosens Note s = end
   loosens End s = as-it-is _
   loosens (Set x) s = as-it-is _
   loosens (Operate o) s = operation-loosens o s
+  loosens (Coded code o) s = one-behind (settingRules (s .graphics) code) (operation-loosens o (settingStep code s .next))
   loosens (Select n) s = as-it-is _
   loosens (Define d) s = definition-loosens d s
   loosens (Contain b) s = bracket-loosens b s
   loosens (Attribute d) s = as-it-is _
 
   same-fault : (c : Command) (s : State) → (stepOf small t p c s .fault ≡ 17 → ⊥) → stepOf large t p c s .fault ≡ stepOf small t p c s .fault
-  same-fault c s n =
-      fault-first large t p c s ∙ looser-first (loosens c s) (λ e. n (fault-first small t p c s ∙ e)) ∙ sym (fault-first small t p c s)
+  same-fault c s n = looser-same (loosens c s) (fault-ruled small t p c s) (fault-ruled large t p c s) n
 
   -- the state behind a command says nothing of room
+  operation-next : (o : Operation) (s : State) → operationStep large p o s .next ≡ operationStep small p o s .next
+  unfolding operationStep drawStep flashStep
+  operation-next (operation.Draw x y o) s = refl
+  operation-next (operation.Move x y) s = refl
+  operation-next (operation.Flash x y) s = refl
+
   same-next : (c : Command) (s : State) → stepOf large t p c s .next ≡ stepOf small t p c s .next
-  unfolding stepOf operationStep definitionStep bracketStep drawStep flashStep apertureStep macroStep blockStartStep repeatStartStep
-  same-next (Broken flaw) s = refl
+  unfolding stepOf codedStep definitionStep bracketStep apertureStep macroStep blockStartStep repeatStartStep
+  same-next (command.Broken flaw) s = refl
   same-next Note s = refl
   same-next End s = refl
   same-next (Set x) s = refl
-  same-next (Operate (operation.Draw x y o)) s = refl
-  same-next (Operate (operation.Move x y)) s = refl
-  same-next (Operate (operation.Flash x y)) s = refl
+  same-next (Operate o) s = operation-next o s
+  same-next (Coded code o) s = operation-next o (settingStep code s .next)
   same-next (Select n) s = refl
   same-next (Define (definition.Aperture n name ps rounded)) s = refl
   same-next (Define (definition.Macro name blocks deep rounded)) s = refl

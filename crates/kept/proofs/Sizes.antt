@@ -35,7 +35,7 @@ use Rattle.place.specs.Mark.{
 use Rattle.place.proofs.Copies.{length-of-copies}
 use Rattle.place.proofs.Parts.{items-then}
 use Rattle.shown.specs.Shown.{blank}
-use Rattle.demands.specs.Counted.{putOutIn, putOut}
+use Rattle.kept.specs.Counted.{putOutIn, putOut}
 
 -- what is open, and how many items stand before it
 pub data Stack : Type 0 where

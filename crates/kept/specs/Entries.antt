@@ -8,7 +8,7 @@ use Rattle.command.specs.declared.Operation.the-variants as operation
 use Rattle.command.specs.declared.Bracket.{Bracket}
 use Rattle.command.specs.declared.Bracket.the-variants as bracket
 use Rattle.command.specs.declared.Command.{Command}
-use Rattle.command.specs.declared.Command.the-variants.{Broken, Note, End, Set, Operate, Select, Define, Contain, Attribute}
+use Rattle.command.specs.declared.Command.the-variants.{Broken, Note, End, Set, Operate, Coded, Select, Define, Contain, Attribute}
 use Rattle.commands.specs.declared.Placed.{Placed}
 
 unfoldable pub operationEntries : Operation → ℕ
@@ -25,6 +25,7 @@ bracketEntries bracket.RepeatEnd = 0
 -- what a command uses, but for the contour that it may start
 unfoldable pub commandEntries : Command → ℕ
 commandEntries (Operate o) = operationEntries o
+commandEntries (Coded code o) = operationEntries o
 commandEntries (Contain b) = bracketEntries b
 commandEntries (Broken flaw) = 0
 commandEntries Note = 0

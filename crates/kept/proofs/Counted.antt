@@ -10,6 +10,7 @@ use native.Mathlib.Omega.{arith}
 use lib.Dec.{eqb, lit≤}
 use lib.ListN.{length}
 use borrow.Author.Tests.{eq-eqb, ne-eqb, eqb-true, eqb-false, not-false}
+use Rattle.book.specs.declared.Book.{Book}
 use Rattle.base.specs.And.{_and_}
 use Rattle.base.specs.Choose.{pick}
 use Rattle.base.proofs.Faults.{unbroken}
@@ -29,10 +30,10 @@ use Rattle.command.specs.declared.Bracket.the-variants as bracket
 use Rattle.command.specs.declared.Deed.{Deed}
 use Rattle.command.specs.declared.Deed.the-variants as deed
 use Rattle.command.specs.declared.Command.{Command}
-use Rattle.command.specs.declared.Command.the-variants.{Broken, Note, End, Set, Operate, Select, Define, Contain, Attribute}
+use Rattle.command.specs.declared.Command.the-variants.{Broken, Note, End, Set, Operate, Coded, Select, Define, Contain, Attribute}
 use Rattle.commands.specs.declared.Placed.{Placed}
 use Rattle.templates.specs.Templates.{kindOf}
-use Rattle.graphics.specs.Graphics.{noAperture, start, withFormat, withPoint, withAperture, withMode, withQuadrants, withTransform, withRegion}
+use Rattle.graphics.specs.Graphics.{noAperture, start, withHeader, withNotation, withPoint, withAperture, withMode, withQuadrants, withTransform, withRegion}
 use Rattle.graphics.specs.Level as level
 use Rattle.graphics.specs.declared.Graphics.{Graphics}
 use Rattle.graphics.specs.declared.Level.{Level}
@@ -71,18 +72,19 @@ use Rattle.reading.specs.Steps.{
   settingStep,
   moveStep,
   operationStep,
+  codedStep,
   definitionStep,
   bracketStep,
   deedStep,
   stepOf,
 }
 use Rattle.reading.specs.Reading.{stepAt}
-use Rattle.demands.specs.Kept.{Keeps, nothing, one}
-use Rattle.demands.specs.Counted.{putOut, Counts}
-use Rattle.demands.proofs.Entries.{block-uses, repeat-uses}
-use Rattle.demands.proofs.Sizes as size
-use Rattle.demands.proofs.Sizes.{Stack, Size, countOf, more, shut, sizes, sized, sizes-append, outOf, put-out-size}
-use Rattle.demands.proofs.Found.{found-number, found-stays, taken-stays, taken-found, added-found, new-found, new-taken, closing-taken, closing-other, closing-same}
+use Rattle.kept.specs.Kept.{Keeps, nothing, one}
+use Rattle.kept.specs.Counted.{putOut, Counts}
+use Rattle.kept.proofs.Entries.{block-uses, repeat-uses}
+use Rattle.kept.proofs.Sizes as size
+use Rattle.kept.proofs.Sizes.{Stack, Size, countOf, more, shut, sizes, sized, sizes-append, outOf, put-out-size}
+use Rattle.kept.proofs.Found.{found-number, found-stays, taken-stays, taken-found, added-found, new-found, new-taken, closing-taken, closing-other, closing-same}
 
 -- what reading knows to be open, with the items before each
 abbrev Fits : List Opened → Level → Stack → Type 0
@@ -376,21 +378,31 @@ unfolding kindOf
 kind-other name = kinds _ _ _ _
 
 setting-keeps : (x : Setting) (g : Graphics) → g .aperture ≡ afterSetting x g .aperture
-unfolding afterSetting withFormat withMode withQuadrants withTransform withRegion
+unfolding afterSetting withHeader withNotation withMode withQuadrants withTransform withRegion
 setting-keeps setting.Linear g = refl
 setting-keeps setting.Clockwise g = refl
 setting-keeps setting.Counterclockwise g = refl
+setting-keeps setting.SingleQuadrant g = refl
 setting-keeps setting.MultiQuadrant g = refl
 setting-keeps setting.RegionStart g = refl
 setting-keeps setting.RegionEnd g = refl
-setting-keeps (setting.Format n) g = refl
+setting-keeps (setting.Format f) g = refl
+setting-keeps setting.Absolute g = refl
+setting-keeps setting.Incremental g = refl
 setting-keeps setting.Millimetres g = refl
 setting-keeps setting.Inches g = refl
+setting-keeps setting.CodedMillimetres g = refl
+setting-keeps setting.CodedInches g = refl
+setting-keeps setting.Halt g = refl
 setting-keeps setting.Dark g = refl
 setting-keeps setting.Clear g = refl
 setting-keeps (setting.Mirror x y) g = refl
 setting-keeps (setting.Rotation a rounded) g = refl
 setting-keeps (setting.Scale a rounded) g = refl
+
+setting-counts : (x : Setting) (s : State) → Known s → Known (settingStep x s .next)
+unfolding settingStep withGraphics
+setting-counts x s k = subst (λ (a : Selected). Account a (s .level) (s .opened) (s .apertures) (sized (s .marks))) (setting-keeps x (s .graphics)) k
 
 module _ (room : Room) (t : List ℕ) (p : ℕ) where
   operation-counts : (o : Operation) (s : State) → Known s → Known (operationStep room p o s .next)
@@ -440,12 +452,13 @@ module _ (room : Room) (t : List ℕ) (p : ℕ) where
   }
 
   step-counts : (c : Command) (s : State) → stepOf room t p c s .fault ≡ 0 → Known s → Known (stepOf room t p c s .next)
-  unfolding stepOf settingStep withGraphics
+  unfolding stepOf codedStep
   step-counts (Broken flaw) s e k = k
   step-counts Note s e k = k
   step-counts End s e k = k
-  step-counts (Set x) s e k = subst (λ (a : Selected). Account a (s .level) (s .opened) (s .apertures) (sized (s .marks))) (setting-keeps x (s .graphics)) k
+  step-counts (Set x) s e k = setting-counts x s k
   step-counts (Operate o) s e k = operation-counts o s k
+  step-counts (Coded code o) s e k = operation-counts o (settingStep code s .next) (setting-counts code s k)
   step-counts (Select n) s e k = select-counts n s k
   step-counts (Define d) s e k = definition-counts d s k
   step-counts (Contain b) s e k = bracket-counts b s e k
@@ -455,9 +468,9 @@ kept-counts : {room : Room} {file : List ℕ} {s t : State} {cs : List Placed} �
 kept-counts nothing k = k
 kept-counts {room = room} {s = s} (one {c = c} e rest) k = kept-counts rest (step-counts room _ (c .place) (c .command) s e k)
 
-begun-known : Known begun
+begun-known : (book : Book) → Known (begun book)
 unfolding begun outermost start noAperture apertureWith apertureFrom
-begun-known = record {
+begun-known book = record {
   here = refl;
   around = refl;
   apart = tt;
@@ -466,6 +479,10 @@ begun-known = record {
   held = λ e. absurd (false≢true e);
 }
 
--- every state that kept commands lead to
-pub counts-reached : {room : Room} {file : List ℕ} {t : State} {cs : List Placed} → Keeps room file begun cs t → Counts t
-counts-reached {t = t} k = counts t (kept-counts k begun-known)
+-- every state that kept commands lead to, and those behind a code before an operation
+module _ (book : Book) {room : Room} {file : List ℕ} {t : State} {cs : List Placed} (k : Keeps room file (begun book) cs t) where
+  pub counts-reached : Counts t
+  counts-reached = counts t (kept-counts k (begun-known book))
+
+  pub counts-behind : (code : Setting) → Counts (settingStep code t .next)
+  counts-behind code = counts (settingStep code t .next) (setting-counts code t (kept-counts k (begun-known book)))
