@@ -153,10 +153,7 @@ pub enum Command {
     Set(Setting),
     Operate(Operation),
     // an operation behind a G code of the old book
-    Coded {
-        code: Setting,
-        operation: Operation,
-    },
+    Coded { code: Setting, operation: Operation },
     // Dn
     Select(u64),
     Define(Definition),

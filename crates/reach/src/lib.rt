@@ -15,10 +15,7 @@ use points::Point;
 pub fn is_formatted(g: Graphics) -> bool
     ensures { λ r. ⌜ r ≡ isFormatted g ⌝ }
 {
-    !base::both(
-        g.header.format.integers == 0,
-        g.header.format.decimals == 0,
-    )
+    !base::both(g.header.format.integers == 0, g.header.format.decimals == 0)
 }
 
 // A number is 10^12 or more in size.

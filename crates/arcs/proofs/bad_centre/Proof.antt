@@ -24,13 +24,13 @@ bad-centre-requires c κs = search needs
 
 returns : tie.Need-returns
 unfolding badCentre centreOf _and_
-returns c = 
+returns c =
     let test = rw (c .before .before .before .before .before .before .is-circular .ensures, c .before .before .before .before .before .is-single .ensures) at (sym (c .before .before .before .before .both .ensures) ∙ c .before .before .before .if1 .taken) in
     rw (test, sym (c .before .offset-of .ensures)) (c .bad-centre .ensures)
 
 returns-2 : tie.Need-returns-2
 unfolding badCentre _and_
-returns-2 c = 
+returns-2 c =
     let test = rw (c .before .before .before .is-circular .ensures, c .before .before .is-single .ensures) at (sym (c .before .both .ensures) ∙ c .if1 .left) in
     rw test refl
 

@@ -19,7 +19,7 @@ size-requires-2 : tie.Need-size-requires-2
 size-requires-2 c κs = search needs
 
 choose-requires : tie.Need-choose-requires
-choose-requires c κs = 
+choose-requires c κs =
     let h = c .before .before .before .before .before .before .before .pre in
     let x = toZ-ofZ {w = w64} {z = c .before .before .before .before .before .offset-of .result .x} (record { sfits = omega arith }) in
     let y = toZ-ofZ {w = w64} {z = c .before .before .before .before .before .offset-of .result .y} (record { sfits = omega arith }) in
@@ -27,7 +27,7 @@ choose-requires c κs =
 
 returns : tie.Need-returns
 unfolding choiceFor
-returns c = 
+returns c =
     let x = toZ-ofZ {w = w64} {z = c .before .before .before .before .before .before .offset-of .result .x} (record { sfits = omega arith }) in
     let y = toZ-ofZ {w = w64} {z = c .before .before .before .before .before .before .offset-of .result .y} (record { sfits = omega arith }) in
     rw (sym (c .before .before .before .before .before .before .offset-of .ensures), sym x, sym y, sym (c .before .before .before .before .size .ensures), sym (c .before .before .size2 .ensures)) (c .choose .ensures)

@@ -30,13 +30,13 @@ is-none-requires c κs = search needs
 
 returns : tie.Need-returns
 unfolding centreless _and_
-returns c = 
+returns c =
     let test = rw (c .before .before .before .before .is-circular .ensures, c .before .before .before .before .before .both .ensures, c .before .before .before .before .before .before .before .is-single .ensures, c .before .before .before .before .before .before .stays .ensures) at (sym (c .before .before .before .both2 .ensures) ∙ c .before .before .if1 .taken) in
     rw (test, sym (c .before .choice-for .ensures)) (c .is-none .ensures)
 
 returns-2 : tie.Need-returns-2
 unfolding centreless _and_
-returns-2 c = 
+returns-2 c =
     let test = rw (c .before .before .is-circular .ensures, c .before .before .before .both .ensures, c .before .before .before .before .before .is-single .ensures, c .before .before .before .before .stays .ensures) at (sym (c .before .both2 .ensures) ∙ c .if1 .left) in
     rw test refl
 

@@ -20,7 +20,7 @@ either-requires c κs = search needs
 
 returns : tie.Need-returns
 unfolding isFar
-returns c = 
+returns c =
     let p = c .before .before .before .before .before .args .p in
     rw (c .either .ensures, c .before .is-long2 .ensures, c .before .before .before .is-long .ensures, toZ-ofZ {w = w64} {z = p .x} (record { sfits = omega arith }), toZ-ofZ {w = w64} {z = p .y} (record { sfits = omega arith })) refl
 

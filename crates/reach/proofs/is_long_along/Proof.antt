@@ -21,7 +21,7 @@ is-long-sum-requires c κs = rw (toZ-ofZ {w = w64} {z = c .before .before .befor
 
 returns : tie.Need-returns
 unfolding along
-returns c = 
+returns c =
     let given = toZ-ofZ {w = w64} {z = c .before .before .before .a .given .0 .0} (record { sfits = c .before .before .known-told .given .0 .1 }) in
     rw (c .before .before .before .a .given .1, c .before .if1 .taken) (rw (given, toZ-ofZ {w = w64} {z = c .before .before .before .before .before .args .old} (record { sfits = omega arith })) at (c .is-long-sum .ensures))
 
@@ -34,7 +34,7 @@ returns-2 c = rw (c .enum-told .given .1) (sym (lt-leb _ _ (c .before .before .p
 
 returns-3 : tie.Need-returns-3
 unfolding along
-returns-3 c = 
+returns-3 c =
     let given = toZ-ofZ {w = w64} {z = c .before .before .before .a .given .0 .0} (record { sfits = c .before .before .known-told .given .0 .1 }) in
     rw (c .before .before .before .a .given .1, c .before .if1 .left) (rw given at (c .is-long .ensures))
 

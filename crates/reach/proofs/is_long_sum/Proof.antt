@@ -16,14 +16,14 @@ size-requires : tie.Need-size-requires
 size-requires c κs = search needs
 
 returns : tie.Need-returns
-returns c = 
+returns c =
     let a = c .before .before .args in
     let size = rw (toZ-ofZ {w = w64} {z = c .before .before .args .b} (record { sfits = omega arith })) at (c .before .size .ensures) in
     let large = c .if1 .taken in
     sym (long-sum (a .a) (a .b) (c .before .before .pre) (omega (arith, size, large)))
 
 add-is-long : tie.Need-add-is-long
-add-is-long c = 
+add-is-long c =
     let a = c .before .before .args in
     let size = rw (toZ-ofZ {w = w64} {z = c .before .before .args .b} (record { sfits = omega arith })) at (c .before .size .ensures) in
     let small = c .if1 .left in
@@ -33,7 +33,7 @@ is-long-requires : tie.Need-is-long-requires
 is-long-requires c κs = search needs
 
 returns-2 : tie.Need-returns-2
-returns-2 c = 
+returns-2 c =
     let a = c .before .before .before .args in
     let size = rw (toZ-ofZ {w = w64} {z = c .before .before .before .args .b} (record { sfits = omega arith })) at (c .before .before .size .ensures) in
     let small = c .before .if1 .left in
