@@ -37,7 +37,7 @@ module _ (book : Book) (w w′ : Lent) (head : List ℕ) (r : code.Answer) (read
   left = subst (λ (a : Answer). Reads (roundedIn book (w .file)) a w w′ head r) (keeps-accepted book (roomOf w) (w .file) (k .keeps)) reads .2
 
   knows : Knows (k .state)
-  knows = kept-knows (k .keeps .commands) begun-knows
+  knows = kept-knows (k .keeps .commands) (begun-knows book)
 
   pub summarised : Summarised head (w′ .entries) (w′ .apertures) (k .state)
   unfolding outcomeOf summed
