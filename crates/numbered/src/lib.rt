@@ -8,7 +8,7 @@ ghost use mathlib.Core.Path.{_≡_};
 ghost use Rattle.progress.specs.Lent.{lentOf, roomOf};
 ghost use Rattle.reader.specs.Reads.{Reads};
 ghost use Rattle.numbered.specs.Choice.{choiceOf};
-ghost use Rattle.numbered.specs.Calls.{attributeBy, signatureBy, readingBy, roundedBy};
+ghost use Rattle.numbered.specs.Calls.{attributeBy, signatureBy, readingBy, roundedBy, labelNamedBy, labelAtBy};
 
 // The book that is named, or none.
 pub enum Choice {
@@ -87,5 +87,27 @@ pub fn read(
                 place: 0,
             }
         }
+    }
+}
+
+// The file attribute of this name, likewise.
+pub fn label_named(letters: u64, file: &[u8], name: &[u8]) -> labels::Answer
+    ensures { λ r. ⌜ r ≡ labelNamedBy (choiceOf letters) (now (file .entry)) (now (name .entry)) ⌝ }
+{
+    let c = choice_of(letters);
+    match c {
+        Choice::By(book) => labels::label_named(book, file, name),
+        Choice::Unknown => labels::refused(101),
+    }
+}
+
+// File attribute i, likewise.
+pub fn label_at(letters: u64, file: &[u8], i: usize) -> labels::Answer
+    ensures { λ r. ⌜ r ≡ labelAtBy (choiceOf letters) (now (file .entry)) i ⌝ }
+{
+    let c = choice_of(letters);
+    match c {
+        Choice::By(book) => labels::label_at(book, file, i),
+        Choice::Unknown => labels::refused(101),
     }
 }
