@@ -48,30 +48,11 @@ fn listed(
     out: &mut [u8],
 ) -> Answer {
     let top = sheet::top_of(head);
-    let f = passes::faults(
-        e,
-        a,
-        top,
-        notes,
-        n.operations,
-        roles,
-        n.roles,
-        names,
-    );
+    let f = passes::faults(e, a, top, notes, n.operations, roles, n.roles, names);
     if f.number != 0 {
         return refused(f.number, f.place as usize);
     }
-    if passes::link_pins(
-        e,
-        a,
-        top,
-        notes,
-        n.operations,
-        roles,
-        n.roles,
-        names,
-        pins,
-    ) {
+    if passes::link_pins(e, a, top, notes, n.operations, roles, n.roles, names, pins) {
         let pen = writing::put_list(
             file,
             e,

@@ -264,13 +264,7 @@ fn placed_at(n: Note, place: usize) -> Note {
 }
 
 // Notes what a command makes.
-fn note_made(
-    file: &[u8],
-    notes: &mut [u64],
-    roles: &mut [u64],
-    n: Noting,
-    c: Placed,
-) -> Noting {
+fn note_made(file: &[u8], notes: &mut [u64], roles: &mut [u64], n: Noting, c: Placed) -> Noting {
     let command = c.command;
     let said = n.said;
     match layer::made_of(command) {

@@ -37,7 +37,7 @@ pub fn pick(test: bool, yes: Saying, no: Saying) -> Saying
 }
 
 // The value behind the first comma from `from` on, up to the first `*`.
-pub fn value_in(s: &[u8], from: usize) -> Saying
+fn value_in(s: &[u8], from: usize) -> Saying
     ensures { λ r. ⌜ r ≡ valueIn (now (s .entry)) from ⌝ }
 {
     let comma = text::find(s, from, b',');
