@@ -1,4 +1,4 @@
-// One pass over a file's commands: of each D01 and D03 its attributes are noted, of each AD what its aperture is for, and the designators.
+// One pass over a file's commands: of each D01 and D03 its attributes are noted, of each AD what its aperture is for.
 use book::Book;
 use command::Span;
 use commands::Placed;
@@ -7,12 +7,21 @@ use index::Search;
 use layer::Made;
 use notes::Note;
 use sayings::Kind;
-use sayings::Saying;
 use sheet::Aperture;
-use tables::Macro;
+ghost use mathlib.Core.Path.{_≡_};
+ghost use mathlib.Core.Bool.{true};
+ghost use Prim.Native.Nat.{_+_, _≤_};
+ghost use Rattle.scan.specs.Permitted.{fits};
+ghost use Rattle.commands.specs.Commands.{commandsOf};
+ghost use Rattle.index.specs.Numbers.{Numbered};
+ghost use Rattle.layer.specs.Attributes.{declaresAs};
+ghost use Rattle.layer.specs.Work.{itemsBy, aperturesBy};
+ghost use Rattle.hearing.specs.Designators.{Designators};
+ghost use Rattle.noting.specs.Steps.{placedAt, notedAs, Put, Puts, HearsBoth, TextFollows, HearsAll, Small, Notes, begun};
+ghost use Rattle.noting.specs.Holds.{Noted};
 
 // What is known between two commands: the object attributes that are held, as they would be noted; what `.AperFunction` says; whether the layer
-// is a component layer; how many operations, designators set and apertures came; how many records the two tables have.
+// is a component layer; how many D01 and D03, TO of `.C` or `.P`, and AD came; how many records the two tables have.
 pub struct Noting {
     pub said: Note,
     pub function: u64,
@@ -24,228 +33,85 @@ pub struct Noting {
     pub roles: usize,
 }
 
-// The smaller of two numbers.
-fn lower(a: usize, b: usize) -> usize {
-    if a < b { a } else { b }
-}
-
-fn nowhere() -> Span {
-    Span { from: 0, to: 0 }
-}
-
-// The first field of the value that begins at a place and has a length.
-fn first_field(file: &[u8], place: usize, length: usize) -> Span {
-    let from = lower(place, file.len());
-    let value = base::up_to(base::from_on(file, place), length);
-    Span {
-        from,
-        to: from + text::find(value, 0, b','),
-    }
-}
-
-// Its second field.
-fn second_field(file: &[u8], place: usize, length: usize) -> Span {
-    let value = base::up_to(base::from_on(file, place), length);
-    let comma = text::find(value, 0, b',');
-    if comma < value.len() {
-        return first_field(file, place + comma + 1, value.len() - (comma + 1));
-    }
-    nowhere()
-}
-
-// Where a text lies behind a command that says this of it.
-fn text_after(file: &[u8], old: Span, s: Saying) -> Span {
-    match s {
-        Saying::Silent => old,
-        Saying::Deletes => nowhere(),
-        Saying::Sets { place, length } => first_field(file, place, length),
-    }
-}
-
-// Where a pin's number lies.
-fn number_after(file: &[u8], old: Span, s: Saying) -> Span {
-    match s {
-        Saying::Silent => old,
-        Saying::Deletes => nowhere(),
-        Saying::Sets { place, length } => second_field(file, place, length),
-    }
-}
-
-// A designator, as it is noted, and how many are kept.
-pub struct Designated {
-    pub word: u64,
+// Both designators as they are noted, how many are kept, and how many of the two were set.
+pub struct Both {
+    pub component: u64,
+    pub pin: u64,
     pub used: usize,
+    pub settings: usize,
 }
 
-// The designator in the file, among those that are kept; put there where it is new and there is room.
-fn designate(file: &[u8], names: &mut [u64], used: usize, p: Span) -> Designated {
-    let found = index::search_name(file, names, used, p.from, p.to);
-    match found {
-        Search::At(i) => Designated {
-            word: i as u64 + 1,
-            used,
-        },
-        Search::Free(link) => {
-            let name = Macro {
-                from: p.from,
-                to: p.to,
-                first: 0,
-                end: 0,
-            };
-            if tables::put_macro(names, used, link, name) {
-                return Designated {
-                    word: used as u64 + 1,
-                    used: used + 1,
-                };
-            }
-            Designated { word: 0, used }
-        }
-    }
+// All texts as they are noted, likewise.
+pub struct Heard {
+    pub note: Note,
+    pub used: usize,
+    pub settings: usize,
 }
 
-// The designator behind a command that says this of it.
-fn designator_after(
-    file: &[u8],
-    names: &mut [u64],
-    used: usize,
-    old: u64,
-    s: Saying,
-) -> Designated {
-    match s {
-        Saying::Silent => Designated { word: old, used },
-        Saying::Deletes => Designated { word: 0, used },
-        Saying::Sets { place, length } => designate(
-            file,
-            names,
-            used,
-            first_field(file, place, length),
-        ),
-    }
-}
-
-// 1 where a value is set.
-fn sets(s: Saying) -> usize {
-    match s {
-        Saying::Silent => 0,
-        Saying::Deletes => 0,
-        Saying::Sets {
-            place: _,
-            length: _,
-        } => 1,
-    }
-}
-
-fn function_in(s: &[u8]) -> u64 {
-    if text::is(s, b"ComponentMain") {
-        return 1;
-    }
-    if text::is(s, b"ComponentPin") {
-        return 2;
-    }
-    if text::is(s, b"ComponentOutline") {
-        return 3;
-    }
-    0
-}
-
-// What an aperture is for, behind a command that says this of `.AperFunction`.
-fn function_after(file: &[u8], old: u64, s: Saying) -> u64 {
-    match s {
-        Saying::Silent => old,
-        Saying::Deletes => 0,
-        Saying::Sets { place, length } => {
-            let p = first_field(file, place, length);
-            function_in(base::part(file, p.from, p.to))
-        }
-    }
-}
-
-// The object attributes behind a command.
-fn said_after(file: &[u8], names: &mut [u64], n: Noting, c: Placed) -> Noting {
-    let said = n.said;
+// Both designators behind a command.
+fn designators(file: &[u8], names: &mut [u64], used: usize, n: Note, c: Placed) -> Both
+    requires { ⌜ Designators (now file) (now names) used ⌝ }
+    ensures { λ r. ⌜ HearsBoth (now (file .entry)) (now (names .entry)) (now (names .exit)) used n c r ⌝ }
+{
     let of_c = sayings::saying_of(file, Kind::Object, b".C", c);
     let of_p = sayings::saying_of(file, Kind::Object, b".P", c);
-    let component = designator_after(file, names, n.names, said.component, of_c);
-    let pin = designator_after(file, names, component.used, said.pin, of_p);
-    let note = Note {
-        place: 0,
+    let component = hearing::designator_after(file, names, used, n.component, of_c);
+    let pin = hearing::designator_after(file, names, component.used, n.pin, of_p);
+    Both {
         component: component.word,
         pin: pin.word,
-        number: number_after(file, said.number, of_p),
-        rotation: text_after(
-            file,
-            said.rotation,
-            sayings::saying_of(file, Kind::Object, b".CRot", c),
-        ),
-        value: text_after(
-            file,
-            said.value,
-            sayings::saying_of(file, Kind::Object, b".CVal", c),
-        ),
-        footprint: text_after(
-            file,
-            said.footprint,
-            sayings::saying_of(file, Kind::Object, b".CFtp", c),
-        ),
-        mount: text_after(
-            file,
-            said.mount,
-            sayings::saying_of(file, Kind::Object, b".CMnt", c),
-        ),
-    };
-    Noting {
-        said: note,
-        function: n.function,
-        component: n.component,
-        operations: n.operations,
-        settings: n.settings + sets(of_c) + sets(of_p),
-        apertures: n.apertures,
-        names: pin.used,
-        roles: n.roles,
+        used: pin.used,
+        settings: hearing::set_by(of_c) + hearing::set_by(of_p),
     }
 }
 
-// What the aperture with a number is for, noted where there is room; how many are.
-fn note_role(roles: &mut [u64], used: usize, number: u64, function: u64) -> usize {
-    let found = index::search_number(roles, used, number);
-    match found {
-        Search::At(_) => used,
-        Search::Free(link) => {
-            let r = Aperture {
-                number: number,
-                kind: function,
-                first: 0,
-                len: 0,
-                items: 0,
-                height: 0,
-            };
-            if tables::put_aperture(roles, used, link, r) {
-                return used + 1;
-            }
-            used
-        }
+// Where the first field of an object attribute lies behind a command.
+fn text_of(file: &[u8], name: &[u8], old: Span, c: Placed) -> Span
+    ensures { λ r. ⌜ TextFollows (now (file .entry)) 0 (now (name .entry)) old r c ⌝ }
+{
+    let s = sayings::saying_of(file, Kind::Object, name, c);
+    hearing::text_after(file, old, s)
+}
+
+// Where its second field lies.
+fn number_of(file: &[u8], name: &[u8], old: Span, c: Placed) -> Span
+    ensures { λ r. ⌜ TextFollows (now (file .entry)) 1 (now (name .entry)) old r c ⌝ }
+{
+    let s = sayings::saying_of(file, Kind::Object, name, c);
+    hearing::number_after(file, old, s)
+}
+
+// All texts behind a command.
+fn hear(file: &[u8], names: &mut [u64], used: usize, n: Note, c: Placed) -> Heard
+    requires { ⌜ Designators (now file) (now names) used ⌝ }
+    ensures { λ r. ⌜ HearsAll (now (file .entry)) (now (names .entry)) (now (names .exit)) used n c r ⌝ }
+{
+    let both = designators(file, names, used, n, c);
+    let number = number_of(file, b".P", n.number, c);
+    let rotation = text_of(file, b".CRot", n.rotation, c);
+    let value = text_of(file, b".CVal", n.value, c);
+    let footprint = text_of(file, b".CFtp", n.footprint, c);
+    let mount = text_of(file, b".CMnt", n.mount, c);
+    Heard {
+        note: Note {
+            place: 0,
+            component: both.component,
+            pin: both.pin,
+            number: number,
+            rotation: rotation,
+            value: value,
+            footprint: footprint,
+            mount: mount,
+        },
+        used: both.used,
+        settings: both.settings,
     }
 }
 
-// Whether a TF declares the layer a component layer.
-fn declares(file: &[u8], c: Placed, name: Span) -> bool {
-    let t = base::part(file, c.from, c.end);
-    if text::is(base::part(t, name.from, name.to), b".FileFunction") {
-        let v = sayings::value_in(base::up_to(file, c.end), c.from);
-        match v {
-            Saying::Silent => false,
-            Saying::Deletes => false,
-            Saying::Sets { place, length } => {
-                let p = first_field(file, place, length);
-                text::is(base::part(file, p.from, p.to), b"Component")
-            }
-        }
-    } else {
-        false
-    }
-}
-
-fn placed_at(n: Note, place: usize) -> Note {
+// What is held, noted at a place.
+fn placed_at(n: Note, place: usize) -> Note
+    ensures { λ r. ⌜ r ≡ placedAt n place ⌝ }
+{
     let number = n.number;
     let rotation = n.rotation;
     let value = n.value;
@@ -263,48 +129,85 @@ fn placed_at(n: Note, place: usize) -> Note {
     }
 }
 
-// Notes what a command makes.
-fn note_made(file: &[u8], notes: &mut [u64], roles: &mut [u64], n: Noting, c: Placed) -> Noting {
-    let command = c.command;
-    let said = n.said;
-    match layer::made_of(command) {
+// Notes a D01 or D03; how many are noted.
+fn note_operation(notes: &mut [u64], made: Made, operations: usize, n: Note) -> usize
+    requires { ⌜ operations ≤ 16777216 ⌝ }
+    ensures { λ r. ⌜ (r ≡ operations + itemsBy made) × (now (notes .exit) ≡ notedAs made (now (notes .entry)) operations n) ⌝ }
+{
+    match made {
         Made::Item => {
-            notes::put_note(notes, n.operations, placed_at(said, c.place));
-            Noting {
-                said: said,
-                function: n.function,
-                component: n.component,
-                operations: n.operations + 1,
-                settings: n.settings,
-                apertures: n.apertures,
-                names: n.names,
-                roles: n.roles,
-            }
+            notes::put_note(notes, operations, n);
+            operations + 1
         }
-        Made::Aperture(number) => {
-            let used = note_role(roles, n.roles, number, n.function);
-            Noting {
-                said: said,
-                function: n.function,
-                component: n.component,
-                operations: n.operations,
-                settings: n.settings,
-                apertures: n.apertures + 1,
-                names: n.names,
-                roles: used,
-            }
-        }
-        Made::File(name) => Noting {
-            said: said,
-            function: n.function,
-            component: base::either(n.component, declares(file, c, name)),
-            operations: n.operations,
-            settings: n.settings,
-            apertures: n.apertures,
-            names: n.names,
-            roles: n.roles,
-        },
-        Made::Nothing => n,
+        Made::Aperture(_) => operations,
+        Made::File { .. } => operations,
+        Made::Nothing => operations,
+    }
+}
+
+// Notes what the aperture with a number is for, where the number is new and there is room; how many are noted.
+fn put_role(roles: &mut [u64], used: usize, number: u64, function: u64) -> usize
+    requires { ⌜ Numbered (now roles) used ⌝ }
+    ensures { λ r. ⌜ Put (now (roles .entry)) (now (roles .exit)) used r number function ⌝ }
+{
+    let found = index::search_number(roles, used, number);
+    let Search::Free(link) = found else {
+        return used;
+    };
+    let a = Aperture {
+        number: number,
+        kind: function,
+        first: 0,
+        len: 0,
+        items: 0,
+        height: 0,
+    };
+    if tables::put_aperture(roles, used, link, a) {
+        return used + 1;
+    }
+    used
+}
+
+// Notes an AD.
+fn note_aperture(roles: &mut [u64], made: Made, used: usize, function: u64) -> usize
+    requires { ⌜ Numbered (now roles) used ⌝ }
+    ensures { λ r. ⌜ Puts made (now (roles .entry)) (now (roles .exit)) used r function ⌝ }
+{
+    match made {
+        Made::Item => used,
+        Made::Aperture(number) => put_role(roles, used, number, function),
+        Made::File { .. } => used,
+        Made::Nothing => used,
+    }
+}
+
+// 1 of an AD.
+fn apertures_by(made: Made) -> usize
+    ensures { λ r. ⌜ r ≡ aperturesBy made ⌝ }
+{
+    match made {
+        Made::Item => 0,
+        Made::Aperture(_) => 1,
+        Made::File { .. } => 0,
+        Made::Nothing => 0,
+    }
+}
+
+// Whether a command with this text says that the layer is a component layer.
+fn declares(t: &[u8], made: Made) -> bool
+    ensures { λ r. ⌜ r ≡ declaresAs (now (t .entry)) made ⌝ }
+{
+    match made {
+        Made::Item => false,
+        Made::Aperture(_) => false,
+        Made::File { name, value } => base::both(
+            text::is(base::part(t, name.from, name.to), b".FileFunction"),
+            text::is(
+                text::before(base::part(t, value.from, value.to), b','),
+                b"Component",
+            ),
+        ),
+        Made::Nothing => false,
     }
 }
 
@@ -316,43 +219,47 @@ fn note_command(
     roles: &mut [u64],
     n: Noting,
     c: Placed,
-) -> Noting {
-    let made = note_made(file, notes, roles, n, c);
-    let said = said_after(file, names, made, c);
-    let note = said.said;
+) -> Noting
+    requires { ⌜ Small n × Designators (now file) (now names) (n .names) × Numbered (now roles) (n .roles) ⌝ }
+    ensures { λ r. ⌜ Notes (now (file .entry)) (now (notes .entry)) (now (notes .exit)) (now (names .entry)) (now (names .exit)) (now (roles .entry)) (now (roles .exit)) n c r ⌝ }
+{
+    let said = n.said;
+    let command = c.command;
+    let made = layer::made_of(command);
+    let operations = note_operation(notes, made, n.operations, placed_at(said, c.place));
+    let used = note_aperture(roles, made, n.roles, n.function);
+    let declared = declares(base::part(file, c.from, c.end), made);
+    let heard = hear(file, names, n.names, said, c);
+    let s = sayings::saying_of(file, Kind::Aperture, b".AperFunction", c);
+    let function = hearing::function_after(file, n.function, s);
+    let note = heard.note;
     Noting {
         said: note,
-        function: function_after(
-            file,
-            said.function,
-            sayings::saying_of(file, Kind::Aperture, b".AperFunction", c),
-        ),
-        component: said.component,
-        operations: said.operations,
-        settings: said.settings,
-        apertures: said.apertures,
-        names: said.names,
-        roles: said.roles,
+        function: function,
+        component: base::either(n.component, declared),
+        operations: operations,
+        settings: n.settings + heard.settings,
+        apertures: n.apertures + apertures_by(made),
+        names: heard.used,
+        roles: used,
     }
 }
 
-fn no_note() -> Note {
-    Note {
-        place: 0,
-        component: 0,
-        pin: 0,
-        number: nowhere(),
-        rotation: nowhere(),
-        value: nowhere(),
-        footprint: nowhere(),
-        mount: nowhere(),
-    }
-}
-
-fn nothing() -> Noting {
-    let said = no_note();
+// Before any command.
+fn nothing() -> Noting
+    ensures { λ r. ⌜ r ≡ begun ⌝ }
+{
     Noting {
-        said: said,
+        said: Note {
+            place: 0,
+            component: 0,
+            pin: 0,
+            number: Span { from: 0, to: 0 },
+            rotation: Span { from: 0, to: 0 },
+            value: Span { from: 0, to: 0 },
+            footprint: Span { from: 0, to: 0 },
+            mount: Span { from: 0, to: 0 },
+        },
         function: 0,
         component: false,
         operations: 0,
@@ -370,7 +277,10 @@ pub fn note_all(
     notes: &mut [u64],
     names: &mut [u64],
     roles: &mut [u64],
-) -> Noting {
+) -> Noting
+    requires { ⌜ (fits (now file) ≡ true) × (commandsOf book (now file) .fault .number ≡ 0) ⌝ }
+    ensures { λ r. ⌜ Noted book (now (file .entry)) (now (notes .exit)) (now (names .exit)) (now (roles .exit)) r ⌝ }
+{
     let mut n: usize = 0;
     let mut at: usize = 0;
     let mut known = nothing();
