@@ -64,7 +64,7 @@ module _ (w₀ w : Lent) (file-is : w .file ≡ w₀ .file) (e : w .entries ≡ 
 -- the rooms matter by their lengths alone
 pub same-answer : (book : Book) (w₀ w : Lent) → w .file ≡ w₀ .file → AsLong w₀ w → answerOf book w ≡ answerOf book w₀
 unfolding answerOf
-same-answer book w₀ w f l = λ i. readOn (same-room w₀ w l i) (f i) (walked book (f i) .commands) (walked book (f i) .fault) begun
+same-answer book w₀ w f l = λ i. readOn (same-room w₀ w l i) (f i) (walked book (f i) .commands) (walked book (f i) .fault) (begun book)
 
 -- a run that ends, and one that asks
 pub came : (book : Book) (w₀ w₁ w₂ : Lent) (look : Repeat) (o : Outcome) {x : End} → w₁ .file ≡ w₀ .file → AsLong w₀ w₁ → Comes book (answerOf book w₁) w₂ look o → o ≡ outcome.Ends x →
@@ -126,7 +126,7 @@ module _ (book : Book) (w₀ w : Lent) (head : List ℕ) (r : End) (short : fits
         let s = sheeted in
         let all : rounded ≡ roundedIn book (w₀ .file) = s .counted ∙ ap (λ (f : List ℕ). roundedAmong (walked book f .commands)) file-is ∙ rounded-fits book (w₀ .file) short in
         subst (λ (x : Answer). Reads (roundedIn book (w₀ .file)) x w₀ (withEntries e′ w) head (answer.Accepted (unitIn (p .graphics .header)) rounded)) (sym (s .is) ∙ reading-fits book w₀ short) (
-          (λ i. answer.Accepted (s .knows .graphics i .format .unit) (all i)),
+          (λ i. answer.Accepted (unitIn (s .knows .graphics i .header)) (all i)),
           record {
             entries-long = ended .as-long ∙ long .entries-long;
             apertures-long = long .apertures-long;
