@@ -1,5 +1,5 @@
-// Attributes asked of the file on standard input, by the old rule of letters: three names, as TA and as TO, at every place. A line for each answer but 22: what
-// was asked, then the answer as the second reader writes it.
+// Attributes asked of the file on standard input, by the newer edition and the old rule of letters: three names, as TA and as TO, at every
+// place. A line for each answer but 22: what was asked, then the answer as the second reader writes it.
 use attribute::Answer;
 use libc::STDOUT_FILENO;
 use sayings::Kind;

@@ -1,48 +1,51 @@
 -- The pass over a file's commands: what is found and heard so far, with the commands that are left, comes to the answer.
 -- Assumes nothing.
 use Prim.Native.Nat.{ℕ}
-use mathlib.Core.Path.{_≡_, refl}
+use mathlib.Core.Path.{_≡_, refl, ap, _∙_}
 use mathlib.Core.Bool.{Bool, true, false}
 use mathlib.Core.List.{List, _∷_}
 use lib.Dec.{eqb}
 use Rattle.base.specs.Choose.{pick}
+use Rattle.book.specs.declared.Book.{Book}
 use Rattle.commands.specs.Commands.{Sequence, stopped, followed}
 use Rattle.commands.specs.declared.Placed.{Placed}
 use Rattle.commands.specs.declared.Refusal.{Refusal}
-use Rattle.attribute.specs.Attribute.{refused, before, fromOn, nothing, heardWith, heardIn, answerFor, answerIn}
+use Rattle.attribute.specs.Attribute.{refused, before, fromOn, nothing, heardWith, heardIn, held, answerFor, answerIn}
 use Rattle.attribute.specs.Pass.{met, closing, judged}
 use Rattle.attribute.specs.declared.Answer.{Answer}
 use Rattle.attribute.specs.declared.Found.{Found}
 use Rattle.attribute.specs.declared.Found.the-variants.{NotYet, Is}
 use Rattle.attribute.specs.declared.Heard.{Heard}
+use Rattle.outlines.specs.declared.Outline.{Outline}
 use Rattle.sayings.specs.declared.Kind.{Kind}
+use Rattle.sayings.specs.declared.Saying.{Saying}
 
-module _ (file : List ℕ) (kind : Kind) (place : ℕ) (name : List ℕ) where
+module _ (book : Book) (file : List ℕ) (kind : Kind) (place : ℕ) (name : List ℕ) where
   -- with these commands left
   unfoldable pub settled : Found → Heard → List Placed → Answer
   settled (Is a) h cs = a
-  settled NotYet h cs = answerFor file kind (fromOn place cs) (heardIn file kind name h (before place cs))
+  settled NotYet h cs = answerFor book file kind (fromOn place cs) (heardIn book file kind name h (before place cs))
 
   unfoldable pub outcome : Found → Heard → Sequence → Answer
   outcome found h l = pick (eqb (l .fault .number) 0) (settled found h (l .commands)) (refused (l .fault .number))
 
-  pub pass-starts : (l : Sequence) → outcome NotYet nothing l ≡ answerIn file kind place name l
+  pub pass-starts : (l : Sequence) → outcome NotYet nothing l ≡ answerIn book file kind place name l
   unfolding outcome settled answerIn
   pass-starts l = refl
 
   settled-more : (found : Found) (h : Heard) (c : Placed) (cs : List Placed) →
-      settled found h (c ∷ cs) ≡ settled (met file kind place h c found) (heardWith file kind name h c) cs
+      settled found h (c ∷ cs) ≡ settled (met book file kind place h c found) (heardWith book file kind name h c) cs
   unfolding settled met pick fromOn before answerFor heardIn
   settled-more (Is a) h c cs = refl
   settled-more NotYet h c cs = go (eqb (c .place) place) refl
     where
       go : (t : Bool) → eqb (c .place) place ≡ t →
-          settled NotYet h (c ∷ cs) ≡ settled (met file kind place h c NotYet) (heardWith file kind name h c) cs
+          settled NotYet h (c ∷ cs) ≡ settled (met book file kind place h c NotYet) (heardWith book file kind name h c) cs
       go true e = rw (e, fromOn, before, pick)
       go false e = rw (e, fromOn, before, pick)
 
   pub pass-more : (found : Found) (h : Heard) (c : Placed) (l : Sequence) →
-      outcome found h (followed c l) ≡ outcome (met file kind place h c found) (heardWith file kind name h c) l
+      outcome found h (followed c l) ≡ outcome (met book file kind place h c found) (heardWith book file kind name h c) l
   unfolding outcome
   pass-more found h c l = rw (settled-more found h c (l .commands))
 
@@ -50,3 +53,7 @@ module _ (file : List ℕ) (kind : Kind) (place : ℕ) (name : List ℕ) where
   unfolding outcome settled judged closing fromOn answerFor
   pass-stops (Is a) h f = refl
   pass-stops NotYet h f = refl
+
+-- a contour's first D01 has what its region carries: what is said before its own G36, or was before that of the region around it
+pub carried-at : {o p : Outline} (said carried : Saying) {s : Saying} {a : Answer} → o ≡ p → s ≡ pick (o .opens) said carried → a ≡ held s → a ≡ held (pick (p .opens) said carried)
+carried-at said carried e f g = g ∙ ap held f ∙ ap (λ (x : Outline). held (pick (x .opens) said carried)) e

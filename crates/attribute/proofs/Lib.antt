@@ -1,3 +1,4 @@
 pub mod Examples
+pub mod Films
 pub mod Left
 pub mod Rules

@@ -1,16 +1,17 @@
 -- The attribute call (01, State: "the value of a TO name at a command is that of the last TO of the name before it with no TD of that name,
 -- nor bare TD, between. TA likewise, taken at AD or AB opening"; 02 [3]: "at a contour's first D01, an aperture attribute is the last TA of
--- its name before G36, not deleted since, and 23 only if there is none"; decisions 106 to 112 and 317 to 319).
+-- its name before G36, not deleted since, and 23 only if there is none"; decisions 106 to 112, 317 to 319, 512 and 513).
 use Prim.Native.Nat.{ℕ}
 use mathlib.Core.Bool.{true, false}
 use mathlib.Core.List.{List, [], _∷_}
 use lib.Dec.{eqb}
 use Rattle.book.specs.declared.Book.{Book}
-use Rattle.text.specs.Text.{_is_}
 use Rattle.base.specs.Choose.{pick, choose}
 use Rattle.commands.specs.Commands.{Sequence, commandsOf}
 use Rattle.commands.specs.declared.Placed.{Placed}
-use Rattle.sayings.specs.Regions.{regionAfter, beginsContour}
+use Rattle.outlines.specs.Outlines.{outlineOf}
+use Rattle.outlines.specs.Regions.{regionAfter, beginsContour}
+use Rattle.outlines.specs.declared.Outline.{Outline}
 use Rattle.sayings.specs.Sayings.{textOf, sayingOf, takenAt}
 use Rattle.attribute.specs.declared.Answer.{Answer}
 use Rattle.attribute.specs.declared.Heard.{Heard}
@@ -48,20 +49,24 @@ kept s (Sets place length) = s
 abbrev pub nothing : Heard
 nothing = record { said = Silent; carried = Silent; region = record { inside = false; drawn = false } }
 
+-- what a command does about regions
+abbrev pub outlineAt : Book → List ℕ → Placed → Outline
+outlineAt book file c = outlineOf book (textOf file c)
+
 -- a command more. Said: the last command that says something of the name decides. Carried by a region: what is said where G36 stands, not
 -- deleted since
-unfoldable pub heardWith : List ℕ → Kind → List ℕ → Heard → Placed → Heard
-heardWith file kind name h c =
+unfoldable pub heardWith : Book → List ℕ → Kind → List ℕ → Heard → Placed → Heard
+heardWith book file kind name h c =
     record {
       said = later (h .said) (sayingOf file kind name c);
-      carried = pick (textOf file c is "G36") (h .said) (kept (h .carried) (sayingOf file kind name c));
-      region = regionAfter (h .region) (textOf file c);
+      carried = pick (outlineAt book file c .opens) (h .said) (kept (h .carried) (sayingOf file kind name c));
+      region = regionAfter (h .region) (outlineAt book file c);
     }
 
 -- these commands more
-unfoldable pub heardIn : List ℕ → Kind → List ℕ → Heard → List Placed → Heard
-heardIn file kind name h [] = h
-heardIn file kind name h (c ∷ cs) = heardIn file kind name (heardWith file kind name h c) cs
+unfoldable pub heardIn : Book → List ℕ → Kind → List ℕ → Heard → List Placed → Heard
+heardIn book file kind name h [] = h
+heardIn book file kind name h (c ∷ cs) = heardIn book file kind name (heardWith book file kind name h c) cs
 
 -- the name is held, with its value, or is not
 unfoldable pub held : Saying → Answer
@@ -69,27 +74,27 @@ held Silent = refused 23
 held Deletes = refused 23
 held (Sets place length) = record { number = 0; place = place; length = length }
 
--- at this command, h being what is heard before it
-unfoldable pub answerAt : List ℕ → Kind → Placed → Heard → Answer
-answerAt file kind c h =
+-- at this command, h being what is heard before it. A contour's first D01 has what its region carries, which G36 in the same command opens
+unfoldable pub answerAt : Book → List ℕ → Kind → Placed → Heard → Answer
+answerAt book file kind c h =
     choose
     ((takenAt kind (textOf file c), held (h .said))
-    ∷ (beginsContour (h .region) (textOf file c), held (h .carried))
+    ∷ (beginsContour (h .region) (outlineAt book file c), held (pick (outlineAt book file c .opens) (h .said) (h .carried)))
     ∷ [])
     (refused 23)
 
 -- at the first of these commands, which begins where it is asked
-unfoldable pub answerFor : List ℕ → Kind → List Placed → Heard → Answer
-answerFor file kind [] h = refused 22
-answerFor file kind (c ∷ cs) h = answerAt file kind c h
+unfoldable pub answerFor : Book → List ℕ → Kind → List Placed → Heard → Answer
+answerFor book file kind [] h = refused 22
+answerFor book file kind (c ∷ cs) h = answerAt book file kind c h
 
--- 1 to 4 and 18, then 22, then 23
-unfoldable pub answerIn : List ℕ → Kind → ℕ → List ℕ → Sequence → Answer
-answerIn file kind place name l =
+-- 1 to 4, 30 and 18, then 22, then 23
+unfoldable pub answerIn : Book → List ℕ → Kind → ℕ → List ℕ → Sequence → Answer
+answerIn book file kind place name l =
     let cs : List Placed = l .commands in
     pick (eqb (l .fault .number) 0)
-    (answerFor file kind (fromOn place cs) (heardIn file kind name nothing (before place cs)))
+    (answerFor book file kind (fromOn place cs) (heardIn book file kind name nothing (before place cs)))
     (refused (l .fault .number))
 
 unfoldable pub attributeOf : Book → List ℕ → Kind → ℕ → List ℕ → Answer
-attributeOf book file kind place name = answerIn file kind place name (commandsOf book file)
+attributeOf book file kind place name = answerIn book file kind place name (commandsOf book file)

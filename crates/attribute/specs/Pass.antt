@@ -3,6 +3,7 @@ use Prim.Native.Nat.{ℕ}
 use mathlib.Core.List.{List}
 use lib.Dec.{eqb}
 use Rattle.base.specs.Choose.{pick}
+use Rattle.book.specs.declared.Book.{Book}
 use Rattle.commands.specs.declared.Placed.{Placed}
 use Rattle.attribute.specs.Attribute.{refused, answerAt}
 use Rattle.attribute.specs.declared.Answer.{Answer}
@@ -12,9 +13,9 @@ use Rattle.attribute.specs.declared.Heard.{Heard}
 use Rattle.sayings.specs.declared.Kind.{Kind}
 
 -- a command more, h being what is heard before it
-unfoldable pub met : List ℕ → Kind → ℕ → Heard → Placed → Found → Found
-met file kind place h c (Is a) = Is a
-met file kind place h c NotYet = pick (eqb (c .place) place) (Is (answerAt file kind c h)) NotYet
+unfoldable pub met : Book → List ℕ → Kind → ℕ → Heard → Placed → Found → Found
+met book file kind place h c (Is a) = Is a
+met book file kind place h c NotYet = pick (eqb (c .place) place) (Is (answerAt book file kind c h)) NotYet
 
 -- no command more: 22 where none was asked
 unfoldable pub closing : Found → Answer

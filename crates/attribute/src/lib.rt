@@ -3,13 +3,14 @@ ghost use mathlib.Core.Path.{_≡_};
 ghost use lib.ListN.{length};
 ghost use Prim.Native.Nat.{suc};
 ghost use Rattle.commands.specs.Commands.{commandsFrom};
+ghost use Rattle.formats.specs.Format.{noFormat};
 ghost use Rattle.attribute.specs.Attribute.{refused, later, kept, nothing, heardWith, held, answerAt, answerIn, attributeOf};
 ghost use Rattle.attribute.specs.Pass.{met, judged};
 use book::Book;
 use commands::Placed;
 use commands::Turn;
+use outlines::Region;
 use sayings::Kind;
-use sayings::Region;
 use sayings::Saying;
 
 // Document 01's number, 0 where the name is held, and the place and length of its value in the file.
@@ -72,20 +73,20 @@ fn nothing() -> Heard
 }
 
 // What is heard with a command more.
-fn heard_with(file: &[u8], kind: Kind, name: &[u8], h: Heard, c: Placed) -> Heard
-    ensures { λ r. ⌜ r ≡ heardWith (now (file .entry)) kind (now (name .entry)) h c ⌝ }
+fn heard_with(book: Book, file: &[u8], kind: Kind, name: &[u8], h: Heard, c: Placed) -> Heard
+    ensures { λ r. ⌜ r ≡ heardWith book (now (file .entry)) kind (now (name .entry)) h c ⌝ }
 {
     let from = c.from;
     let end = c.end;
-    let t = base::part(file, from, end);
+    let o = outlines::outline_of(book, base::part(file, from, end));
     let s = sayings::saying_of(file, kind, name, c);
     let said = h.said;
     let carried = h.carried;
     let region = h.region;
     Heard {
         said: later(said, s),
-        carried: sayings::pick(text::is(t, b"G36"), said, kept(carried, s)),
-        region: sayings::region_after(region, t),
+        carried: sayings::pick(o.opens, said, kept(carried, s)),
+        region: outlines::region_after(region, o),
     }
 }
 
@@ -116,8 +117,8 @@ fn held(s: Saying) -> Answer
 }
 
 // The answer at a command, h being what is heard before it.
-fn answer_at(file: &[u8], kind: Kind, c: Placed, h: Heard) -> Answer
-    ensures { λ r. ⌜ r ≡ answerAt (now (file .entry)) kind c h ⌝ }
+fn answer_at(book: Book, file: &[u8], kind: Kind, c: Placed, h: Heard) -> Answer
+    ensures { λ r. ⌜ r ≡ answerAt book (now (file .entry)) kind c h ⌝ }
 {
     let from = c.from;
     let end = c.end;
@@ -128,21 +129,30 @@ fn answer_at(file: &[u8], kind: Kind, c: Placed, h: Heard) -> Answer
     if sayings::taken_at(kind, t) {
         return held(said);
     }
-    if sayings::begins_contour(region, t) {
-        return held(carried);
+    let o = outlines::outline_of(book, t);
+    if outlines::begins_contour(region, o) {
+        return held(sayings::pick(o.opens, said, carried));
     }
     refused(23)
 }
 
 // What is found with a command more, h being what is heard before it.
-fn met(file: &[u8], kind: Kind, place: usize, h: Heard, c: Placed, found: Found) -> Found
-    ensures { λ r. ⌜ r ≡ met (now (file .entry)) kind place h c found ⌝ }
+fn met(
+    book: Book,
+    file: &[u8],
+    kind: Kind,
+    place: usize,
+    h: Heard,
+    c: Placed,
+    found: Found,
+) -> Found
+    ensures { λ r. ⌜ r ≡ met book (now (file .entry)) kind place h c found ⌝ }
 {
     match found {
         Found::Is(a) => Found::Is(a),
         Found::NotYet => {
             if c.place == place {
-                return Found::Is(answer_at(file, kind, c, h));
+                return Found::Is(answer_at(book, file, kind, c, h));
             }
             Found::NotYet
         }
@@ -164,30 +174,33 @@ fn judged(number: u64, found: Found) -> Answer
 
 // The answer, in one pass over the file's commands.
 fn pass(book: Book, file: &[u8], kind: Kind, place: usize, name: &[u8]) -> Answer
-    ensures { λ r. ⌜ r ≡ answerIn (now (file .entry)) kind place (now (name .entry)) (commandsFrom book (suc (length (now (file .entry)))) 0 (now (file .entry)) 0) ⌝ }
+    ensures { λ r. ⌜ r ≡ answerIn book (now (file .entry)) kind place (now (name .entry)) (commandsFrom book (suc (length (now (file .entry)))) noFormat (now (file .entry)) 0) ⌝ }
 {
-    let mut n: usize = 0;
+    let mut format = formats::no_format();
     let mut at: usize = 0;
     let mut heard = nothing();
     let mut found = Found::NotYet;
     loop {
-        let t = commands::turn_at(book, n, file, at);
+        let t = commands::turn_at(book, format, file, at);
         match t {
             Turn::Fault(f) => {
                 return judged(f.number, found);
             }
             Turn::Last { command, next } => {
                 let f = commands::tail_fault(file, next);
-                return judged(f.number, met(file, kind, place, heard, command, found));
+                return judged(
+                    f.number,
+                    met(book, file, kind, place, heard, command, found),
+                );
             }
             Turn::More {
                 command,
-                n: m,
+                format: f,
                 next,
             } => {
-                found = met(file, kind, place, heard, command, found);
-                heard = heard_with(file, kind, name, heard, command);
-                n = m;
+                found = met(book, file, kind, place, heard, command, found);
+                heard = heard_with(book, file, kind, name, heard, command);
+                format = f;
                 at = next;
             }
         }

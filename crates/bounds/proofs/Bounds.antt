@@ -6,16 +6,18 @@ use mathlib.Core.List.{List}
 use native.Mathlib.Omega.{arith}
 use lib.ListN.{length, take, length-take}
 use Rattle.text.specs.First.{place}
+use Rattle.book.specs.declared.Book.{Book}
+use Rattle.formats.specs.declared.Format.{Format}
 use Rattle.scan.specs.declared.Kind.{Kind}
 use Rattle.scan.specs.declared.Kind.the-variants as kind
 use Rattle.command.specs.declared.Command.{Command}
-use Rattle.command.specs.declared.Command.the-variants.{Broken, Note, End, Set, Operate, Select, Define, Contain, Attribute}
+use Rattle.command.specs.declared.Command.the-variants.{Broken, Note, End, Set, Operate, Coded, Select, Define, Contain, Attribute}
 use Rattle.command.specs.declared.Definition.{Definition}
 use Rattle.command.specs.declared.Definition.the-variants as definition
 use Rattle.command.specs.declared.Deed.{Deed}
 use Rattle.command.specs.declared.Deed.the-variants as deed
 use Rattle.command.specs.declared.Span.{Span}
-use Rattle.recognise.specs.Commands.{dataOf, extendedOf, commandOf}
+use Rattle.recognise.specs.Commands.{dataOf, dataIn, extendedOf, commandOf}
 use Rattle.bounds.specs.Bounded.{Lies, DefinitionBounded, DeedBounded, Bounded}
 use Rattle.bounds.proofs.Tables.{picks}
 use Rattle.bounds.proofs.Words.{word-bounded}
@@ -49,31 +51,37 @@ module _ (t s : List ℕ) (h : length t ≤ length s) where
   longer End k = k
   longer (Set a) k = k
   longer (Operate o) k = k
+  longer (Coded code o) k = k
   longer (Select n) k = k
   longer (Define d) k = longer-definition d k
   longer (Contain b) k = k
   longer (Attribute d) k = longer-deed d k
 
-data-bounded : (s : List ℕ) → Bounded s (dataOf s)
-unfolding dataOf
-data-bounded s =
-    picks (Bounded s) (λ e. format-bounded s)
-    (picks (Bounded s) (λ e. unit-bounded s)
-    (picks (Bounded s) (λ e. aperture-bounded s)
-    (picks (Bounded s) (λ e. block-bounded s)
-    (picks (Bounded s) (λ e. repeat-bounded s)
-    (picks (Bounded s) (λ e. transformation-bounded s) (picks (Bounded s) (λ e. deletion-bounded s) (attribute-bounded s)))))))
+module _ (book : Book) where
+  data-bounded : (s : List ℕ) → Bounded s (dataOf book s)
+  unfolding dataOf
+  data-bounded s =
+      picks (Bounded s) (λ e. format-bounded s book)
+      (picks (Bounded s) (λ e. unit-bounded s)
+      (picks (Bounded s) (λ e. aperture-bounded s)
+      (picks (Bounded s) (λ e. block-bounded s)
+      (picks (Bounded s) (λ e. repeat-bounded s)
+      (picks (Bounded s) (λ e. transformation-bounded s) (picks (Bounded s) (λ e. deletion-bounded s) (attribute-bounded s)))))))
 
-extended-bounded : (s : List ℕ) → Bounded s (extendedOf s)
-unfolding extendedOf Bounded
-extended-bounded s =
-    let star : ℕ = place (code "*") s 0 in
-    picks (Bounded s)
-    (λ e. longer (take star s) s (omega (arith, length-take star s)) (dataOf (take star s)) (data-bounded (take star s)))
-    tt
+  read-bounded : (s : List ℕ) → Bounded s (dataIn book s)
+  unfolding dataIn Bounded
+  read-bounded s = picks (Bounded s) (λ e. tt) (data-bounded s)
 
-pub bounded : (n : ℕ) (kind : Kind) (text : List ℕ) → Bounded text (commandOf n kind text)
-unfolding commandOf
-bounded n kind.Word text = word-bounded text n
-bounded n kind.Extended text = extended-bounded text
-bounded n kind.Macro text = macro-bounded text
+  extended-bounded : (s : List ℕ) → Bounded s (extendedOf book s)
+  unfolding extendedOf Bounded
+  extended-bounded s =
+      let star : ℕ = place (code "*") s 0 in
+      picks (Bounded s)
+      (λ e. longer (take star s) s (omega (arith, length-take star s)) (dataIn book (take star s)) (read-bounded (take star s)))
+      tt
+
+  pub bounded : (f : Format) (kind : Kind) (text : List ℕ) → Bounded text (commandOf book f kind text)
+  unfolding commandOf
+  bounded f kind.Word text = word-bounded text f book
+  bounded f kind.Extended text = extended-bounded text
+  bounded f kind.Macro text = macro-bounded text

@@ -1,6 +1,6 @@
-pub mod Target
 pub mod Tables
 pub mod Numbers
+pub mod Formats
 pub mod Operations
 pub mod Words
 pub mod Settings

@@ -1,4 +1,4 @@
--- D01, D02 and D03: no field is larger than 10 ^ 12, since none has more than 12 digits.
+-- D01, D02 and D03: no field is as large as 10 ^ 12, in any format.
 -- Assumes nothing.
 use Prim.Native.Nat.{ℕ, _+_, _^_, _≤_}
 use mathlib.Core.Path.{_≡_, refl}
@@ -9,22 +9,23 @@ use lib.Dec.{eqb}
 use lib.IntN.{natAbs}
 use lib.ListN.{getD}
 use Rattle.points.specs.Points.{Within}
-use Rattle.digits.specs.Coordinate.{coordinateOf, coordinateAt}
+use Rattle.digits.specs.Sign.{isSign}
 use Rattle.digits.specs.declared.answers.Coordinate.{Coordinate}
 use Rattle.digits.specs.declared.answers.Coordinate.the-variants as coordinate
 use Rattle.digits.specs.declared.answers.Taken.{Taken}
-use Rattle.digits.proofs.Sizes.{coordinate-size}
+use Rattle.formats.specs.Values.{coordinateIn, takenIn}
+use Rattle.formats.specs.declared.Format.{Format}
+use Rattle.formats.proofs.Laws.{coordinate-small}
 use Rattle.command.specs.declared.Axis.the-variants as axis
-use Rattle.operations.specs.Coordinates.{digitLimit, given, missing, fieldAt, fieldsIn, fieldsOf}
-use Rattle.operations.specs.Operations.{axisOf, offsetOf as offsetIn, draw, drawOf, plain, moveOf, flashOf}
+use Rattle.operations.specs.Coordinates.{given, missing, fieldAt, fieldsIn}
+use Rattle.operations.specs.Operations.{axisOf, offsetOf as offsetIn, draw, plain, move, flash, operationIn}
 use Rattle.operations.specs.declared.Field.{Field}
 use Rattle.operations.specs.declared.Fields.{Fields}
 use Rattle.operations.specs.declared.TakenField.{TakenField}
-use Rattle.operations.proofs.Limit.{limit-small}
+use Rattle.operations.specs.declared.Written.{Written}
 use Rattle.graphics.specs.Graphics.{origin}
 use Rattle.fits.specs.Fits.{offsetOf}
-use Rattle.bounds.specs.Bounded.{AxisWithin, Goes, OperationBounded, Bounded}
-use Rattle.bounds.proofs.Tables.{judges}
+use Rattle.bounds.specs.Bounded.{AxisWithin, Goes, OperationBounded}
 
 -- a field's value, which is 0 without one
 record Near (f : Field) : Type 0 where
@@ -36,34 +37,30 @@ record AllNear (f : Fields) : Type 0 where
   i : Near (f .i)
   j : Near (f .j)
 
-given-near : (t : List ℕ) (limit : ℕ) → limit ≤ 12 → Near (given (coordinateOf t limit))
-unfolding given
-given-near t limit h = go (coordinateOf t limit) refl
-  where
-    go : (c : Coordinate) → coordinateOf t limit ≡ c → Near (given c)
-    go coordinate.NotForm e = record { near = omega arith }
-    go coordinate.TooLong e = record { near = omega arith }
-    go (coordinate.Value v) e = record { near = omega (arith, coordinate-size t limit v h e) }
+module _ (f : Format) where
+  given-near : (sign : Bool) (t : List ℕ) → Near (given sign (coordinateIn f t))
+  unfolding given
+  given-near sign t = go (coordinateIn f t) refl
+    where
+      go : (c : Coordinate) → coordinateIn f t ≡ c → Near (given sign c)
+      go coordinate.NotForm e = record { near = omega arith }
+      go coordinate.TooLong e = record { near = omega arith }
+      go (coordinate.Value v) e = record { near = omega (arith, coordinate-small f t v e) }
 
-field-near : (limit letter : ℕ) (s : List ℕ) (at : ℕ) → limit ≤ 12 → Near (fieldAt limit letter s at .field)
-unfolding fieldAt coordinateAt missing
-field-near limit letter s at h = go (eqb (getD s at 0) letter)
-  where
-    taken : Taken
-    taken = coordinateAt s (at + 1) limit
+  field-near : (letter : ℕ) (s : List ℕ) (at : ℕ) → Near (fieldAt f letter s at .field)
+  unfolding fieldAt takenIn missing
+  field-near letter s at = go (eqb (getD s at 0) letter)
+    where
+      taken : Taken
+      taken = takenIn f s (at + 1)
 
-    go : (t : Bool) → Near (cond {A = TakenField} t (record { field = given (taken .coordinate); next = taken .next }) (record { field = missing; next = at }) .field)
-    go true = given-near _ limit h
-    go false = record { near = omega arith }
+      go : (t : Bool) → Near (cond {A = TakenField} t (record { field = given (isSign (getD s (at + 1) 0)) (taken .coordinate); next = taken .next }) (record { field = missing; next = at }) .field)
+      go true = given-near _ _
+      go false = record { near = omega arith }
 
-fields-near : (n : ℕ) (s : List ℕ) → AllNear (fieldsOf n s)
-unfolding fieldsOf fieldsIn
-fields-near n s = record {
-  x = field-near (digitLimit n) _ _ _ (limit-small n);
-  y = field-near (digitLimit n) _ _ _ (limit-small n);
-  i = field-near (digitLimit n) _ _ _ (limit-small n);
-  j = field-near (digitLimit n) _ _ _ (limit-small n);
-}
+  fields-near : (s : List ℕ) → AllNear (fieldsIn f s)
+  unfolding fieldsIn
+  fields-near s = record { x = field-near _ _ _; y = field-near _ _ _; i = field-near _ _ _; j = field-near _ _ _ }
 
 axis-within : (f : Field) → Near f → AxisWithin (axisOf f)
 unfolding axisOf
@@ -84,18 +81,15 @@ offset-within f h = go (f .i .given) refl
     go true e = rw e (record { across = h .i .near; up = h .j .near })
     go false e = rw e (record { across = omega arith; up = omega arith })
 
-module _ (n : ℕ) (s : List ℕ) where
-  pub draw-bounded : Bounded s (drawOf n s)
-  unfolding drawOf draw Bounded OperationBounded
-  draw-bounded = judges (Bounded s) tt tt (λ formed short. record {
-    goes = goes (fieldsOf n s) (fields-near n s);
-    centre = offset-within (fieldsOf n s) (fields-near n s);
-  })
+-- whatever its number
+pub written-bounded : (number : ℕ) (f : Format) (s : List ℕ) → OperationBounded (operationIn number f s .operation)
+unfolding operationIn draw move flash plain OperationBounded
+written-bounded number f s = go (eqb number 1) (eqb number 2)
+  where
+    c : Fields
+    c = fieldsIn f s
 
-  pub move-bounded : Bounded s (moveOf n s)
-  unfolding moveOf plain Bounded OperationBounded
-  move-bounded = judges (Bounded s) tt tt (λ formed short. goes (fieldsOf n s) (fields-near n s))
-
-  pub flash-bounded : Bounded s (flashOf n s)
-  unfolding flashOf plain Bounded OperationBounded
-  flash-bounded = judges (Bounded s) tt tt (λ formed short. goes (fieldsOf n s) (fields-near n s))
+    go : (one two : Bool) → OperationBounded (cond {A = Written} one (draw c) (cond two (move c) (flash c)) .operation)
+    go true two = record { goes = goes c (fields-near f s); centre = offset-within c (fields-near f s) }
+    go false true = goes c (fields-near f s)
+    go false false = goes c (fields-near f s)

@@ -16,9 +16,20 @@ use Rattle.command.specs.Numbers.{sizeOf}
 use Rattle.command.specs.Rounded.{roundedInSetting, roundedInDefinition, roundedInBracket, roundedOf}
 use Rattle.command.specs.declared.Command.{Command}
 use Rattle.command.proofs.Rounded.{counted-within}
-use Rattle.operations.specs.Operations.{draw, drawOf, plain, moveOf, flashOf}
-use Rattle.words.specs.Words.{commentOf, selectOf, codeOf, wordOf}
-use Rattle.settings.specs.Header.{formatOf, unitOf}
+use Rattle.book.specs.declared.Book.{Book}
+use Rattle.formats.specs.declared.Format.{Format}
+use Rattle.formats.specs.declared.Said.{Said}
+use Rattle.formats.specs.declared.Said.the-variants as said
+use Rattle.films.specs.Words as film
+use Rattle.films.specs.declared.Word.{Word}
+use Rattle.films.specs.declared.Word.the-variants as word
+use Rattle.command.specs.declared.Setting.{Setting}
+use Rattle.operations.specs.Operations.{operates, coded, operationOf}
+use Rattle.operations.specs.declared.Written.{Written}
+use Rattle.words.specs.Newer.{commentOf, selectOf, codeOf, newerWord}
+use Rattle.words.specs.Old as old
+use Rattle.words.specs.Words.{wordOf}
+use Rattle.settings.specs.Header.{formatted, formatOf, unitOf}
 use Rattle.settings.specs.Repeats.{repeats, repeatStart, repeatOf}
 use Rattle.settings.specs.Transformations.{rotationOf, scaleOf, mirrorOf, transformationOf}
 use Rattle.apertures.specs.Blocks.{blockStart, blockOf}
@@ -28,7 +39,7 @@ use Rattle.attributes.specs.Attributes.{attributeOf, deletionOf}
 use Rattle.tokens.specs.LineEnds.{withoutTrailing}
 use Rattle.form.specs.Macro.{headed, macroOf}
 use Rattle.form.proofs.Few.{blocks-few}
-use Rattle.recognise.specs.Commands.{dataOf, extendedOf, commandOf}
+use Rattle.recognise.specs.Commands.{dataOf, dataIn, extendedOf, commandOf}
 use Rattle.bounds.proofs.Tables.{picks, judges, begins-long}
 
 module _ (s : List ℕ) where
@@ -40,23 +51,66 @@ module _ (s : List ℕ) where
   none = omega arith
 
   -- the words have none
-  word-few : (n : ℕ) → Few (wordOf n s)
-  unfolding wordOf commentOf drawOf draw moveOf flashOf plain selectOf codeOf roundedOf roundedInSetting
-  word-few n =
+  operation-few : (w : Written) → Few (operates w)
+  unfolding operates roundedOf
+  operation-few w = judges Few none none (λ formed fits. none)
+
+  select-few : (t : List ℕ) → Few (selectOf t)
+  unfolding selectOf roundedOf
+  select-few t = judges Few none none (λ formed fits. none)
+
+  newer-few : (f : Format) → Few (newerWord f s)
+  unfolding newerWord commentOf operationOf codeOf roundedOf roundedInSetting
+  newer-few f =
       picks Few (λ e. picks Few (λ e. none) none)
-      (picks Few (λ e. judges Few none none (λ formed fits. none))
-      (picks Few (λ e. judges Few none none (λ formed fits. none))
-      (picks Few (λ e. judges Few none none (λ formed fits. none))
-      (picks Few (λ e. judges Few none none (λ formed fits. none))
+      (picks Few (λ e. operation-few _)
+      (picks Few (λ e. operation-few _)
+      (picks Few (λ e. operation-few _)
+      (picks Few (λ e. select-few _)
       (picks Few (λ e. none)
       (picks Few (λ e. none)
       (picks Few (λ e. none)
       (picks Few (λ e. none) (picks Few (λ e. none) (picks Few (λ e. none) (picks Few (λ e. none) none)))))))))))
 
+  -- nor has what a G code sets
+  abbrev FewSet : Setting → Type 0
+  FewSet a = roundedInSetting a ≤ length s
+
+  setting-few : (g : ℕ) → FewSet (old.settingOf g)
+  unfolding old.settingOf roundedInSetting
+  setting-few g =
+      picks FewSet (λ e. none)
+      (picks FewSet (λ e. none)
+      (picks FewSet (λ e. none)
+      (picks FewSet (λ e. none)
+      (picks FewSet (λ e. none)
+      (picks FewSet (λ e. none)
+      (picks FewSet (λ e. none) (picks FewSet (λ e. none) (picks FewSet (λ e. none) (picks FewSet (λ e. none) none)))))))))
+
+  said-few : (f : Format) (w : Word) → Few (old.said f s w)
+  unfolding old.said old.operated coded roundedOf roundedInSetting
+  said-few f word.NotForm = none
+  said-few f word.Note = none
+  said-few f word.Halt = none
+  said-few f word.End = none
+  said-few f (word.Code g) = setting-few g
+  said-few f (word.Select at) = select-few _
+  said-few f (word.Operate g number from to) = picks Few (λ e. operation-few _) (judges Few none none (λ formed fits. none))
+
+  word-few : (book : Book) (f : Format) → Few (wordOf book f s)
+  unfolding wordOf old.oldWord
+  word-few book f = picks Few (λ e. said-few f (film.wordOf s)) (newer-few f)
+
   -- nor have FS, MO, AB and the attributes
-  format-few : Few (formatOf s)
-  unfolding formatOf roundedOf roundedInSetting
-  format-few = picks Few (λ e. none) none
+  formatted-few : (a : Said) → Few (formatted a)
+  unfolding formatted roundedOf roundedInSetting
+  formatted-few said.NotForm = none
+  formatted-few said.SevenPlaces = none
+  formatted-few (said.Is f) = none
+
+  format-few : (book : Book) → Few (formatOf book s)
+  unfolding formatOf
+  format-few book = formatted-few _
 
   unit-few : Few (unitOf s)
   unfolding unitOf roundedOf roundedInSetting
@@ -104,14 +158,15 @@ module _ (s : List ℕ) where
       (picks Few (λ e. judges Few none none (λ formed fits. omega (arith, begins-long s (text "LR") e)))
       (picks Few (λ e. judges Few none none (λ formed fits. omega (arith, begins-long s (text "LS") e))) none))))
 
-  data-few : Few (dataOf s)
-  unfolding dataOf
-  data-few =
-      picks Few (λ e. format-few)
+  data-few : (book : Book) → Few (dataIn book s)
+  unfolding dataIn dataOf roundedOf
+  data-few book =
+      picks Few (λ e. none)
+      (picks Few (λ e. format-few book)
       (picks Few (λ e. unit-few)
       (picks Few (λ e. aperture-few)
       (picks Few (λ e. block-few)
-      (picks Few (λ e. repeat-few) (picks Few (λ e. transformation-few) (picks Few (λ e. deletion-few) attribute-few))))))
+      (picks Few (λ e. repeat-few) (picks Few (λ e. transformation-few) (picks Few (λ e. deletion-few) attribute-few)))))))
 
   macro-few : Few (macroOf s)
   unfolding macroOf headed roundedOf roundedInDefinition
@@ -124,14 +179,14 @@ module _ (s : List ℕ) where
       (λ formed fits. omega (arith, blocks-few (drop q u), length-drop q u, length-take (length t - 1) t, trailing-short isBreak s)))
       none
 
-extended-few : (s : List ℕ) → Few s (extendedOf s)
+extended-few : (book : Book) (s : List ℕ) → Few s (extendedOf book s)
 unfolding extendedOf roundedOf
-extended-few s =
+extended-few book s =
     let star : ℕ = place (code "*") s 0 in
-    picks (Few s) (λ e. omega (arith, data-few (take star s), length-take star s)) (none s)
+    picks (Few s) (λ e. omega (arith, data-few (take star s) book, length-take star s)) (none s)
 
-pub rounded-within : (n : ℕ) (kind : Kind) (text : List ℕ) → roundedOf (commandOf n kind text) ≤ length text
+pub rounded-within : (book : Book) (f : Format) (kind : Kind) (text : List ℕ) → roundedOf (commandOf book f kind text) ≤ length text
 unfolding commandOf
-rounded-within n kind.Word text = word-few text n
-rounded-within n kind.Extended text = extended-few text
-rounded-within n kind.Macro text = macro-few text
+rounded-within book f kind.Word text = word-few text book f
+rounded-within book f kind.Extended text = extended-few book text
+rounded-within book f kind.Macro text = macro-few text

@@ -1,36 +1,37 @@
 -- FS, MO, SR and the transformations.
 -- Assumes nothing.
-use Prim.Native.Nat.{ℕ, _-_, _≤_}
-use Prim.Native.Char.{code}
-use mathlib.Core.Path.{_≡_}
+use Prim.Native.Nat.{ℕ}
+use mathlib.Core.Path.{_≡_, refl}
 use mathlib.Core.Bool.{true}
 use mathlib.Core.List.{List}
 use native.Mathlib.Omega.{arith}
-use lib.Dec.{leb}
-use lib.ListN.{getD, drop}
-use borrow.Author.Tests.{leb-true}
-use Rattle.base.specs.Bytes.{sameBytes}
-use Rattle.base.specs.And.{_and_}
-use Rattle.base.proofs.And.{and-l, and-r}
+use lib.ListN.{drop}
 use Rattle.text.specs.First.{before, after}
-use Rattle.text.specs.Name.{range}
-use Rattle.settings.specs.Header.{formatOf, unitOf}
+use Rattle.book.specs.declared.Book.{Book}
+use Rattle.formats.specs.Format.{isFormat}
+use Rattle.formats.specs.Texts.{newerFormat, oldFormat}
+use Rattle.formats.specs.declared.Format.{Format}
+use Rattle.formats.specs.declared.Said.{Said}
+use Rattle.formats.specs.declared.Said.the-variants as said
+use Rattle.settings.specs.Header.{formatted, formatOf, unitOf}
 use Rattle.settings.specs.Repeats.{repeats, repeatStart, repeatOf}
 use Rattle.settings.specs.Transformations.{rotationOf, scaleOf, mirrorOf, transformationOf}
 use Rattle.bounds.specs.Bounded.{SettingBounded, BracketBounded, Bounded}
 use Rattle.bounds.proofs.Tables.{picks, judges}
 use Rattle.bounds.proofs.Numbers.{copies-most, size-small}
+use Rattle.bounds.proofs.Formats.{newer-formats, old-formats}
 
+-- what FS says is a format, in either edition
 module _ (s : List ℕ) where
-  -- the byte of n is "6" at most
-  six-at-most : (n : ℕ) (w : List ℕ) → (range "1" "6" n and sameBytes s w) ≡ true → n - code "0" ≤ 6
-  six-at-most n w e =
-      let r = and-r (leb (code "1") n) (leb n (code "6")) (and-l (range "1" "6" n) (sameBytes s w) e) in
-      omega (arith, leb-true n (code "6") r)
+  formatted-bounded : (a : Said) → ((f : Format) → a ≡ said.Is f → isFormat f ≡ true) → Bounded s (formatted a)
+  unfolding formatted Bounded SettingBounded
+  formatted-bounded said.NotForm h = tt
+  formatted-bounded said.SevenPlaces h = tt
+  formatted-bounded (said.Is f) h = h f refl
 
-  pub format-bounded : Bounded s (formatOf s)
-  unfolding formatOf Bounded SettingBounded
-  format-bounded = picks (Bounded s) (six-at-most (getD s 5 0) _) tt
+  pub format-bounded : (book : Book) → Bounded s (formatOf book s)
+  unfolding formatOf
+  format-bounded book = picks (λ (a : Said). Bounded s (formatted a)) (λ e. formatted-bounded (oldFormat s) (old-formats s)) (formatted-bounded (newerFormat s) (newer-formats s))
 
   pub unit-bounded : Bounded s (unitOf s)
   unfolding unitOf Bounded SettingBounded

@@ -14,12 +14,13 @@ use Rattle.command.specs.Numbers.{judged}
 use Rattle.command.specs.Flaws.{notForm, tooLong}
 use Rattle.command.specs.declared.Command.{Command}
 
-module _ (Keeps : Command → Type 0) where
-  pub picks : {test : Bool} {a b : Command} → (test ≡ true → Keeps a) → Keeps b → Keeps (pick test a b)
+module _ {A : Type 0} (Keeps : A → Type 0) where
+  pub picks : {test : Bool} {a b : A} → (test ≡ true → Keeps a) → Keeps b → Keeps (pick test a b)
   unfolding pick
   picks {test = true} held other = held refl
   picks {test = false} held other = other
 
+module _ (Keeps : Command → Type 0) where
   pub judges : {formless long : Bool} {c : Command} → Keeps notForm → Keeps tooLong → (formless ≡ false → long ≡ false → Keeps c) → Keeps (judged formless long c)
   unfolding judged pick
   judges {formless = true} four five keeps = four

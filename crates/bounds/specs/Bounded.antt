@@ -1,9 +1,12 @@
 -- What every recognised command keeps, for whoever computes with its numbers and cuts its spans out of the file (01, Form).
 use Prim.Native.Nat.{ℕ, _^_, _≤_, _<_}
+use mathlib.Core.Path.{_≡_}
+use mathlib.Core.Bool.{true}
 use mathlib.Core.List.{List}
 use lib.IntN.{natAbs}
 use lib.ListN.{length}
 use Rattle.points.specs.Points.{Within}
+use Rattle.formats.specs.Format.{isFormat}
 use Rattle.decimal.specs.declared.answers.Amount.{Amount}
 use Rattle.command.specs.declared.Axis.{Axis}
 use Rattle.command.specs.declared.Axis.the-variants as axis
@@ -20,10 +23,10 @@ use Rattle.command.specs.declared.Bracket.the-variants as bracket
 use Rattle.command.specs.declared.Deed.{Deed}
 use Rattle.command.specs.declared.Deed.the-variants as deed
 use Rattle.command.specs.declared.Command.{Command}
-use Rattle.command.specs.declared.Command.the-variants.{Broken, Note, End, Set, Operate, Select, Define, Contain, Attribute}
+use Rattle.command.specs.declared.Command.the-variants.{Broken, Note, End, Set, Operate, Coded, Select, Define, Contain, Attribute}
 use Rattle.fits.specs.Fits.{offsetOf}
 
--- "1 to n+6 digits as written (12 before FS)": twelve digits at most
+-- "1 to n+6 digits as written (12 before FS)", in the old edition n+m: twelve digits at most
 abbrev pub AxisWithin : Axis → Type 0
 AxisWithin axis.Missing = Unit
 AxisWithin (axis.At v) = natAbs v ≤ 10 ^ 12
@@ -69,17 +72,23 @@ pub record Repeats (nx ny : ℕ) (dx dy : Amount) : Type 0 where
 
 -- FS, LR and LS
 unfoldable pub SettingBounded : Setting → Type 0
-SettingBounded (setting.Format n) = n ≤ 6
+SettingBounded (setting.Format f) = isFormat f ≡ true
 SettingBounded (setting.Rotation a rounded) = natAbs (a .millionths) < 10 ^ 12
 SettingBounded (setting.Scale a rounded) = natAbs (a .millionths) < 10 ^ 12
 SettingBounded setting.Linear = Unit
 SettingBounded setting.Clockwise = Unit
 SettingBounded setting.Counterclockwise = Unit
+SettingBounded setting.SingleQuadrant = Unit
 SettingBounded setting.MultiQuadrant = Unit
 SettingBounded setting.RegionStart = Unit
 SettingBounded setting.RegionEnd = Unit
+SettingBounded setting.Absolute = Unit
+SettingBounded setting.Incremental = Unit
 SettingBounded setting.Millimetres = Unit
 SettingBounded setting.Inches = Unit
+SettingBounded setting.CodedMillimetres = Unit
+SettingBounded setting.CodedInches = Unit
+SettingBounded setting.Halt = Unit
 SettingBounded setting.Dark = Unit
 SettingBounded setting.Clear = Unit
 SettingBounded (setting.Mirror x y) = Unit
@@ -117,6 +126,7 @@ Bounded text Note = Unit
 Bounded text End = Unit
 Bounded text (Set s) = SettingBounded s
 Bounded text (Operate o) = OperationBounded o
+Bounded text (Coded code o) = SettingBounded code × OperationBounded o
 Bounded text (Select n) = Numbered n
 Bounded text (Define d) = DefinitionBounded text d
 Bounded text (Contain b) = BracketBounded b

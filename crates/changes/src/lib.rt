@@ -1,49 +1,78 @@
 // What each command changes of the graphics state.
 ghost use mathlib.Core.Path.{_≡_};
-ghost use lib.IntN.{natAbs};
-ghost use Rattle.points.specs.Points.{pt};
+ghost use lib.IntN.{natAbs, _+ℤ_};
+ghost use Prim.Native.Nat.{_≤_, _^_};
+ghost use Rattle.points.specs.Points.{pt, Within};
 ghost use Rattle.graphics.specs.Orientation.{angleOf};
-ghost use Rattle.graphics.specs.Graphics.{unset, noRegion, withFormat, withPoint, withTransform, withRegion};
-ghost use Rattle.changes.specs.After.{along, target, goingTo, emptyRegion, startsContour, drawing, ended, withDigits, withUnit, withClear, withMirror, withRotation, withScale, afterSetting, afterOperation, after};
+ghost use Rattle.graphics.specs.Graphics.{unset, noRegion, withHeader, withNotation, withPoint, withTransform, withRegion};
+ghost use Rattle.changes.specs.After.{along, target, goal, goingTo, emptyRegion, startsContour, drawing, ended, withFormat, withUnit, withCoded, withClear, withMirror, withRotation, withScale, afterSetting, afterOperation, after, Reached};
 use command::Axis;
 use command::Command;
 use command::Operation;
 use command::Setting;
 use decimal::Amount;
+use formats::Format;
 use graphics::Current;
-use graphics::Format;
 use graphics::Graphics;
+use graphics::Header;
 use graphics::Mirror;
 use graphics::Region;
 use graphics::Transform;
 use points::Point;
 
-// The point with the x that is given, else as it was.
-fn across(p: Point, a: Axis) -> Point
-    ensures { λ r. ⌜ r ≡ pt (along a (p .x)) (p .y) ⌝ }
+// The sum of two numbers.
+fn sum(a: i64, b: i64) -> i64
+    requires { ⌜ natAbs (a +ℤ b) ≤ 10 ^ 12 ⌝ }
+    ensures { λ r. ⌜ r ≡ a +ℤ b ⌝ }
+{
+    a + b
+}
+
+// A coordinate as it is given, counted from the old one in incremental notation; else the old one.
+fn along(incremental: bool, a: Axis, old: i64) -> i64
+    requires { ⌜ natAbs (along incremental a old) ≤ 10 ^ 12 ⌝ }
+    ensures { λ r. ⌜ r ≡ along incremental a old ⌝ }
 {
     match a {
-        Axis::Missing => p,
-        Axis::At(v) => Point { x: v, y: p.y },
+        Axis::Missing => old,
+        Axis::At(v) => {
+            if incremental {
+                return sum(old, v);
+            }
+            v
+        }
+    }
+}
+
+// The point with the x that is given, else as it was.
+fn across(incremental: bool, p: Point, a: Axis) -> Point
+    requires { ⌜ natAbs (along incremental a (p .x)) ≤ 10 ^ 12 ⌝ }
+    ensures { λ r. ⌜ r ≡ pt (along incremental a (p .x)) (p .y) ⌝ }
+{
+    Point {
+        x: along(incremental, a, p.x),
+        y: p.y,
     }
 }
 
 // The point with the y that is given, else as it was.
-fn up(p: Point, a: Axis) -> Point
-    ensures { λ r. ⌜ r ≡ pt (p .x) (along a (p .y)) ⌝ }
+fn up(incremental: bool, p: Point, a: Axis) -> Point
+    requires { ⌜ natAbs (along incremental a (p .y)) ≤ 10 ^ 12 ⌝ }
+    ensures { λ r. ⌜ r ≡ pt (p .x) (along incremental a (p .y)) ⌝ }
 {
-    match a {
-        Axis::Missing => p,
-        Axis::At(v) => Point { x: p.x, y: v },
+    Point {
+        x: p.x,
+        y: along(incremental, a, p.y),
     }
 }
 
 // The point that an operation goes to.
 pub fn target(g: Graphics, x: Axis, y: Axis) -> Point
+    requires { ⌜ Within (10 ^ 12) (target g x y) ⌝ }
     ensures { λ r. ⌜ r ≡ target g x y ⌝ }
 {
     let p = g.point.at;
-    up(across(p, x), y)
+    up(g.incremental, across(g.incremental, p, x), y)
 }
 
 // A D01 here is the first of a contour.
@@ -74,26 +103,42 @@ fn drawing(r: Region, p: Point) -> Region
     }
 }
 
-// FS.
-fn set_digits(n: usize, g: Graphics) -> Graphics
-    ensures { λ r. ⌜ r ≡ withFormat (withDigits n (g .format)) g ⌝ }
+// FS: its notation counts from here on.
+fn set_format(f: Format, g: Graphics) -> Graphics
+    ensures { λ r. ⌜ r ≡ withNotation (f .incremental) (withHeader (withFormat f (g .header)) g) ⌝ }
 {
-    let f = Format {
-        digits: n,
-        unit: g.format.unit,
+    let h = Header {
+        format: f,
+        unit: g.header.unit,
+        coded: g.header.coded,
     };
-    graphics::with_format(f, g)
+    graphics::with_notation(f.incremental, graphics::with_header(h, g))
 }
 
 // MO.
 fn set_unit(u: u64, g: Graphics) -> Graphics
-    ensures { λ r. ⌜ r ≡ withFormat (withUnit u (g .format)) g ⌝ }
+    ensures { λ r. ⌜ r ≡ withHeader (withUnit u (g .header)) g ⌝ }
 {
-    let f = Format {
-        digits: g.format.digits,
+    let format = g.header.format;
+    let h = Header {
+        format,
         unit: u,
+        coded: g.header.coded,
     };
-    graphics::with_format(f, g)
+    graphics::with_header(h, g)
+}
+
+// G70 and G71: the first of them counts.
+fn set_coded(u: u64, g: Graphics) -> Graphics
+    ensures { λ r. ⌜ r ≡ withHeader (withCoded u (g .header)) g ⌝ }
+{
+    let format = g.header.format;
+    let h = Header {
+        format,
+        unit: g.header.unit,
+        coded: base::row(g.header.coded == 0, u, g.header.coded),
+    };
+    graphics::with_header(h, g)
 }
 
 // LP.
@@ -197,6 +242,7 @@ fn going_to(p: Point, g: Graphics) -> Graphics
 
 // D01.
 fn drawn(x: Axis, y: Axis, g: Graphics) -> Graphics
+    requires { ⌜ Within (10 ^ 12) (target g x y) ⌝ }
     ensures { λ r. ⌜ r ≡ goingTo (target g x y) (withRegion (drawing (g .region) (g .point .at)) g) ⌝ }
 {
     let r = g.region;
@@ -206,6 +252,7 @@ fn drawn(x: Axis, y: Axis, g: Graphics) -> Graphics
 
 // D02.
 fn moved(x: Axis, y: Axis, g: Graphics) -> Graphics
+    requires { ⌜ Within (10 ^ 12) (target g x y) ⌝ }
     ensures { λ r. ⌜ r ≡ goingTo (target g x y) (withRegion (ended (g .region)) g) ⌝ }
 {
     let r = Region {
@@ -219,6 +266,7 @@ fn moved(x: Axis, y: Axis, g: Graphics) -> Graphics
 
 // D03.
 fn flashed(x: Axis, y: Axis, g: Graphics) -> Graphics
+    requires { ⌜ Within (10 ^ 12) (target g x y) ⌝ }
     ensures { λ r. ⌜ r ≡ goingTo (target g x y) g ⌝ }
 {
     going_to(target(g, x, y), g)
@@ -229,12 +277,17 @@ pub fn after_setting(s: Setting, g: Graphics) -> Graphics
     ensures { λ r. ⌜ r ≡ afterSetting s g ⌝ }
 {
     match s {
-        Setting::Format(n) => set_digits(n, g),
+        Setting::Format(f) => set_format(f, g),
+        Setting::Absolute => graphics::with_notation(false, g),
+        Setting::Incremental => graphics::with_notation(true, g),
         Setting::Millimetres => set_unit(1, g),
         Setting::Inches => set_unit(2, g),
+        Setting::CodedMillimetres => set_coded(1, g),
+        Setting::CodedInches => set_coded(2, g),
         Setting::Linear => graphics::with_mode(1, g),
         Setting::Clockwise => graphics::with_mode(2, g),
         Setting::Counterclockwise => graphics::with_mode(3, g),
+        Setting::SingleQuadrant => graphics::with_quadrants(false, g),
         Setting::MultiQuadrant => graphics::with_quadrants(true, g),
         Setting::Dark => set_clear(false, g),
         Setting::Clear => set_clear(true, g),
@@ -243,11 +296,13 @@ pub fn after_setting(s: Setting, g: Graphics) -> Graphics
         Setting::Scale { factor, .. } => set_scale(factor, g),
         Setting::RegionStart => begin_region(g),
         Setting::RegionEnd => end_region(g),
+        Setting::Halt => g,
     }
 }
 
 // The state after a D01, D02 or D03 that is accepted.
 pub fn after_operation(o: Operation, g: Graphics) -> Graphics
+    requires { ⌜ Within (10 ^ 12) (goal o g) ⌝ }
     ensures { λ r. ⌜ r ≡ afterOperation o g ⌝ }
 {
     match o {
@@ -259,11 +314,13 @@ pub fn after_operation(o: Operation, g: Graphics) -> Graphics
 
 // The state after a command that is accepted.
 pub fn after(c: Command, g: Graphics) -> Graphics
+    requires { ⌜ Reached c g ⌝ }
     ensures { λ r. ⌜ r ≡ after c g ⌝ }
 {
     match c {
         Command::Set(s) => after_setting(s, g),
         Command::Operate(o) => after_operation(o, g),
+        Command::Coded { code, operation } => after_operation(operation, after_setting(code, g)),
         Command::Contain(_) => unplaced(g),
         Command::Broken(_) => g,
         Command::Note => g,

@@ -2,7 +2,7 @@
 use Prim.Native.Nat.{ℕ}
 use mathlib.Core.Bool.{Bool, true, false}
 use Rattle.command.specs.declared.Command.{Command}
-use Rattle.command.specs.declared.Command.the-variants.{Broken, Note, End, Set, Operate, Select, Define, Contain, Attribute}
+use Rattle.command.specs.declared.Command.the-variants.{Broken, Note, End, Set, Operate, Coded, Select, Define, Contain, Attribute}
 use Rattle.command.specs.declared.Setting.{Setting}
 use Rattle.command.specs.declared.Setting.the-variants as setting
 use Rattle.command.specs.declared.Definition.{Definition}
@@ -22,12 +22,18 @@ roundedInSetting (setting.Scale factor rounded) = rounded
 roundedInSetting setting.Linear = 0
 roundedInSetting setting.Clockwise = 0
 roundedInSetting setting.Counterclockwise = 0
+roundedInSetting setting.SingleQuadrant = 0
 roundedInSetting setting.MultiQuadrant = 0
 roundedInSetting setting.RegionStart = 0
 roundedInSetting setting.RegionEnd = 0
-roundedInSetting (setting.Format n) = 0
+roundedInSetting (setting.Format f) = 0
+roundedInSetting setting.Absolute = 0
+roundedInSetting setting.Incremental = 0
 roundedInSetting setting.Millimetres = 0
 roundedInSetting setting.Inches = 0
+roundedInSetting setting.CodedMillimetres = 0
+roundedInSetting setting.CodedInches = 0
+roundedInSetting setting.Halt = 0
 roundedInSetting setting.Dark = 0
 roundedInSetting setting.Clear = 0
 roundedInSetting (setting.Mirror x y) = 0
@@ -52,5 +58,6 @@ roundedOf (Broken flaw) = 0
 roundedOf Note = 0
 roundedOf End = 0
 roundedOf (Operate o) = 0
+roundedOf (Coded code o) = 0
 roundedOf (Select number) = 0
 roundedOf (Attribute deed) = 0

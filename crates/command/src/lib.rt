@@ -8,6 +8,7 @@ ghost use Rattle.command.specs.Numbers.{judged, inRange, apertureNumber,
 use decimal::Amount;
 use decimal::Decimal;
 use digits::Natural;
+use formats::Format;
 use points::Point;
 
 // A part of the command's text.
@@ -22,10 +23,10 @@ pub enum Axis {
     At(i64),
 }
 
-// I and J of a D01, together.
+// I and J of a D01, together, and whether one of them has a sign.
 pub enum Offset {
     Missing,
-    By(Point),
+    By { offset: Point, signed: bool },
 }
 
 // A number of a command as it is written: whether it is none (4), whether it is too long or outside its range (5), and its value,
@@ -48,25 +49,37 @@ pub struct Size {
 pub enum Flaw {
     // 4: unknown, or not of its form
     NotForm,
+    // 30: a command of the old book, or a format of it, that is not read
+    Unread,
     // 5: a number too long, or outside its range
     TooLong,
 }
 
 // What sets a part of the graphics state. LR and LS say how many of their decimals were rounded.
 pub enum Setting {
-    // G01, G02, G03, G75
+    // G01, G02, G03
     Linear,
     Clockwise,
     Counterclockwise,
+    // G74, G75
+    SingleQuadrant,
     MultiQuadrant,
     // G36, G37
     RegionStart,
     RegionEnd,
-    // FS, with its n
-    Format(usize),
+    // FS
+    Format(Format),
+    // G90, G91
+    Absolute,
+    Incremental,
     // MO
     Millimetres,
     Inches,
+    // G71, G70
+    CodedMillimetres,
+    CodedInches,
+    // M00, M01
+    Halt,
     // LP
     Dark,
     Clear,
@@ -131,7 +144,7 @@ pub enum Deed {
 
 // A command by its role. Spans are in the command's text: a word command's without its `*`, an extended one's between its two `%`.
 pub enum Command {
-    // 4 or 5
+    // 4, 30 or 5
     Broken(Flaw),
     // G04
     Note,
@@ -139,6 +152,8 @@ pub enum Command {
     End,
     Set(Setting),
     Operate(Operation),
+    // an operation behind a G code of the old book
+    Coded { code: Setting, operation: Operation },
     // Dn
     Select(u64),
     Define(Definition),
@@ -264,12 +279,13 @@ pub fn size_of(t: &[u8]) -> Size
     sized(decimal::decimal(t, 0, t.len()))
 }
 
-// Document 01's number of a flaw.
+// The number of a flaw.
 pub fn flaw_number(f: Flaw) -> u64
     ensures { λ r. ⌜ r ≡ flawNumber f ⌝ }
 {
     match f {
         Flaw::NotForm => 4,
+        Flaw::Unread => 30,
         Flaw::TooLong => 5,
     }
 }
@@ -291,12 +307,18 @@ fn rounded_in_setting(s: Setting) -> usize
         Setting::Linear => 0,
         Setting::Clockwise => 0,
         Setting::Counterclockwise => 0,
+        Setting::SingleQuadrant => 0,
         Setting::MultiQuadrant => 0,
         Setting::RegionStart => 0,
         Setting::RegionEnd => 0,
         Setting::Format(_) => 0,
+        Setting::Absolute => 0,
+        Setting::Incremental => 0,
         Setting::Millimetres => 0,
         Setting::Inches => 0,
+        Setting::CodedMillimetres => 0,
+        Setting::CodedInches => 0,
+        Setting::Halt => 0,
         Setting::Dark => 0,
         Setting::Clear => 0,
         Setting::Mirror { .. } => 0,
@@ -337,6 +359,7 @@ pub fn rounded_of(c: Command) -> usize
         Command::Note => 0,
         Command::End => 0,
         Command::Operate(_) => 0,
+        Command::Coded { .. } => 0,
         Command::Select(_) => 0,
         Command::Attribute(_) => 0,
     }

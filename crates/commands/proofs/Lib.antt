@@ -1,4 +1,5 @@
 pub mod Examples
+pub mod Films
 pub mod Rounded
 pub mod Walk
 pub mod Rules

@@ -7,15 +7,22 @@ use mathlib.Core.Bool.{Bool, true, false}
 use mathlib.Core.Logic.{_⊎_, inl, inr, ⊎-elim}
 use mathlib.Core.List.{List, [], _∷_}
 use lib.ListN.{length, getD}
+use lib.Seq.{slice}
 use Rattle.book.specs.Books.{under}
 use Rattle.book.specs.declared.Book.{Book}
+use Rattle.book.specs.declared.Letters.{Letters}
 use Rattle.book.specs.declared.Letters.the-variants.{Old, New}
+use Rattle.formats.specs.Format.{noFormat}
+use Rattle.formats.specs.declared.Format.{Format}
+use Rattle.command.specs.declared.Command.{Command}
+use Rattle.recognise.proofs.Letters.{letters-apart}
 use Rattle.scan.specs.Permitted.{fits}
 use Rattle.scan.specs.Scan.{nextCommand}
 use Rattle.scan.specs.declared.Scan.{Scan}
 use Rattle.scan.specs.declared.Scan.the-variants as scan
 use Rattle.scan.proofs.Rules.{kept, kept-end, alike}
-use Rattle.commands.specs.Turns.{refusal, turned, turnOf}
+use Rattle.commands.specs.Leads.{leadOf}
+use Rattle.commands.specs.Turns.{refusal, led, turned, turnOf}
 use Rattle.commands.specs.Commands.{Sequence, stopped, followed, commandsFrom, commandsOf}
 use Rattle.commands.specs.declared.Placed.{Placed}
 use Rattle.commands.specs.declared.Refusal.{Refusal}
@@ -44,42 +51,55 @@ goes-equal (c ∷ cs) (d ∷ ds) f g h (e, w) =
     let r = goes-equal cs ds f g h w in
     ((λ i. sym e i ∷ r .0 i), r .1)
 
+-- what the scanner found is the same command under either rule
+turned-under : (letters : Letters) (book : Book) (f : Format) (file : List ℕ) (r : Scan) → turned (under letters book) f file r ≡ turned book f file r
+unfolding turned
+turned-under letters book f file (scan.Command kind place from end next) =
+    ap (λ (c : Command). led f (record { place = place; from = from; end = end; command = c }) (leadOf c) next) (letters-apart letters book f kind (slice from end file))
+turned-under letters book f file (scan.BadByte place) = refl
+turned-under letters book f file (scan.Ended place) = refl
+
 module _ (book : Book) (file : List ℕ) where
+  -- two rules that find the same take the same turn
+  same-turn : (l m : Letters) (f : Format) (at : ℕ) → nextCommand (under l book) file at ≡ nextCommand (under m book) file at → turnOf (under l book) f file at ≡ turnOf (under m book) f file at
+  unfolding turnOf
+  same-turn l m f at e = turned-under l book f file _ ∙ ap (turned book f file) e ∙ sym (turned-under m book f file _)
+
   -- one turn: a 2 of the old rule, or the same
-  pub record Bad (n at : ℕ) : Type 0 where
+  pub record Bad (f : Format) (at : ℕ) : Type 0 where
     pub place : ℕ
-    pub is : turnOf (under Old book) n file at ≡ Fault (refusal 2 place)
+    pub is : turnOf (under Old book) f file at ≡ Fault (refusal 2 place)
 
-  pub turn-goes : (n at : ℕ) → Bad n at ⊎ (turnOf (under New book) n file at ≡ turnOf (under Old book) n file at)
+  pub turn-goes : (f : Format) (at : ℕ) → Bad f at ⊎ (turnOf (under New book) f file at ≡ turnOf (under Old book) f file at)
   unfolding turnOf turned
-  turn-goes n at = go (nextCommand (under Old book) file at) refl
+  turn-goes f at = go (nextCommand (under Old book) file at) refl
     where
-      go : (r : Scan) → nextCommand (under Old book) file at ≡ r → Bad n at ⊎ (turnOf (under New book) n file at ≡ turnOf (under Old book) n file at)
-      go (scan.Command kind place from end next) e = inr (ap (turned n file) (kept book file at e ∙ sym e))
-      go (scan.BadByte place) e = inl (record { place = place; is = ap (turned n file) e })
-      go (scan.Ended place) e = inr (ap (turned n file) (kept-end book file at e ∙ sym e))
+      go : (r : Scan) → nextCommand (under Old book) file at ≡ r → Bad f at ⊎ (turnOf (under New book) f file at ≡ turnOf (under Old book) f file at)
+      go (scan.Command kind place from end next) e = inr (same-turn New Old f at (kept book file at e ∙ sym e))
+      go (scan.BadByte place) e = inl (record { place = place; is = ap (turned (under Old book) f file) e })
+      go (scan.Ended place) e = inr (same-turn New Old f at (kept-end book file at e ∙ sym e))
 
-  pub from-goes : (k n at : ℕ) → GoesOn (commandsFrom (under Old book) k n file at) (commandsFrom (under New book) k n file at)
+  pub from-goes : (k : ℕ) (f : Format) (at : ℕ) → GoesOn (commandsFrom (under Old book) k f file at) (commandsFrom (under New book) k f file at)
   unfolding commandsFrom
-  from-goes zero n at = inr (refl, refl)
-  from-goes (suc k) n at = ⊎-elim bad (λ s. same s (turnOf (under Old book) n file at) refl (λ m next. from-goes k m next)) (turn-goes n at)
+  from-goes zero f at = inr (refl, refl)
+  from-goes (suc k) f at = ⊎-elim bad (λ s. same s (turnOf (under Old book) f file at) refl (λ g next. from-goes k g next)) (turn-goes f at)
     where
-      bad : Bad n at → GoesOn (commandsFrom (under Old book) (suc k) n file at) (commandsFrom (under New book) (suc k) n file at)
+      bad : Bad f at → GoesOn (commandsFrom (under Old book) (suc k) f file at) (commandsFrom (under New book) (suc k) f file at)
       bad b = rw (b .is, commandsFrom) (inl refl)
 
-      same : turnOf (under New book) n file at ≡ turnOf (under Old book) n file at → (t : Turn) → turnOf (under Old book) n file at ≡ t →
-          ((m next : ℕ) → GoesOn (commandsFrom (under Old book) k m file next) (commandsFrom (under New book) k m file next)) →
-          GoesOn (commandsFrom (under Old book) (suc k) n file at) (commandsFrom (under New book) (suc k) n file at)
-      same s (Fault f) e rest = rw (e, s ∙ e, commandsFrom) (inr (refl, refl))
+      same : turnOf (under New book) f file at ≡ turnOf (under Old book) f file at → (t : Turn) → turnOf (under Old book) f file at ≡ t →
+          ((g : Format) (next : ℕ) → GoesOn (commandsFrom (under Old book) k g file next) (commandsFrom (under New book) k g file next)) →
+          GoesOn (commandsFrom (under Old book) (suc k) f file at) (commandsFrom (under New book) (suc k) f file at)
+      same s (Fault r) e rest = rw (e, s ∙ e, commandsFrom) (inr (refl, refl))
       same s (Last c next) e rest = rw (e, s ∙ e, commandsFrom) (refl, inr (refl, refl))
-      same s (More c m next) e rest = rw (e, s ∙ e, commandsFrom) (refl, rest m next)
+      same s (More c g next) e rest = rw (e, s ∙ e, commandsFrom) (refl, rest g next)
 
   pub commands-go : GoesOn (commandsOf (under Old book) file) (commandsOf (under New book) file)
   unfolding commandsOf
   commands-go = go (fits file) refl
     where
       go : (t : Bool) → fits file ≡ t → GoesOn (commandsOf (under Old book) file) (commandsOf (under New book) file)
-      go true e = rw e (from-goes (suc (length file)) 0 0)
+      go true e = rw e (from-goes (suc (length file)) noFormat 0)
       go false e = rw e (inr (refl, refl))
 
   -- where the old rule gives no 2, the commands and the fault are the same
@@ -88,22 +108,21 @@ module _ (book : Book) (file : List ℕ) where
 
   -- a file of bytes below 127
   module _ (low : (i : ℕ) → getD file i 0 < 127) where
-    turn-alike : (n at : ℕ) → turnOf (under Old book) n file at ≡ turnOf (under New book) n file at
-    unfolding turnOf
-    turn-alike n at = ap (turned n file) (alike book file at low)
+    turn-alike : (f : Format) (at : ℕ) → turnOf (under Old book) f file at ≡ turnOf (under New book) f file at
+    turn-alike f at = same-turn Old New f at (alike book file at low)
 
-    from-alike : (k n at : ℕ) → commandsFrom (under Old book) k n file at ≡ commandsFrom (under New book) k n file at
+    from-alike : (k : ℕ) (f : Format) (at : ℕ) → commandsFrom (under Old book) k f file at ≡ commandsFrom (under New book) k f file at
     unfolding commandsFrom
-    from-alike zero n at = refl
-    from-alike (suc k) n at = go (turnOf (under Old book) n file at) refl (λ m next. from-alike k m next)
+    from-alike zero f at = refl
+    from-alike (suc k) f at = go (turnOf (under Old book) f file at) refl (λ g next. from-alike k g next)
       where
-        go : (t : Turn) → turnOf (under Old book) n file at ≡ t →
-            ((m next : ℕ) → commandsFrom (under Old book) k m file next ≡ commandsFrom (under New book) k m file next) →
-            commandsFrom (under Old book) (suc k) n file at ≡ commandsFrom (under New book) (suc k) n file at
-        go (Fault f) e rest = rw (e, sym (turn-alike n at) ∙ e, commandsFrom)
-        go (Last c next) e rest = rw (e, sym (turn-alike n at) ∙ e, commandsFrom)
-        go (More c m next) e rest = rw (e, sym (turn-alike n at) ∙ e, commandsFrom, rest m next)
+        go : (t : Turn) → turnOf (under Old book) f file at ≡ t →
+            ((g : Format) (next : ℕ) → commandsFrom (under Old book) k g file next ≡ commandsFrom (under New book) k g file next) →
+            commandsFrom (under Old book) (suc k) f file at ≡ commandsFrom (under New book) (suc k) f file at
+        go (Fault r) e rest = rw (e, sym (turn-alike f at) ∙ e, commandsFrom)
+        go (Last c next) e rest = rw (e, sym (turn-alike f at) ∙ e, commandsFrom)
+        go (More c g next) e rest = rw (e, sym (turn-alike f at) ∙ e, commandsFrom, rest g next)
 
     pub commands-alike : commandsOf (under Old book) file ≡ commandsOf (under New book) file
     unfolding commandsOf
-    commands-alike = rw (from-alike (suc (length file)) 0 0)
+    commands-alike = rw (from-alike (suc (length file)) noFormat 0)

@@ -1,4 +1,4 @@
-// The commands of a file, one after the other, with the faults 2, 3, 4 and 18.
+// The commands of a file, one after the other, with the faults 2, 3, 4, 30 and 18.
 ghost use mathlib.Core.Path.{_≡_};
 ghost use Rattle.scan.specs.Tail.{tailOf};
 ghost use Rattle.commands.specs.Leads.{leadOfFlaw, leadOfSetting, leadOf};
@@ -7,6 +7,7 @@ use book::Book;
 use command::Command;
 use command::Flaw;
 use command::Setting;
+use formats::Format;
 use scan::Scan;
 use scan::Tail;
 
@@ -26,13 +27,14 @@ pub struct Placed {
 
 // How a command leads on.
 pub enum Lead {
-    Broken,
+    // to 4 or 30
+    Broken(u64),
     Last,
-    Format(usize),
+    Format(Format),
     Plain,
 }
 
-// What stands next: a fault; M02, with the place past it; another command, with the n of FS from there on and the place past it.
+// What stands next: a fault; M02, with the place past it; another command, with the format from there on and the place past it.
 pub enum Turn {
     Fault(Refusal),
     Last {
@@ -41,7 +43,7 @@ pub enum Turn {
     },
     More {
         command: Placed,
-        n: usize,
+        format: Format,
         next: usize,
     },
 }
@@ -51,7 +53,8 @@ fn lead_of_flaw(f: Flaw) -> Lead
     ensures { λ r. ⌜ r ≡ leadOfFlaw f ⌝ }
 {
     match f {
-        Flaw::NotForm => Lead::Broken,
+        Flaw::NotForm => Lead::Broken(4),
+        Flaw::Unread => Lead::Broken(30),
         Flaw::TooLong => Lead::Plain,
     }
 }
@@ -61,15 +64,21 @@ fn lead_of_setting(s: Setting) -> Lead
     ensures { λ r. ⌜ r ≡ leadOfSetting s ⌝ }
 {
     match s {
-        Setting::Format(n) => Lead::Format(n),
+        Setting::Format(format) => Lead::Format(format),
         Setting::Linear => Lead::Plain,
         Setting::Clockwise => Lead::Plain,
         Setting::Counterclockwise => Lead::Plain,
+        Setting::SingleQuadrant => Lead::Plain,
         Setting::MultiQuadrant => Lead::Plain,
         Setting::RegionStart => Lead::Plain,
         Setting::RegionEnd => Lead::Plain,
+        Setting::Absolute => Lead::Plain,
+        Setting::Incremental => Lead::Plain,
         Setting::Millimetres => Lead::Plain,
         Setting::Inches => Lead::Plain,
+        Setting::CodedMillimetres => Lead::Plain,
+        Setting::CodedInches => Lead::Plain,
+        Setting::Halt => Lead::Plain,
         Setting::Dark => Lead::Plain,
         Setting::Clear => Lead::Plain,
         Setting::Mirror { .. } => Lead::Plain,
@@ -88,6 +97,7 @@ fn lead_of(c: Command) -> Lead
         Command::Set(s) => lead_of_setting(s),
         Command::Note => Lead::Plain,
         Command::Operate(_) => Lead::Plain,
+        Command::Coded { .. } => Lead::Plain,
         Command::Select(_) => Lead::Plain,
         Command::Define(_) => Lead::Plain,
         Command::Contain(_) => Lead::Plain,
@@ -95,32 +105,32 @@ fn lead_of(c: Command) -> Lead
     }
 }
 
-// A command that leads on so, n being FS's before it.
-fn led(n: usize, c: Placed, lead: Lead, next: usize) -> Turn
-    ensures { λ r. ⌜ r ≡ led n c lead next ⌝ }
+// A command that leads on so, the format being that before it.
+fn led(format: Format, c: Placed, lead: Lead, next: usize) -> Turn
+    ensures { λ r. ⌜ r ≡ led format c lead next ⌝ }
 {
     match lead {
-        Lead::Broken => Turn::Fault(Refusal {
-            number: 4,
+        Lead::Broken(number) => Turn::Fault(Refusal {
+            number,
             place: c.place,
         }),
         Lead::Last => Turn::Last { command: c, next },
-        Lead::Format(m) => Turn::More {
+        Lead::Format(f) => Turn::More {
             command: c,
-            n: m,
+            format: f,
             next,
         },
         Lead::Plain => Turn::More {
             command: c,
-            n,
+            format,
             next,
         },
     }
 }
 
-// What stands next from a place on, by a book; n is that of FS, 0 before it.
-pub fn turn_at(book: Book, n: usize, file: &[u8], at: usize) -> Turn
-    ensures { λ r. ⌜ r ≡ turnOf book n (now (file .entry)) at ⌝ }
+// What stands next from a place on, by a book; the format is that of FS, none before it.
+pub fn turn_at(book: Book, format: Format, file: &[u8], at: usize) -> Turn
+    ensures { λ r. ⌜ r ≡ turnOf book format (now (file .entry)) at ⌝ }
 {
     let s = scan::next_command(book, file, at);
     match s {
@@ -131,9 +141,10 @@ pub fn turn_at(book: Book, n: usize, file: &[u8], at: usize) -> Turn
             end,
             next,
         } => {
-            let command = recognise::command_of(n, kind, base::part(file, from, end));
+            let text = base::part(file, from, end);
+            let command = recognise::command_of(book, format, kind, text);
             led(
-                n,
+                format,
                 Placed {
                     place,
                     from,

@@ -4,11 +4,14 @@ ghost use mathlib.Core.Bool.{not};
 ghost use Prim.Native.Nat.{_+_, _*_};
 ghost use lib.Dec.{leb};
 ghost use Rattle.drawing.specs.Counts.{most, tooMany};
-ghost use Rattle.drawing.specs.Faults.{drawItems, drawFault, moveFault, flashItems, flashFault, regionEndFault};
+ghost use Rattle.base.specs.Faults.{firstFault};
+ghost use Rattle.arcs.specs.Near.{Near};
+ghost use Rattle.drawing.specs.Faults.{drawItems, nearDrawRules, drawFault, moveFault, flashItems, flashFault, regionEndFault};
 use command::Axis;
 use command::Offset;
 use graphics::Graphics;
 use graphics::Level;
+use points::Point;
 
 // With n items more there are more than so many.
 fn past(items: u64, n: u64, most: u64) -> bool
@@ -62,17 +65,32 @@ pub fn flash_items(g: Graphics) -> u64
     }
 }
 
-// D01, with room for so many entries.
-pub fn draw_fault(g: Graphics, l: Level, room: u64, x: Axis, y: Axis, o: Offset) -> u64
-    ensures { λ r. ⌜ r ≡ drawFault g l room x y o ⌝ }
+// D01 to end behind FS, whose points are near, with room for so many entries.
+fn near_draw_fault(g: Graphics, l: Level, room: u64, end: Point, o: Offset) -> u64
+    requires { ⌜ Near g end o ⌝ }
+    ensures { λ r. ⌜ r ≡ firstFault (nearDrawRules g l room end o) ⌝ }
 {
     let n = draw_items(g);
     let room_used = base::row(room < n, 17, 0);
     let count = base::row(too_many(l, n), 16, room_used);
-    let centre = base::row(fits::bad_centre(g, changes::target(g, x, y), o), 12, count);
+    let quadrant = base::row(arcs::is_centreless(g, end, o), 31, count);
+    let centre = base::row(arcs::bad_centre(g, end, o), 12, quadrant);
     let own_move = base::row(fits::is_moveless(g), 29, centre);
     let misfit = base::row(fits::draw_misfits(g, o), 11, own_move);
     base::row(fits::is_unready(g), 6, misfit)
+}
+
+// D01, with room for so many entries. Before FS it is 6, whatever else is broken.
+pub fn draw_fault(g: Graphics, l: Level, room: u64, x: Axis, y: Axis, o: Offset) -> u64
+    ensures { λ r. ⌜ r ≡ drawFault g l room x y o ⌝ }
+{
+    if reach::is_formatted(g) {
+        if fits::draws_far(g, x, y, o) {
+            return 5;
+        }
+        return near_draw_fault(g, l, room, changes::target(g, x, y), o);
+    }
+    6
 }
 
 // D02.
@@ -81,7 +99,8 @@ pub fn move_fault(g: Graphics, x: Axis, y: Axis) -> u64
 {
     let contour = base::row(fits::is_unclosed(g), 13, 0);
     let misfit = base::row(fits::is_placeless(g, x, y), 11, contour);
-    base::row(fits::is_unready(g), 6, misfit)
+    let ready = base::row(fits::is_unready(g), 6, misfit);
+    base::row(reach::goes_far(g, x, y), 5, ready)
 }
 
 // D03, with room for so many entries.
@@ -94,7 +113,8 @@ pub fn flash_fault(g: Graphics, l: Level, room: u64, x: Axis, y: Axis) -> u64
     let tall = fits::is_too_tall(g, l);
     let block = base::row(askew, 14, base::row(tall, 15, count));
     let misfit = base::row(fits::flash_misfits(g, x, y), 11, block);
-    base::row(fits::is_unready(g), 6, base::row(g.region.on, 7, misfit))
+    let ready = base::row(fits::is_unready(g), 6, base::row(g.region.on, 7, misfit));
+    base::row(reach::goes_far(g, x, y), 5, ready)
 }
 
 // G37.

@@ -28,8 +28,9 @@ use Rattle.command.specs.declared.Operation.the-variants as operation
 use Rattle.graphics.specs.Graphics.{withPoint, withRegion}
 use Rattle.graphics.specs.declared.Graphics.{Graphics}
 use Rattle.changes.specs.After.{target, goingTo, startsContour, drawing, afterOperation, after}
-use Rattle.bounds.specs.Bounded.{Draws}
-use Rattle.bounds.proofs.Target.{target-within}
+use Rattle.arcs.specs.Near.{Near}
+use Rattle.arcs.proofs.Draws.{kind-most}
+use Rattle.drawing.proofs.Reached.{draw-near, draw-reached}
 use Rattle.graphics.specs.declared.Level.{Level}
 use Rattle.drawing.specs.Counts.{most, counted}
 use Rattle.drawing.specs.Faults.{drawItems, drawFault}
@@ -49,14 +50,14 @@ use Rattle.progress.proofs.Levels.{items-few}
 use Rattle.draws.specs.Draws.{leftOf, Leads, MayDraw}
 use Rattle.draws.proofs.Faults.{and-rest, draw-mode, draw-counts, draw-room}
 use Rattle.draws.proofs.Levels.{items-level}
-use Rattle.draws.proofs.Within.{drawn-near, edge-near, contour-near}
+use Rattle.draws.proofs.Within.{drawn-near, edge-near, contour-near, kind-least}
 use Rattle.draws.proofs.Grown.{advanced, grown-knows}
 use Rattle.draws.proofs.Operations.{draw-moves}
 use Rattle.draws.proofs.Items.{below-pushed, item-grows}
 use Rattle.draws.proofs.Contours.{contour-shows, edged-room, contour-grows, contour-low, contour-few, contour-start, below-edged, contour-begun}
 use Rattle.draws.proofs.Known.{known-fits, known-copies, known-items, draw-faults, refused, goes}
 
-module _ (w : Lent) (p : Progress) (s : State) (k : Knows w p s) (place : ℕ) (x y : Axis) (o : Offset) (near : Draws x y o)
+module _ (w : Lent) (p : Progress) (s : State) (k : Knows w p s) (place : ℕ) (x y : Axis) (o : Offset)
     (none : drawFault (p .graphics) (levelOf p) (leftOf (w .entries) (p .builder)) x y o ≡ 0) where
   none-there : drawFault (s .graphics) (s .level) (entryRoom (w .entries) - s .entries) x y o ≡ 0
   unfolding drawStep roomOf
@@ -70,7 +71,10 @@ module _ (w : Lent) (p : Progress) (s : State) (k : Knows w p s) (place : ℕ) (
       omega arith
 
   there : Within (10 ^ 12) (target (s .graphics) x y)
-  there = target-within (s .graphics) x y (k .point) (near .goes)
+  there = draw-reached _ _ _ _ _ _ none-there
+
+  near-there : Near (s .graphics) (target (s .graphics) x y) o
+  near-there = draw-near _ _ _ _ _ _ none-there
 
   counts : counted (s .level) (drawItems (s .graphics)) ≤ most
   counts = draw-counts _ _ _ _ _ _ none-there
@@ -98,12 +102,12 @@ module _ (w : Lent) (p : Progress) (s : State) (k : Knows w p s) (place : ℕ) (
     item-knows =
         let l = left in
         let q = one-item in
-        let m = k .mode in
-        let n = mode in
+        let m = kind-most (s .graphics) (target (s .graphics) x y) (k .mode) in
+        let n = kind-least (s .graphics) (target (s .graphics) x y) mode in
         rw one-item
-        (grown-knows w p s (command.Operate (operation.Draw x y o)) place 1 1 0 _ _ _ k (draw-moves w p s x y o k (near .goes))
+        (grown-knows w p s (command.Operate (operation.Draw x y o)) place 1 1 0 _ _ _ k (draw-moves w p s x y o k there)
         (item-grows w p s k (omega arith) (command.Operate (operation.Draw x y o)) place (drawn (s .graphics) (target (s .graphics) x y) o place)
-        (drawn-near (s .graphics) (k .point) (target (s .graphics) x y) there place o (near .centre)) n (omega arith) refl
+        (drawn-near (s .graphics) (target (s .graphics) x y) o near-there place) n (omega arith) refl
         item-marks item-none (rw one-item at counts)))
 
   -- an edge more of the open contour
@@ -128,17 +132,17 @@ module _ (w : Lent) (p : Progress) (s : State) (k : Knows w p s) (place : ℕ) (
     edge-knows =
         let l = left in
         let q = one-edge in
-        let m = k .mode in
-        let n = mode in
+        let m = kind-most (s .graphics) (target (s .graphics) x y) (k .mode) in
+        let n = kind-least (s .graphics) (target (s .graphics) x y) mode in
         let d = k .contour is-open in
-        let t = edge-near (s .graphics) (k .point) (target (s .graphics) x y) there place o (near .centre) in
+        let t = edge-near (s .graphics) (target (s .graphics) x y) o near-there place in
         let fits : p .builder .closed + p .builder .high < entryRoom (w .entries) = omega arith in
         let low : 1 ≤ edge (s .graphics) (target (s .graphics) x y) o place .kind = omega arith in
         let up : edge (s .graphics) (target (s .graphics) x y) o place .kind ≤ 8 = omega arith in
         let as-long = edged-room (w .entries) (w .apertures) (p .apertures) (p .builder) (p .contour) (s .marks) d fits _ t low up refl in
         let grows = contour-grows (w .entries) (w .apertures) (p .apertures) (p .builder) (p .contour) (s .marks) d fits _ t low up refl in
         rw one-edge
-        (grown-knows w p s (command.Operate (operation.Draw x y o)) place 1 1 0 _ _ _ k (draw-moves w p s x y o k (near .goes))
+        (grown-knows w p s (command.Operate (operation.Draw x y o)) place 1 1 0 _ _ _ k (draw-moves w p s x y o k there)
         (record {
           as-long = as-long;
           below = below-edged (w .entries) (p .builder) (p .contour) _ fits (contour-low _ _ _ _ _ _ d) (p .builder .start) (contour-start _ _ _ _ _ _ d);
@@ -192,10 +196,10 @@ module _ (w : Lent) (p : Progress) (s : State) (k : Knows w p s) (place : ℕ) (
     contour-knows =
         let l = left in
         let q = two-items in
-        let m = k .mode in
-        let n = mode in
+        let m = kind-most (s .graphics) (target (s .graphics) x y) (k .mode) in
+        let n = kind-least (s .graphics) (target (s .graphics) x y) mode in
         let d = begun in
-        let t = edge-near (s .graphics) (k .point) (target (s .graphics) x y) there place o (near .centre) in
+        let t = edge-near (s .graphics) (target (s .graphics) x y) o near-there place in
         let room = begun-room in
         let fits : p .builder .closed + p .builder .high < entryRoom (w .entries) = omega arith in
         let fits-still : b-begun .closed + b-begun .high < entryRoom e-begun = omega arith in
@@ -207,7 +211,7 @@ module _ (w : Lent) (p : Progress) (s : State) (k : Knows w p s) (place : ℕ) (
         let start = start-low w p s k in
         let more : p .builder .items + 1 + 1 ≡ p .builder .items + 2 = omega arith in
         rw two-items
-        (grown-knows w p s (command.Operate (operation.Draw x y o)) place 2 2 0 _ _ _ k (draw-moves w p s x y o k (near .goes))
+        (grown-knows w p s (command.Operate (operation.Draw x y o)) place 2 2 0 _ _ _ k (draw-moves w p s x y o k there)
         (record {
           as-long = as-long;
           below = λ r z. below-pushed (w .entries) (p .builder .high) (p .builder .start) _ (omega arith) start r z
@@ -273,14 +277,14 @@ module _ (e : List ℕ) (p : Progress) (place : ℕ) (x y : Axis) (o : Offset) (
       (advanced p (after (command.Operate (operation.Draw x y o)) (p .graphics)) (grown (p .builder) 1 (p .builder .height)) (p .contour))
   item-leads outside w s lent k =
       rw (← lent, k .graphics)
-      (item-knows w p s k place x y o (may .near) (rw (← lent) at (may .none)) (rw (k .graphics) at outside))
+      (item-knows w p s k place x y o (rw (← lent) at (may .none)) (rw (k .graphics) at outside))
 
   edge-leads : p .graphics .region .on ≡ true → startsContour (p .graphics .region) ≡ false →
       leads (edged e (p .builder) (p .contour) (edge (p .graphics) (target (p .graphics) x y) o place))
       (advanced p (after (command.Operate (operation.Draw x y o)) (p .graphics)) (grown (p .builder) 1 (p .builder .height)) (p .contour))
   edge-leads inside later w s lent k =
       rw (← lent, k .graphics)
-      (edge-knows w p s k place x y o (may .near) (rw (← lent) at (may .none)) (rw (k .graphics) at inside) (rw (k .graphics) at later))
+      (edge-knows w p s k place x y o (rw (← lent) at (may .none)) (rw (k .graphics) at inside) (rw (k .graphics) at later))
 
   contour-leads : startsContour (p .graphics .region) ≡ true →
       leads (edged (pushed e (p .builder .high) (itemEntry (p .builder .items) (contour (p .graphics) place)))
@@ -288,7 +292,7 @@ module _ (e : List ℕ) (p : Progress) (place : ℕ) (x y : Axis) (o : Offset) (
       (advanced p (after (command.Operate (operation.Draw x y o)) (p .graphics)) (grown (grown (p .builder) 1 (p .builder .height)) 1 (p .builder .height)) (p .builder .high))
   contour-leads first w s lent k =
       rw (← lent, k .graphics)
-      (contour-knows w p s k place x y o (may .near) (rw (← lent) at (may .none)) (rw (k .graphics) at first))
+      (contour-knows w p s k place x y o (rw (← lent) at (may .none)) (rw (k .graphics) at first))
 
   module _ {end : Point} {t : Item} {e′ : List ℕ} {b′ : Builder} {g′ : Graphics} {q r : Progress} (end-is : end ≡ target (p .graphics) x y) (after-is : g′ ≡ after (command.Operate (operation.Draw x y o)) (p .graphics))
       (q-is : q ≡ withGraphics g′ p) where
@@ -319,8 +323,8 @@ module _ (e : List ℕ) (p : Progress) (place : ℕ) (x y : Axis) (o : Offset) {
   draw-says : (w : Lent) (s : State) → w .entries ≡ e → Knows w p s → drawStep (roomOf w) place x y o s .fault ≡ n
   draw-says w s lent k = sym (draw-faults w p s k place x y o) ∙ rw lent same-fault
 
-  pub may-draw : Known (λ w. w .entries ≡ e) p → Draws x y o → n ≡ 0 → MayDraw e p x y o
-  may-draw known near zero = record { known = known; near = near; none = same-fault ∙ zero }
+  pub may-draw : Known (λ w. w .entries ≡ e) p → n ≡ 0 → MayDraw e p x y o
+  may-draw known zero = record { known = known; none = same-fault ∙ zero }
 
   pub draw-refused : (e′ : List ℕ) → (n ≡ 0 → ⊥) → StepsTo (λ room s. drawStep room place x y o s) (λ w. w .entries ≡ e) (withEntries e′) p (Fault n)
   draw-refused = refused (λ room s. drawStep room place x y o s) e p draw-says

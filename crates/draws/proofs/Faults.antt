@@ -32,11 +32,13 @@ module _ (g : Graphics) (l : Level) (room : ℕ) (x y : Axis) (o : Offset) (none
   draw-passes : (drawMisfits g o ≡ false) × (tooMany l (drawItems g) ≡ false) × (ltb room (drawItems g) ≡ false)
   unfolding drawFault
   draw-passes =
-      let ready = unbroken (lit≤ tt) none in
+      let near = unbroken (lit≤ tt) none in
+      let ready = unbroken (lit≤ tt) (near .1) in
       let fits = unbroken (lit≤ tt) (ready .1) in
       let moved = unbroken (lit≤ tt) (fits .1) in
       let centred = unbroken (lit≤ tt) (moved .1) in
-      let counts = unbroken (lit≤ tt) (centred .1) in
+      let chosen = unbroken (lit≤ tt) (centred .1) in
+      let counts = unbroken (lit≤ tt) (chosen .1) in
       let rooms = unbroken (lit≤ tt) (counts .1) in
       (fits .0, counts .0, rooms .0)
 
@@ -60,7 +62,8 @@ module _ (g : Graphics) (l : Level) (room : ℕ) (x y : Axis) (none : flashFault
   flash-passes : (g .region .on ≡ false) × (flashMisfits g x y ≡ false) × (askew g ≡ false) × (tooTall g l ≡ false) × (tooMany l (flashItems g) ≡ false) × (ltb room 1 ≡ false)
   unfolding flashFault
   flash-passes =
-      let ready = unbroken (lit≤ tt) none in
+      let near = unbroken (lit≤ tt) none in
+      let ready = unbroken (lit≤ tt) (near .1) in
       let outside = unbroken (lit≤ tt) (ready .1) in
       let fits = unbroken (lit≤ tt) (outside .1) in
       let straight = unbroken (lit≤ tt) (fits .1) in

@@ -27,9 +27,8 @@ use Rattle.command.specs.declared.Operation.the-variants as operation
 use Rattle.graphics.specs.Graphics.{withPoint}
 use Rattle.graphics.specs.declared.Graphics.{Graphics}
 use Rattle.changes.specs.After.{target, goingTo, afterOperation, after}
-use Rattle.bounds.specs.Bounded.{Goes}
 use Rattle.bounds.proofs.Tables.{neither}
-use Rattle.bounds.proofs.Target.{target-within}
+use Rattle.drawing.proofs.Reached.{flash-reached}
 use Rattle.fits.specs.Fits.{askew, tooTall}
 use Rattle.graphics.specs.declared.Level.{Level}
 use Rattle.drawing.specs.Counts.{most, counted}
@@ -57,7 +56,7 @@ use Rattle.draws.proofs.Items.{below-pushed, item-grows}
 use Rattle.draws.proofs.Selected.{IsBlock, selected-block}
 use Rattle.draws.proofs.Known.{known-fits, known-items, known-few, flash-faults, refused, goes}
 
-module _ (w : Lent) (p : Progress) (s : State) (k : Knows w p s) (place : ℕ) (x y : Axis) (near : Goes x y)
+module _ (w : Lent) (p : Progress) (s : State) (k : Knows w p s) (place : ℕ) (x y : Axis)
     (none : flashFault (p .graphics) (levelOf p) (leftOf (w .entries) (p .builder)) x y ≡ 0) where
   none-there : flashFault (s .graphics) (s .level) (entryRoom (w .entries) - s .entries) x y ≡ 0
   unfolding flashStep roomOf
@@ -70,7 +69,7 @@ module _ (w : Lent) (p : Progress) (s : State) (k : Knows w p s) (place : ℕ) (
       omega arith
 
   there : Within (10 ^ 12) (target (s .graphics) x y)
-  there = target-within (s .graphics) x y (k .point) near
+  there = flash-reached _ _ _ _ _ none-there
 
   counts : counted (s .level) (flashItems (s .graphics)) ≤ most
   counts = flash-counts _ _ _ _ _ none-there
@@ -98,7 +97,7 @@ module _ (w : Lent) (p : Progress) (s : State) (k : Knows w p s) (place : ℕ) (
     unfolding flashStep flashed
     item-knows =
         rw (one-item, no-height)
-        (grown-knows w p s (command.Operate (operation.Flash x y)) place 1 1 0 _ _ _ k (flash-moves w p s x y k near)
+        (grown-knows w p s (command.Operate (operation.Flash x y)) place 1 1 0 _ _ _ k (flash-moves w p s x y k there)
         (item-grows w p s k left (command.Operate (operation.Flash x y)) place (flashed (s .graphics) (target (s .graphics) x y) place)
         (flashed-near (s .graphics) (k .point) (target (s .graphics) x y) there place) (omega arith) (omega arith) refl
         item-marks none-drawn (rw one-item at counts)))
@@ -151,7 +150,7 @@ module _ (w : Lent) (p : Progress) (s : State) (k : Knows w p s) (place : ℕ) (
         (pose (s .graphics) (target (s .graphics) x y)) place (pose-near (s .graphics) (k .point) (target (s .graphics) x y) there place) quarters (b .inside) (b .is)
         (rw (b .height) low) (λ l. rw (b .height) (lower l)) in
         rw (block-items, block-height)
-        (grown-knows w p s (command.Operate (operation.Flash x y)) place 1 (s .graphics .aperture .items) (s .graphics .aperture .height + 1) e-used b-used (p .contour) k (flash-moves w p s x y k near)
+        (grown-knows w p s (command.Operate (operation.Flash x y)) place 1 (s .graphics .aperture .items) (s .graphics .aperture .height + 1) e-used b-used (p .contour) k (flash-moves w p s x y k there)
         (record {
           as-long = pushed-is (w .entries) (p .builder .high) _ room .as-long;
           below = below-pushed (w .entries) (p .builder .high) (p .builder .start) _ room (start-low w p s k);
@@ -184,7 +183,7 @@ module _ (e : List ℕ) (p : Progress) (place : ℕ) (x y : Axis) (may : MayFlas
         (
           known-items e p (may .known),
           known-few e p (may .known),
-          rw (k .graphics) (low (may .known .lent) p (may .known .state) k place x y (may .near) (rw (← lent) at (may .none)) (rw (k .graphics) at q)),
+          rw (k .graphics) (low (may .known .lent) p (may .known .state) k place x y (rw (← lent) at (may .none)) (rw (k .graphics) at q)),
         ),
       )
 
@@ -196,14 +195,14 @@ module _ (e : List ℕ) (p : Progress) (place : ℕ) (x y : Axis) (may : MayFlas
       (advanced p (after (command.Operate (operation.Flash x y)) (p .graphics)) (grown (p .builder) 1 (p .builder .height)) (p .contour))
   item-leads plain w s lent k =
       rw (← lent, k .graphics)
-      (item-knows w p s k place x y (may .near) (rw (← lent) at (may .none)) (rw (k .graphics) at plain))
+      (item-knows w p s k place x y (rw (← lent) at (may .none)) (rw (k .graphics) at plain))
 
   block-leads : p .graphics .aperture .block ≡ true →
       leads (pushed e (p .builder .high) (useEntry (p .builder .items) (p .graphics .aperture .slot) (pose (p .graphics) (target (p .graphics) x y)) place))
       (advanced p (after (command.Operate (operation.Flash x y)) (p .graphics)) (grown (p .builder) (p .graphics .aperture .items) (raised (p .builder .height) (p .graphics .aperture .height))) (p .contour))
   block-leads is-block w s lent k =
       rw (← lent, k .graphics)
-      (block-knows w p s k place x y (may .near) (rw (← lent) at (may .none)) (rw (k .graphics) at is-block))
+      (block-knows w p s k place x y (rw (← lent) at (may .none)) (rw (k .graphics) at is-block))
 
   module _ {end : Point} {e′ : List ℕ} {b′ : Builder} {g′ : Graphics} {q r : Progress} (end-is : end ≡ target (p .graphics) x y) (after-is : g′ ≡ after (command.Operate (operation.Flash x y)) (p .graphics))
       (q-is : q ≡ withGraphics g′ p) where
@@ -227,8 +226,8 @@ module _ (e : List ℕ) (p : Progress) (place : ℕ) (x y : Axis) {n room : ℕ}
   flash-says : (w : Lent) (s : State) → w .entries ≡ e → Knows w p s → flashStep (roomOf w) place x y s .fault ≡ n
   flash-says w s lent k = sym (flash-faults w p s k place x y) ∙ rw lent same-fault
 
-  pub may-flash : Known (λ w. w .entries ≡ e) p → Goes x y → n ≡ 0 → MayFlash e p x y
-  may-flash known near zero = record { known = known; near = near; none = same-fault ∙ zero }
+  pub may-flash : Known (λ w. w .entries ≡ e) p → n ≡ 0 → MayFlash e p x y
+  may-flash known zero = record { known = known; none = same-fault ∙ zero }
 
   pub flash-refused : (e′ : List ℕ) → (n ≡ 0 → ⊥) → StepsTo (λ room s. flashStep room place x y s) (λ w. w .entries ≡ e) (withEntries e′) p (Fault n)
   flash-refused = refused (λ room s. flashStep room place x y s) e p flash-says

@@ -6,7 +6,6 @@ use Rattle.sheet.specs.Records.{entryRoom}
 use Rattle.build.specs.declared.Builder.{Builder}
 use Rattle.command.specs.declared.Axis.{Axis}
 use Rattle.command.specs.declared.Offset.{Offset}
-use Rattle.bounds.specs.Bounded.{Goes, Draws}
 use Rattle.drawing.specs.Faults.{drawFault, flashFault}
 use Rattle.reading.specs.State.{Room, State}
 use Rattle.reading.specs.Steps.{Step}
@@ -26,10 +25,8 @@ Leads step lends left p r = (w : Lent) (s : State) → lends w → Knows w p s �
 -- reading has come to p, with the entries e, and a D01, or a D03, breaks no rule there
 pub record MayDraw (e : List ℕ) (p : Progress) (x y : Axis) (o : Offset) : Type 0 where
   pub known : Known (λ w. w .entries ≡ e) p
-  pub near : Draws x y o
   pub none : drawFault (p .graphics) (levelOf p) (leftOf e (p .builder)) x y o ≡ 0
 
 pub record MayFlash (e : List ℕ) (p : Progress) (x y : Axis) : Type 0 where
   pub known : Known (λ w. w .entries ≡ e) p
-  pub near : Goes x y
   pub none : flashFault (p .graphics) (levelOf p) (leftOf e (p .builder)) x y ≡ 0

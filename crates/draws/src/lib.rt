@@ -4,7 +4,6 @@ ghost use mathlib.Core.Bool.{true, false};
 ghost use Prim.Native.Nat.{_+_, _≤_};
 ghost use lib.ListN.{length};
 ghost use Rattle.sheet.specs.Records.{entryRoom};
-ghost use Rattle.bounds.specs.Bounded.{Goes, Draws};
 ghost use Rattle.changes.specs.After.{startsContour};
 ghost use Rattle.reading.specs.Steps.{drawStep, flashStep};
 ghost use Rattle.progress.specs.Lent.{withEntries};
@@ -74,7 +73,6 @@ fn draw_contour(e: &mut [u64], p: Progress, place: u64, x: Axis, y: Axis, o: Off
 // D01.
 pub fn draw(e: &mut [u64], p: Progress, place: u64, x: Axis, y: Axis, o: Offset) -> Stepped
     requires { ⌜ Known (λ w. w .entries ≡ now e) p ⌝ }
-    requires { ⌜ Draws x y o ⌝ }
     ensures { λ r. ⌜ (length (now (e .exit)) ≡ length (now (e .entry)))
         × StepsTo (λ room s. drawStep room place x y o s) (λ w. w .entries ≡ now (e .entry)) (withEntries (now (e .exit))) p r ⌝ }
 {
@@ -132,7 +130,6 @@ fn flash_block(e: &mut [u64], p: Progress, place: u64, x: Axis, y: Axis) -> Prog
 // D03.
 pub fn flash(e: &mut [u64], p: Progress, place: u64, x: Axis, y: Axis) -> Stepped
     requires { ⌜ Known (λ w. w .entries ≡ now e) p ⌝ }
-    requires { ⌜ Goes x y ⌝ }
     ensures { λ r. ⌜ (length (now (e .exit)) ≡ length (now (e .entry)))
         × StepsTo (λ room s. flashStep room place x y s) (λ w. w .entries ≡ now (e .entry)) (withEntries (now (e .exit))) p r ⌝ }
 {

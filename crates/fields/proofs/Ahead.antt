@@ -6,21 +6,25 @@ use mathlib.Core.Bool.{Bool, true, false, not}
 use mathlib.Core.List.{List, [], _∷_}
 use native.Mathlib.Omega.{arith}
 use lib.Dec.{leb, ltb, eqb}
+use lib.ListN.{getD}
 use borrow.Author.Tests.{leb-true, eqb-true, eqb-false, le-leb, lt-leb, lt-ltb, le-ltb}
 use Rattle.base.specs.And.{_and_}
+use Rattle.base.specs.Or.{_or_}
 use Rattle.base.proofs.And.{and-false}
 use Rattle.base.proofs.Tests.{leb-agree}
 use Rattle.text.specs.First.{firstIn}
 use Rattle.text.specs.Text.{byte}
 use Rattle.text.proofs.First.{in-from}
-use Rattle.fields.specs.Parts.{isField, partAfter}
+use Rattle.digits.specs.Digits.{isDigit}
+use Rattle.book.specs.declared.Book.{Book}
+use Rattle.fields.specs.Parts.{beginsText, isField, partAfter}
 use Rattle.fields.specs.declared.Part.{Part}
-use Rattle.fields.specs.declared.Part.the-variants.{Named, Field, Plain}
+use Rattle.fields.specs.declared.Part.the-variants.{CodeG4, Named, Field, Plain}
 
 -- place i holds one of these bytes, which stand from `at` on, and is in the field, as the walk sees it from this part on
-unfoldable pub reaches : Part → List ℕ → ℕ → ℕ → Bool
-reaches part [] at i = false
-reaches part (b ∷ s) at i = elim (eqb i at) [ true ↦ isField part and not (byte "*" b) | false ↦ reaches (partAfter part b) s (at + 1) i ]
+unfoldable pub reaches : Book → Part → List ℕ → ℕ → ℕ → Bool
+reaches book part [] at i = false
+reaches book part (b ∷ s) at i = elim (eqb i at) [ true ↦ isField part b | false ↦ reaches book (partAfter book part b) s (at + 1) i ]
 
 abbrev pub star : List ℕ → ℕ → ℕ
 star = firstIn (byte "*")
@@ -37,7 +41,7 @@ module _ (a i e : ℕ) where
   unfolding _and_
   range-in h k = rw (le-leb a i h, lt-ltb i e k)
 
-  range-before : i < a → range a i e ≡ false
+  pub range-before : i < a → range a i e ≡ false
   unfolding _and_
   range-before h = rw (lt-leb a i h)
 
@@ -63,65 +67,77 @@ module _ (test : ℕ → Bool) (b : ℕ) (s : List ℕ) (at : ℕ) where
   first-later e = rw (firstIn, e)
 
 -- one byte of the walk
-module _ (part : Part) (b : ℕ) (s : List ℕ) (at i : ℕ) where
-  pub reach-here : eqb i at ≡ true → reaches part (b ∷ s) at i ≡ (isField part and not (byte "*" b))
+module _ (book : Book) (part : Part) (b : ℕ) (s : List ℕ) (at i : ℕ) where
+  pub reach-here : eqb i at ≡ true → reaches book part (b ∷ s) at i ≡ isField part b
   unfolding reaches
   reach-here e = rw (reaches, e)
 
-  pub reach-next : eqb i at ≡ false → reaches part (b ∷ s) at i ≡ reaches (partAfter part b) s (at + 1) i
+  pub reach-next : eqb i at ≡ false → reaches book part (b ∷ s) at i ≡ reaches book (partAfter book part b) s (at + 1) i
   unfolding reaches
   reach-next e = rw (reaches, e)
 
 -- no field ahead
-pub plain-ahead : (s : List ℕ) (at i : ℕ) → reaches Plain s at i ≡ false
-unfolding reaches isField partAfter _and_
-plain-ahead [] at i = refl
-plain-ahead (b ∷ s) at i = go (eqb i at) refl (plain-ahead s (at + 1) i)
+pub plain-ahead : (book : Book) (s : List ℕ) (at i : ℕ) → reaches book Plain s at i ≡ false
+unfolding reaches isField partAfter
+plain-ahead book [] at i = refl
+plain-ahead book (b ∷ s) at i = go (eqb i at) refl (plain-ahead book s (at + 1) i)
   where
-    go : (t : Bool) → eqb i at ≡ t → reaches Plain s (at + 1) i ≡ false → reaches Plain (b ∷ s) at i ≡ false
-    go true e rest = reach-here Plain b s at i e
-    go false e rest = reach-next Plain b s at i e ∙ rest
+    go : (t : Bool) → eqb i at ≡ t → reaches book Plain s (at + 1) i ≡ false → reaches book Plain (b ∷ s) at i ≡ false
+    go true e rest = reach-here book Plain b s at i e
+    go false e rest = reach-next book Plain b s at i e ∙ rest
 
--- a byte that leads from a part, which is none of the field, to another
-module _ (part : Part) (out : isField part ≡ false) (b : ℕ) (s : List ℕ) (at i : ℕ) where
-  here-none : eqb i at ≡ true → reaches part (b ∷ s) at i ≡ false
-  unfolding _and_
-  here-none e = reach-here part b s at i e ∙ rw out
-
-  pub to-plain : partAfter part b ≡ Plain → reaches part (b ∷ s) at i ≡ false
-  to-plain p = go (eqb i at) refl
+-- a byte that is not in the field, and leads from a part to another
+module _ (book : Book) (part : Part) (b : ℕ) (out : isField part b ≡ false) (s : List ℕ) (at i : ℕ) where
+  -- what is seen behind it is seen before it, where that is not the byte itself
+  pub to-next : {x : Bool} {next : Part} → partAfter book part b ≡ next → (i ≡ at → x ≡ false) → reaches book next s (at + 1) i ≡ x → reaches book part (b ∷ s) at i ≡ x
+  to-next {x} p none rest = go (eqb i at) refl
     where
-      go : (t : Bool) → eqb i at ≡ t → reaches part (b ∷ s) at i ≡ false
-      go true e = here-none e
-      go false e = reach-next part b s at i e ∙ rw p (plain-ahead s (at + 1) i)
+      go : (t : Bool) → eqb i at ≡ t → reaches book part (b ∷ s) at i ≡ x
+      go true q = (reach-here book part b s at i q ∙ out) ∙ sym (none (eqb-true i at q))
+      go false q = reach-next book part b s at i q ∙ rw p rest
 
-  pub to-part : (may : Bool) (a e : ℕ) {next : Part} → partAfter part b ≡ next → at < a → reaches next s (at + 1) i ≡ (may and range a i e) → reaches part (b ∷ s) at i ≡ (may and range a i e)
-  to-part may a e p l rest = go (eqb i at) refl
-    where
-      go : (t : Bool) → eqb i at ≡ t → reaches part (b ∷ s) at i ≡ (may and range a i e)
-      go true q = let h = eqb-true i at q in here-none q ∙ sym (ap (λ (t : Bool). may and t) (range-before a i e (omega arith)) ∙ and-false may)
-      go false q = reach-next part b s at i q ∙ rw p rest
+  pub to-plain : partAfter book part b ≡ Plain → reaches book part (b ∷ s) at i ≡ false
+  to-plain p = to-next p (λ q. refl) (plain-ahead book s (at + 1) i)
+
+  pub to-part : (may : Bool) (a e : ℕ) {next : Part} → partAfter book part b ≡ next → at < a → reaches book next s (at + 1) i ≡ (may and range a i e) → reaches book part (b ∷ s) at i ≡ (may and range a i e)
+  to-part may a e p l rest = to-next p (λ q. ap (λ (t : Bool). may and t) (range-before a i e (omega arith)) ∙ and-false may) rest
 
 -- inside the field: up to the first `*`
-pub field-ahead : (s : List ℕ) (at i : ℕ) → reaches Field s at i ≡ range at i (star s at)
-unfolding reaches firstIn isField partAfter _and_
-field-ahead [] at i = sym (range-none at i at (omega arith))
-field-ahead (b ∷ s) at i = go (byte "*" b) refl (field-ahead s (at + 1) i)
+pub field-ahead : (book : Book) (s : List ℕ) (at i : ℕ) → reaches book Field s at i ≡ range at i (star s at)
+unfolding reaches firstIn isField partAfter
+field-ahead book [] at i = sym (range-none at i at (omega arith))
+field-ahead book (b ∷ s) at i = go (byte "*" b) refl (field-ahead book s (at + 1) i)
   where
-    starred : byte "*" b ≡ true → (t : Bool) → eqb i at ≡ t → reaches Field (b ∷ s) at i ≡ false
-    starred f true e = reach-here Field b s at i e ∙ rw f
-    starred f false e = reach-next Field b s at i e ∙ rw f (plain-ahead s (at + 1) i)
+    starred : byte "*" b ≡ true → (t : Bool) → eqb i at ≡ t → reaches book Field (b ∷ s) at i ≡ false
+    starred f true e = reach-here book Field b s at i e ∙ rw f
+    starred f false e = reach-next book Field b s at i e ∙ rw f (plain-ahead book s (at + 1) i)
 
-    more : byte "*" b ≡ false → (t : Bool) → eqb i at ≡ t → reaches Field s (at + 1) i ≡ range (at + 1) i (star s (at + 1)) → reaches Field (b ∷ s) at i ≡ range at i (star s (at + 1))
+    more : byte "*" b ≡ false → (t : Bool) → eqb i at ≡ t → reaches book Field s (at + 1) i ≡ range (at + 1) i (star s (at + 1)) → reaches book Field (b ∷ s) at i ≡ range at i (star s (at + 1))
     more f true e rest =
         let h = eqb-true i at e in
         let k = in-from (byte "*") s (at + 1) .0 in
-        (reach-here Field b s at i e ∙ rw f) ∙ sym (range-in at i (star s (at + 1)) (omega arith) (omega arith))
-    more f false e rest = (reach-next Field b s at i e ∙ rw f rest) ∙ sym (range-next at i (star s (at + 1)) (eqb-false i at e))
+        (reach-here book Field b s at i e ∙ rw f) ∙ sym (range-in at i (star s (at + 1)) (omega arith) (omega arith))
+    more f false e rest = (reach-next book Field b s at i e ∙ rw f rest) ∙ sym (range-next at i (star s (at + 1)) (eqb-false i at e))
 
-    go : (t : Bool) → byte "*" b ≡ t → reaches Field s (at + 1) i ≡ range (at + 1) i (star s (at + 1)) → reaches Field (b ∷ s) at i ≡ range at i (star (b ∷ s) at)
+    go : (t : Bool) → byte "*" b ≡ t → reaches book Field s (at + 1) i ≡ range (at + 1) i (star s (at + 1)) → reaches book Field (b ∷ s) at i ≡ range at i (star (b ∷ s) at)
     go true f rest = starred f (eqb i at) refl ∙ sym (ap (range at i) (first-here (byte "*") b s at f) ∙ range-none at i at (omega arith))
     go false f rest = more f (eqb i at) refl rest ∙ sym (ap (range at i) (first-later (byte "*") b s at f))
+
+-- behind `G4`: up to the first `*`, where no digit comes first
+pub short-ahead : (book : Book) (s : List ℕ) (at i : ℕ) → reaches book CodeG4 s at i ≡ (not (isDigit (getD s 0 0)) and range at i (star s at))
+unfolding reaches firstIn isField partAfter beginsText isDigit _and_ _or_
+short-ahead book [] at i = sym (range-none at i at (omega arith))
+short-ahead book (b ∷ s) at i = go (isDigit b) refl (eqb i at) refl
+  where
+    alike : isDigit b ≡ false → (t : Bool) → byte "*" b ≡ t → partAfter book CodeG4 b ≡ partAfter book Field b
+    alike e true f = rw (e, f)
+    alike e false f = rw (e, f)
+
+    go : (t : Bool) → isDigit b ≡ t → (u : Bool) → eqb i at ≡ u → reaches book CodeG4 (b ∷ s) at i ≡ (not (isDigit b) and range at i (star (b ∷ s) at))
+    go true e u f = rw e (to-plain book CodeG4 b (rw e) s at i (rw e))
+    go false e true f = rw e (reach-here book CodeG4 b s at i f ∙ rw e (sym (reach-here book Field b s at i f)) ∙ field-ahead book (b ∷ s) at i)
+    go false e false f =
+        rw e (reach-next book CodeG4 b s at i f ∙ ap (λ p. reaches book p s (at + 1) i) (alike e (byte "*" b) refl) ∙ sym (reach-next book Field b s at i f) ∙ field-ahead book (b ∷ s) at i)
 
 -- `true and` makes no difference: what is known of a part that surely leads to the field
 pub holds : {t : Bool} {x : Bool} → t ≡ x → t ≡ (true and x)
@@ -133,36 +149,36 @@ unfolding _and_
 bare e = e
 
 -- before the comma: from the byte behind it up to the first `*`
-pub named-ahead : (s : List ℕ) (at i : ℕ) → reaches Named s at i ≡ range (comma s at + 1) i (star s at)
+pub named-ahead : (book : Book) (s : List ℕ) (at i : ℕ) → reaches book Named s at i ≡ range (comma s at + 1) i (star s at)
 unfolding reaches firstIn isField partAfter
-named-ahead [] at i = sym (range-none (at + 1) i at (omega arith))
-named-ahead (b ∷ s) at i = go (byte "*" b) refl (byte "," b) refl (named-ahead s (at + 1) i)
+named-ahead book [] at i = sym (range-none (at + 1) i at (omega arith))
+named-ahead book (b ∷ s) at i = go (byte "*" b) refl (byte "," b) refl (named-ahead book s (at + 1) i)
   where
-    out : isField Named ≡ false
+    out : isField Named b ≡ false
     out = refl
 
-    starred : byte "*" b ≡ true → partAfter Named b ≡ Plain
+    starred : byte "*" b ≡ true → partAfter book Named b ≡ Plain
     starred f = rw f
 
-    behind : byte "*" b ≡ false → byte "," b ≡ true → partAfter Named b ≡ Field
+    behind : byte "*" b ≡ false → byte "," b ≡ true → partAfter book Named b ≡ Field
     behind f g = rw (f, g)
 
-    before : byte "*" b ≡ false → byte "," b ≡ false → partAfter Named b ≡ Named
+    before : byte "*" b ≡ false → byte "," b ≡ false → partAfter book Named b ≡ Named
     before f g = rw (f, g)
 
     ends : byte "*" b ≡ false → star (b ∷ s) at ≡ star s (at + 1)
     ends f = first-later (byte "*") b s at f
 
-    go : (t : Bool) → byte "*" b ≡ t → (u : Bool) → byte "," b ≡ u → reaches Named s (at + 1) i ≡ range (comma s (at + 1) + 1) i (star s (at + 1)) →
-        reaches Named (b ∷ s) at i ≡ range (comma (b ∷ s) at + 1) i (star (b ∷ s) at)
+    go : (t : Bool) → byte "*" b ≡ t → (u : Bool) → byte "," b ≡ u → reaches book Named s (at + 1) i ≡ range (comma s (at + 1) + 1) i (star s (at + 1)) →
+        reaches book Named (b ∷ s) at i ≡ range (comma (b ∷ s) at + 1) i (star (b ∷ s) at)
     go true f u g rest =
         let k = in-from (byte ",") (b ∷ s) at .0 in
-        to-plain Named out b s at i (starred f)
+        to-plain book Named b out s at i (starred f)
         ∙ sym (ap (range (comma (b ∷ s) at + 1) i) (first-here (byte "*") b s at f) ∙ range-none (comma (b ∷ s) at + 1) i at (omega arith))
     go false f true g rest =
-        bare (to-part Named out b s at i true (at + 1) (star s (at + 1)) (behind f g) (omega arith) (holds (field-ahead s (at + 1) i)))
+        bare (to-part book Named b out s at i true (at + 1) (star s (at + 1)) (behind f g) (omega arith) (holds (field-ahead book s (at + 1) i)))
         ∙ sym (λ j. range (first-here (byte ",") b s at g j + 1) i (ends f j))
     go false f false g rest =
         let k = in-from (byte ",") s (at + 1) .0 in
-        bare (to-part Named out b s at i true (comma s (at + 1) + 1) (star s (at + 1)) (before f g) (omega arith) (holds rest))
+        bare (to-part book Named b out s at i true (comma s (at + 1) + 1) (star s (at + 1)) (before f g) (omega arith) (holds rest))
         ∙ sym (λ j. range (first-later (byte ",") b s at g j + 1) i (ends f j))

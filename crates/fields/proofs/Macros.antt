@@ -6,18 +6,22 @@ use mathlib.Core.Bool.{Bool, true, false, cond, not, false≢true}
 use mathlib.Core.List.{List, _∷_}
 use native.Mathlib.Omega.{arith}
 use lib.Dec.{eqb}
+use Rattle.base.specs.And.{_and_}
 use Rattle.base.specs.Bytes.{sameBytes}
 use Rattle.base.specs.Or.{_or_}
 use Rattle.text.specs.Text.{_begins_}
-use Rattle.fields.specs.Parts.{isPlain, partAfter, opensMacro}
+use Rattle.book.specs.Books.{isOld}
+use Rattle.book.specs.declared.Book.{Book}
+use Rattle.fields.specs.Parts.{beginsText, isPlain, partAfter, opensMacro}
 use Rattle.fields.specs.declared.Part.{Part}
-use Rattle.fields.specs.declared.Part.the-variants.{Start, CodeG, CodeG0, Mark, MarkA, MarkT, Named, Field, Plain}
+use Rattle.fields.specs.declared.Part.the-variants.{Start, CodeG, CodeG0, CodeG4, Mark, MarkA, MarkT, Named, Field, Plain}
 
 -- these bytes make no macro of the command
 unfoldable pub noMacro : Part → List ℕ → Bool
 noMacro Start s = true
 noMacro CodeG s = true
 noMacro CodeG0 s = true
+noMacro CodeG4 s = true
 noMacro Mark s = not (s begins "AM")
 noMacro MarkA s = not (s begins "M")
 noMacro MarkT s = true
@@ -34,6 +38,7 @@ unfolding noMacro opensMacro sameBytes
 macro-none Start b s e = refl
 macro-none CodeG b s e = refl
 macro-none CodeG0 b s e = refl
+macro-none CodeG4 b s e = refl
 macro-none Mark b s e = refl
 macro-none MarkA b s e = go (eqb b 77) refl
   where
@@ -45,22 +50,24 @@ macro-none Named b s e = refl
 macro-none Field b s e = refl
 macro-none Plain b s e = refl
 
-pub macro-stays : (part : Part) (b : ℕ) (s : List ℕ) → noMacro part (b ∷ s) ≡ true → noMacro (partAfter part b) s ≡ true
+pub macro-stays : (book : Book) (part : Part) (b : ℕ) (s : List ℕ) → noMacro part (b ∷ s) ≡ true → noMacro (partAfter book part b) s ≡ true
 unfolding noMacro partAfter sameBytes
-macro-stays Start b s e = plain-no-macro (eqb b 71) CodeG Plain s refl refl
-macro-stays CodeG b s e = plain-no-macro (eqb b 48) CodeG0 Plain s refl refl
-macro-stays CodeG0 b s e = plain-no-macro (eqb b 52) Field Plain s refl refl
-macro-stays Mark b s e = go (eqb b 65) refl (eqb b 84) refl
+macro-stays book Start b s e = plain-no-macro (eqb b 71) CodeG Plain s refl refl
+macro-stays book CodeG b s e =
+    plain-no-macro (eqb b 48) CodeG0 (cond (isOld book and eqb b 52) CodeG4 Plain) s refl (plain-no-macro (isOld book and eqb b 52) CodeG4 Plain s refl refl)
+macro-stays book CodeG0 b s e = plain-no-macro (eqb b 52) Field Plain s refl refl
+macro-stays book CodeG4 b s e = plain-no-macro (beginsText b) Field Plain s refl refl
+macro-stays book Mark b s e = go (eqb b 65) refl (eqb b 84) refl
   where
     go : (t : Bool) → eqb b 65 ≡ t → (u : Bool) → eqb b 84 ≡ u → noMacro (cond (eqb b 65) MarkA (cond (eqb b 84) MarkT Plain)) s ≡ true
     go true f u g = rw f (rw (sameBytes, f) at e)
     go false f true g = rw (f, g)
     go false f false g = rw (f, g)
-macro-stays MarkA b s e = refl
-macro-stays MarkT b s e = plain-no-macro (eqb b 70 or eqb b 65 or eqb b 79) Named Plain s refl refl
-macro-stays Named b s e = plain-no-macro (eqb b 42) Plain (cond (eqb b 44) Field Named) s refl (plain-no-macro (eqb b 44) Field Named s refl refl)
-macro-stays Field b s e = plain-no-macro (eqb b 42) Plain Field s refl refl
-macro-stays Plain b s e = refl
+macro-stays book MarkA b s e = refl
+macro-stays book MarkT b s e = plain-no-macro (eqb b 70 or eqb b 65 or eqb b 79) Named Plain s refl refl
+macro-stays book Named b s e = plain-no-macro (eqb b 42) Plain (cond (eqb b 44) Field Named) s refl (plain-no-macro (eqb b 44) Field Named s refl refl)
+macro-stays book Field b s e = plain-no-macro (eqb b 42) Plain Field s refl refl
+macro-stays book Plain b s e = refl
 
 -- the part of which no field and no macro comes
 pub only-plain : (part : Part) → isPlain part ≡ true → part ≡ Plain
@@ -68,6 +75,7 @@ unfolding isPlain
 only-plain Start e = absurd (false≢true e)
 only-plain CodeG e = absurd (false≢true e)
 only-plain CodeG0 e = absurd (false≢true e)
+only-plain CodeG4 e = absurd (false≢true e)
 only-plain Mark e = absurd (false≢true e)
 only-plain MarkA e = absurd (false≢true e)
 only-plain MarkT e = absurd (false≢true e)

@@ -1,27 +1,38 @@
 -- How much of a command's text is known, byte by byte: as much as tells where its field is, and whether it is a macro's.
 use Prim.Native.Nat.{ℕ}
 use Prim.Native.Char.{code}
-use mathlib.Core.Bool.{Bool, true, false, cond}
+use mathlib.Core.Bool.{Bool, true, false, cond, not}
 use lib.Dec.{eqb}
+use Rattle.base.specs.And.{_and_}
 use Rattle.base.specs.Or.{_or_}
+use Rattle.digits.specs.Digits.{isDigit}
+use Rattle.book.specs.Books.{isOld}
+use Rattle.book.specs.declared.Book.{Book}
 use Rattle.fields.specs.declared.Part.{Part}
-use Rattle.fields.specs.declared.Part.the-variants.{Start, CodeG, CodeG0, Mark, MarkA, MarkT, Named, Field, Plain}
+use Rattle.fields.specs.declared.Part.the-variants.{Start, CodeG, CodeG0, CodeG4, Mark, MarkA, MarkT, Named, Field, Plain}
 
-unfoldable pub isField : Part → Bool
-isField Start = false
-isField CodeG = false
-isField CodeG0 = false
-isField Mark = false
-isField MarkA = false
-isField MarkT = false
-isField Named = false
-isField Field = true
-isField Plain = false
+-- behind `G4` G04's text begins with this byte: with a digit the code is another one, with `*` there is no text
+unfoldable pub beginsText : ℕ → Bool
+beginsText b = not (isDigit b or eqb b (code "*"))
+
+-- this byte, which comes next, is in the field
+unfoldable pub isField : Part → ℕ → Bool
+isField Start b = false
+isField CodeG b = false
+isField CodeG0 b = false
+isField CodeG4 b = beginsText b
+isField Mark b = false
+isField MarkA b = false
+isField MarkT b = false
+isField Named b = false
+isField Field b = not (eqb b (code "*"))
+isField Plain b = false
 
 unfoldable pub isPlain : Part → Bool
 isPlain Start = false
 isPlain CodeG = false
 isPlain CodeG0 = false
+isPlain CodeG4 = false
 isPlain Mark = false
 isPlain MarkA = false
 isPlain MarkT = false
@@ -30,22 +41,24 @@ isPlain Field = false
 isPlain Plain = true
 
 -- the part behind a byte
-unfoldable pub partAfter : Part → ℕ → Part
-partAfter Start b = cond (eqb b (code "G")) CodeG Plain
-partAfter CodeG b = cond (eqb b (code "0")) CodeG0 Plain
-partAfter CodeG0 b = cond (eqb b (code "4")) Field Plain
-partAfter Mark b = cond (eqb b (code "A")) MarkA (cond (eqb b (code "T")) MarkT Plain)
-partAfter MarkA b = Plain
-partAfter MarkT b = cond (eqb b (code "F") or eqb b (code "A") or eqb b (code "O")) Named Plain
-partAfter Named b = cond (eqb b (code "*")) Plain (cond (eqb b (code ",")) Field Named)
-partAfter Field b = cond (eqb b (code "*")) Plain Field
-partAfter Plain b = Plain
+unfoldable pub partAfter : Book → Part → ℕ → Part
+partAfter book Start b = cond (eqb b (code "G")) CodeG Plain
+partAfter book CodeG b = cond (eqb b (code "0")) CodeG0 (cond (isOld book and eqb b (code "4")) CodeG4 Plain)
+partAfter book CodeG0 b = cond (eqb b (code "4")) Field Plain
+partAfter book CodeG4 b = cond (beginsText b) Field Plain
+partAfter book Mark b = cond (eqb b (code "A")) MarkA (cond (eqb b (code "T")) MarkT Plain)
+partAfter book MarkA b = Plain
+partAfter book MarkT b = cond (eqb b (code "F") or eqb b (code "A") or eqb b (code "O")) Named Plain
+partAfter book Named b = cond (eqb b (code "*")) Plain (cond (eqb b (code ",")) Field Named)
+partAfter book Field b = cond (eqb b (code "*")) Plain Field
+partAfter book Plain b = Plain
 
 -- the byte is the M of `%AM`
 unfoldable pub opensMacro : Part → ℕ → Bool
 opensMacro Start b = false
 opensMacro CodeG b = false
 opensMacro CodeG0 b = false
+opensMacro CodeG4 b = false
 opensMacro Mark b = false
 opensMacro MarkA b = eqb b (code "M")
 opensMacro MarkT b = false

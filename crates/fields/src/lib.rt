@@ -1,14 +1,16 @@
 // Where the field of a command is, told byte by byte, no byte ahead being known.
+use book::Book;
 ghost use mathlib.Core.Path.{_≡_};
 ghost use mathlib.Core.Bool.{cond};
-ghost use Rattle.fields.specs.Parts.{isField, isPlain, partAfter, opensMacro};
+ghost use Rattle.fields.specs.Parts.{beginsText, isField, isPlain, partAfter, opensMacro};
 
-// How much of a command's text is known: nothing yet; `G`; `G0`; nothing behind `%`; `%A`; `%T`; `%TF`, `%TA` or `%TO` before the
-// comma; inside a field; that no field comes any more.
+// How much of a command's text is known: nothing yet; `G`; `G0`; the `G4` of the old book; nothing behind `%`; `%A`; `%T`; `%TF`, `%TA` or
+// `%TO` before the comma; inside a field; that no field comes any more.
 pub enum Part {
     Start,
     CodeG,
     CodeG0,
+    CodeG4,
     Mark,
     MarkA,
     MarkT,
@@ -17,19 +19,27 @@ pub enum Part {
     Plain,
 }
 
-// The next byte is in the field, if it is no `*`.
-pub fn in_field(part: Part) -> bool
-    ensures { λ r. ⌜ r ≡ isField part ⌝ }
+// Behind `G4` G04's text begins with this byte.
+fn does_begin_text(b: u8) -> bool
+    ensures { λ r. ⌜ r ≡ beginsText b ⌝ }
+{
+    !base::either(digits::is_digit(b), b == b'*')
+}
+
+// The next byte, b, is in the field.
+pub fn in_field(part: Part, b: u8) -> bool
+    ensures { λ r. ⌜ r ≡ isField part b ⌝ }
 {
     match part {
         Part::Start => false,
         Part::CodeG => false,
         Part::CodeG0 => false,
+        Part::CodeG4 => does_begin_text(b),
         Part::Mark => false,
         Part::MarkA => false,
         Part::MarkT => false,
         Part::Named => false,
-        Part::Field => true,
+        Part::Field => b != b'*',
         Part::Plain => false,
     }
 }
@@ -42,6 +52,7 @@ pub fn is_plain(part: Part) -> bool
         Part::Start => false,
         Part::CodeG => false,
         Part::CodeG0 => false,
+        Part::CodeG4 => false,
         Part::Mark => false,
         Part::MarkA => false,
         Part::MarkT => false,
@@ -62,13 +73,22 @@ fn pick(first: bool, p: Part, q: Part) -> Part
 }
 
 // The part behind a byte.
-pub fn part_after(part: Part, b: u8) -> Part
-    ensures { λ r. ⌜ r ≡ partAfter part b ⌝ }
+pub fn part_after(book: Book, part: Part, b: u8) -> Part
+    ensures { λ r. ⌜ r ≡ partAfter book part b ⌝ }
 {
     match part {
         Part::Start => pick(b == b'G', Part::CodeG, Part::Plain),
-        Part::CodeG => pick(b == b'0', Part::CodeG0, Part::Plain),
+        Part::CodeG => pick(
+            b == b'0',
+            Part::CodeG0,
+            pick(
+                base::both(book::is_old(book), b == b'4'),
+                Part::CodeG4,
+                Part::Plain,
+            ),
+        ),
         Part::CodeG0 => pick(b == b'4', Part::Field, Part::Plain),
+        Part::CodeG4 => pick(does_begin_text(b), Part::Field, Part::Plain),
         Part::Mark => pick(
             b == b'A',
             Part::MarkA,
@@ -98,6 +118,7 @@ pub fn opens_macro(part: Part, b: u8) -> bool
         Part::Start => false,
         Part::CodeG => false,
         Part::CodeG0 => false,
+        Part::CodeG4 => false,
         Part::Mark => false,
         Part::MarkA => b == b'M',
         Part::MarkT => false,

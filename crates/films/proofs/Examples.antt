@@ -14,13 +14,13 @@ use Rattle.films.specs.Codes.{laterCodes, codeOf, endsInOne, operationIn
 use Rattle.films.specs.Parameters.{isRefused}
 use Rattle.films.specs.Words.{commentOf, operateOf, codedOf, generalOf, miscellaneousOf, otherOf, wordOf}
 use Rattle.films.specs.declared.Word.{Word}
-use Rattle.films.specs.declared.Word.the-variants.{NotForm, Note, End, Code, Select, Operate}
+use Rattle.films.specs.declared.Word.the-variants.{NotForm, Note, Halt, End, Code, Select, Operate}
 
 -- codes of one digit and of two, alone
 alone :
     _≡_ {A = List Word}
     (wordOf (text "G1") ∷ wordOf (text "G01") ∷ wordOf (text "G74") ∷ wordOf (text "G91") ∷ wordOf (text "M0") ∷ wordOf (text "M01") ∷ wordOf (text "M02") ∷ wordOf (text "M2") ∷ [])
-    (Code 1 ∷ Code 1 ∷ Code 74 ∷ Code 91 ∷ Note ∷ Note ∷ End ∷ End ∷ [])
+    (Code 1 ∷ Code 1 ∷ Code 74 ∷ Code 91 ∷ Halt ∷ Halt ∷ End ∷ End ∷ [])
 unfolding wordOf generalOf miscellaneousOf otherOf codedOf operateOf commentOf codeOf laterCodes operationIn operationLength endsInOne isEnd pick among firstIn sameBytes isDigit _and_ _or_
 alone = refl
 

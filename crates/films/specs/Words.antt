@@ -12,7 +12,7 @@ use Rattle.text.specs.Text.{byte, _is_, _begins_, among}
 use Rattle.digits.specs.Digits.{isDigit, pastDigits}
 use Rattle.films.specs.Codes.{codeOf, operationIn, operationLength, isEnd}
 use Rattle.films.specs.declared.Word.{Word}
-use Rattle.films.specs.declared.Word.the-variants.{NotForm, Note, End, Code, Select, Operate}
+use Rattle.films.specs.declared.Word.the-variants.{NotForm, Note, Halt, End, Code, Select, Operate}
 
 -- a comment, in which no `%` stands
 unfoldable pub commentOf : List ℕ → Word
@@ -48,7 +48,7 @@ unfoldable pub miscellaneousOf : List ℕ → Word
 miscellaneousOf s =
     choose
     ((isEnd s, End)
-    ∷ ((s is "M00" or s is "M0") or (s is "M01" or s is "M1"), Note)
+    ∷ ((s is "M00" or s is "M0") or (s is "M01" or s is "M1"), Halt)
     ∷ [])
     NotForm
 

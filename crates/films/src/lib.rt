@@ -13,8 +13,10 @@ ghost use Rattle.films.specs.Words.{commentOf, operateOf, codedOf, gener
 pub enum Word {
     // 4: unknown, or not of its form
     NotForm,
-    // G04, M00, M01
+    // G04
     Note,
+    // M00, M01
+    Halt,
     // M02
     End,
     // a G code alone
@@ -194,7 +196,7 @@ fn miscellaneous_of(s: &[u8]) -> Word
     let stop = base::either(text::is(s, b"M00"), text::is(s, b"M0"));
     let optional = base::either(text::is(s, b"M01"), text::is(s, b"M1"));
     if base::either(stop, optional) {
-        return Word::Note;
+        return Word::Halt;
     }
     Word::NotForm
 }

@@ -1,6 +1,6 @@
-// Whether an operation fits the state: each test is one of document 01's sentences about 6 and 11 to 15, or document 02's about 29.
+// Whether an operation fits the state: each test is one of document 01's sentences about 6, 11 and 13 to 15, or document 02's about 5 and 29.
 ghost use mathlib.Core.Path.{_≡_};
-ghost use Rattle.fits.specs.Fits.{isMissing, unready, placeless, brushless, circular, hasOffset, arcless, drawMisfits, flashMisfits, moveless, offsetOf, badCentre, unclosed, askew, tooTall};
+ghost use Rattle.fits.specs.Fits.{isMissing, drawsFar, unready, placeless, circular, hasBrush, brushless, hasOffset, isSigned, quadrantless, arcless, drawMisfits, flashMisfits, moveless, offsetOf, unclosed, askew, tooTall};
 use command::Axis;
 use command::Offset;
 use graphics::Graphics;
@@ -23,7 +23,17 @@ fn has_offset(o: Offset) -> bool
 {
     match o {
         Offset::Missing => false,
-        Offset::By(p) => true,
+        Offset::By { .. } => true,
+    }
+}
+
+// I or J is given with a sign.
+fn is_signed(o: Offset) -> bool
+    ensures { λ r. ⌜ r ≡ isSigned o ⌝ }
+{
+    match o {
+        Offset::Missing => false,
+        Offset::By { signed, .. } => signed,
     }
 }
 
@@ -33,15 +43,28 @@ pub fn offset_of(o: Offset) -> Point
 {
     match o {
         Offset::Missing => Point { x: 0, y: 0 },
-        Offset::By(p) => p,
+        Offset::By { offset, .. } => offset,
     }
 }
 
-// 6: FS or MO is missing.
+// 5 at D01.
+pub fn draws_far(g: Graphics, x: Axis, y: Axis, o: Offset) -> bool
+    ensures { λ r. ⌜ r ≡ drawsFar g x y o ⌝ }
+{
+    base::either(
+        reach::goes_far(g, x, y),
+        base::both(reach::is_formatted(g), reach::is_far(offset_of(o))),
+    )
+}
+
+// 6: FS is missing, or the unit is.
 pub fn is_unready(g: Graphics) -> bool
     ensures { λ r. ⌜ r ≡ unready g ⌝ }
 {
-    base::either(g.format.digits == 0, g.format.unit == 0)
+    base::either(
+        !reach::is_formatted(g),
+        base::both(g.header.unit == 0, g.header.coded == 0),
+    )
 }
 
 // 11: a coordinate is missing, and there is no current point.
@@ -51,13 +74,6 @@ pub fn is_placeless(g: Graphics, x: Axis, y: Axis) -> bool
     base::both(!g.point.set, base::either(is_missing(x), is_missing(y)))
 }
 
-// 11: outside a region a D01 needs a C without hole.
-fn is_brushless(g: Graphics) -> bool
-    ensures { λ r. ⌜ r ≡ brushless g ⌝ }
-{
-    base::both(!g.region.on, !base::both(g.aperture.set, g.aperture.circle))
-}
-
 // A D01 draws an arc.
 pub fn is_circular(g: Graphics) -> bool
     ensures { λ r. ⌜ r ≡ circular g ⌝ }
@@ -65,14 +81,39 @@ pub fn is_circular(g: Graphics) -> bool
     g.mode >= 2
 }
 
-// 11: I and J without an arc, an arc without them, or before any G75.
+// The current aperture draws here: a C without hole, or a line of the old edition with an R without one.
+fn has_brush(g: Graphics) -> bool
+    ensures { λ r. ⌜ r ≡ hasBrush g ⌝ }
+{
+    let strip = base::both(g.aperture.rectangle, !is_circular(g));
+    base::both(
+        g.aperture.set,
+        base::either(g.aperture.circle, base::both(g.old, strip)),
+    )
+}
+
+// 11: outside a region a D01 needs an aperture that draws.
+fn is_brushless(g: Graphics) -> bool
+    ensures { λ r. ⌜ r ≡ brushless g ⌝ }
+{
+    base::both(!g.region.on, !has_brush(g))
+}
+
+// 11: an arc before any G75; in the old edition, an arc under G74 with a sign.
+fn is_quadrantless(g: Graphics, o: Offset) -> bool
+    ensures { λ r. ⌜ r ≡ quadrantless g o ⌝ }
+{
+    base::both(!g.quadrants, base::either(!g.old, is_signed(o)))
+}
+
+// 11: I and J without an arc, an arc without them, or one that the quadrant mode does not take.
 fn is_arcless(g: Graphics, o: Offset) -> bool
     ensures { λ r. ⌜ r ≡ arcless g o ⌝ }
 {
     let arc = is_circular(g);
     base::either(
         place::differ(arc, has_offset(o)),
-        base::both(arc, !g.quadrants),
+        base::both(arc, is_quadrantless(g, o)),
     )
 }
 
@@ -91,23 +132,15 @@ pub fn flash_misfits(g: Graphics, x: Axis, y: Axis) -> bool
     base::either(is_placeless(g, x, y), !g.aperture.set)
 }
 
-// 29: a contour begins here, and no D02 stood since G36.
+// 29: a contour begins here, and no D02 stood since G36; not in the old edition.
 pub fn is_moveless(g: Graphics) -> bool
     ensures { λ r. ⌜ r ≡ moveless g ⌝ }
 {
     let r = g.region;
-    base::both(changes::starts_contour(r), !g.region.moved)
-}
-
-// 12: the centre of the arc to end is nonsensical.
-pub fn bad_centre(g: Graphics, end: Point, o: Offset) -> bool
-    ensures { λ r. ⌜ r ≡ badCentre g end o ⌝ }
-{
-    if is_circular(g) {
-        let start = g.point.at;
-        return reckon::bad_centre(start, end, offset_of(o));
-    }
-    false
+    base::both(
+        !g.old,
+        base::both(changes::starts_contour(r), !g.region.moved),
+    )
 }
 
 // 13: a contour is open, and its last point is not its first.

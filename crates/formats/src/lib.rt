@@ -4,7 +4,7 @@ ghost use Prim.Native.Nat.{_*_, _-_, _^_, _<_, _≤_};
 ghost use lib.IntN.{ℤ, natAbs};
 ghost use lib.ListN.{length};
 ghost use Rattle.digits.specs.declared.answers.Coordinate.the-variants.{Value};
-ghost use Rattle.formats.specs.Format.{isFormat, inForce, placesOf};
+ghost use Rattle.formats.specs.Format.{isFormat, noFormat, inForce, placesOf};
 ghost use Rattle.formats.specs.Texts.{ofForm, newerFormat, oldFormat};
 ghost use Rattle.formats.specs.Values.{takenIn};
 ghost use Rattle.formats.specs.Raised.{Few, zerosBehind, raised};
@@ -27,6 +27,18 @@ pub enum Said {
     // 30: seven places, which are in the old book and are not read
     SevenPlaces,
     Is(Format),
+}
+
+// None, as it is before FS.
+pub fn no_format() -> Format
+    ensures { λ r. ⌜ r ≡ noFormat ⌝ }
+{
+    Format {
+        integers: 0,
+        decimals: 0,
+        trailing: false,
+        incremental: false,
+    }
 }
 
 // The digit that a byte writes, 0 below '0'.

@@ -1,13 +1,15 @@
 // The state, by value: the graphics state, which is what the commands so far have set, and what stands open.
 ghost use mathlib.Core.Path.{_≡_};
-ghost use Rattle.graphics.specs.Graphics.{start, withFormat, withPoint, withAperture, withMode, withQuadrants, withTransform, withRegion};
+ghost use Rattle.graphics.specs.Graphics.{start, withHeader, withNotation, withPoint, withAperture, withMode, withQuadrants, withTransform, withRegion};
 ghost use Rattle.graphics.specs.Orientation.{angleOf, angleAfter, orientation};
+use formats::Format;
 use points::Point;
 
-// FS's n and MO's unit, 1 mm or 2 inch; 0 before each.
-pub struct Format {
-    pub digits: usize,
+// What FS says, without places before it; MO's unit, and that of the first G70 or G71, 1 mm or 2 inch, 0 before each.
+pub struct Header {
+    pub format: Format,
     pub unit: u64,
+    pub coded: u64,
 }
 
 // The current point.
@@ -16,13 +18,14 @@ pub struct Current {
     pub at: Point,
 }
 
-// The current aperture: its number, its record, whether it is a C without hole, whether it is a block, and a block's items and
-// height.
+// The current aperture: its number, its record, whether it is a C without hole, or an R without one, whether it is a block, and a
+// block's items and height.
 pub struct Selected {
     pub set: bool,
     pub number: u64,
     pub slot: usize,
     pub circle: bool,
+    pub rectangle: bool,
     pub block: bool,
     pub items: u64,
     pub height: u64,
@@ -50,9 +53,12 @@ pub struct Region {
     pub first: Point,
 }
 
-// The mode is 0 before it is set, else the kind of item that a D01 draws: 1 line, 2 clockwise, 3 counterclockwise.
+// Whether the edition is the old book's, which nothing changes; whether coordinates count from the current point. The mode is 0 before it
+// is set, else the kind of item that a D01 draws: 1 line, 2 clockwise, 3 counterclockwise; G75 is in force where `quadrants` is.
 pub struct Graphics {
-    pub format: Format,
+    pub old: bool,
+    pub header: Header,
+    pub incremental: bool,
     pub point: Current,
     pub aperture: Selected,
     pub mode: u64,
@@ -78,13 +84,24 @@ pub struct Orientation {
     pub angle: u64,
 }
 
-// The state at the start of a file.
-pub fn start() -> Graphics
-    ensures { λ r. ⌜ r ≡ start ⌝ }
+// The state at the start of a file of the old edition, or of the newer one.
+pub fn start(old: bool) -> Graphics
+    ensures { λ r. ⌜ r ≡ start old ⌝ }
 {
     let origin = Point { x: 0, y: 0 };
     Graphics {
-        format: Format { digits: 0, unit: 0 },
+        old,
+        header: Header {
+            format: Format {
+                integers: 0,
+                decimals: 0,
+                trailing: false,
+                incremental: false,
+            },
+            unit: 0,
+            coded: 0,
+        },
+        incremental: false,
         point: Current {
             set: false,
             at: origin,
@@ -94,6 +111,7 @@ pub fn start() -> Graphics
             number: 0,
             slot: 0,
             circle: false,
+            rectangle: false,
             block: false,
             items: 0,
             height: 0,
@@ -115,16 +133,40 @@ pub fn start() -> Graphics
     }
 }
 
-// The state with FS and MO set anew.
-pub fn with_format(v: Format, g: Graphics) -> Graphics
-    ensures { λ r. ⌜ r ≡ withFormat v g ⌝ }
+// The state with FS, MO and the unit's code set anew.
+pub fn with_header(v: Header, g: Graphics) -> Graphics
+    ensures { λ r. ⌜ r ≡ withHeader v g ⌝ }
 {
     let point = g.point;
     let aperture = g.aperture;
     let transform = g.transform;
     let region = g.region;
     Graphics {
-        format: v,
+        old: g.old,
+        header: v,
+        incremental: g.incremental,
+        point: point,
+        aperture: aperture,
+        mode: g.mode,
+        quadrants: g.quadrants,
+        transform: transform,
+        region: region,
+    }
+}
+
+// The state with the notation set anew: incremental, or absolute.
+pub fn with_notation(v: bool, g: Graphics) -> Graphics
+    ensures { λ r. ⌜ r ≡ withNotation v g ⌝ }
+{
+    let header = g.header;
+    let point = g.point;
+    let aperture = g.aperture;
+    let transform = g.transform;
+    let region = g.region;
+    Graphics {
+        old: g.old,
+        header: header,
+        incremental: v,
         point: point,
         aperture: aperture,
         mode: g.mode,
@@ -138,12 +180,14 @@ pub fn with_format(v: Format, g: Graphics) -> Graphics
 pub fn with_point(v: Current, g: Graphics) -> Graphics
     ensures { λ r. ⌜ r ≡ withPoint v g ⌝ }
 {
-    let format = g.format;
+    let header = g.header;
     let aperture = g.aperture;
     let transform = g.transform;
     let region = g.region;
     Graphics {
-        format: format,
+        old: g.old,
+        header: header,
+        incremental: g.incremental,
         point: v,
         aperture: aperture,
         mode: g.mode,
@@ -157,12 +201,14 @@ pub fn with_point(v: Current, g: Graphics) -> Graphics
 pub fn with_aperture(v: Selected, g: Graphics) -> Graphics
     ensures { λ r. ⌜ r ≡ withAperture v g ⌝ }
 {
-    let format = g.format;
+    let header = g.header;
     let point = g.point;
     let transform = g.transform;
     let region = g.region;
     Graphics {
-        format: format,
+        old: g.old,
+        header: header,
+        incremental: g.incremental,
         point: point,
         aperture: v,
         mode: g.mode,
@@ -176,13 +222,15 @@ pub fn with_aperture(v: Selected, g: Graphics) -> Graphics
 pub fn with_mode(v: u64, g: Graphics) -> Graphics
     ensures { λ r. ⌜ r ≡ withMode v g ⌝ }
 {
-    let format = g.format;
+    let header = g.header;
     let point = g.point;
     let aperture = g.aperture;
     let transform = g.transform;
     let region = g.region;
     Graphics {
-        format: format,
+        old: g.old,
+        header: header,
+        incremental: g.incremental,
         point: point,
         aperture: aperture,
         mode: v,
@@ -192,17 +240,19 @@ pub fn with_mode(v: u64, g: Graphics) -> Graphics
     }
 }
 
-// The state with G75 set anew.
+// The state with G74 or G75 set anew.
 pub fn with_quadrants(v: bool, g: Graphics) -> Graphics
     ensures { λ r. ⌜ r ≡ withQuadrants v g ⌝ }
 {
-    let format = g.format;
+    let header = g.header;
     let point = g.point;
     let aperture = g.aperture;
     let transform = g.transform;
     let region = g.region;
     Graphics {
-        format: format,
+        old: g.old,
+        header: header,
+        incremental: g.incremental,
         point: point,
         aperture: aperture,
         mode: g.mode,
@@ -216,12 +266,14 @@ pub fn with_quadrants(v: bool, g: Graphics) -> Graphics
 pub fn with_transform(v: Transform, g: Graphics) -> Graphics
     ensures { λ r. ⌜ r ≡ withTransform v g ⌝ }
 {
-    let format = g.format;
+    let header = g.header;
     let point = g.point;
     let aperture = g.aperture;
     let region = g.region;
     Graphics {
-        format: format,
+        old: g.old,
+        header: header,
+        incremental: g.incremental,
         point: point,
         aperture: aperture,
         mode: g.mode,
@@ -235,12 +287,14 @@ pub fn with_transform(v: Transform, g: Graphics) -> Graphics
 pub fn with_region(v: Region, g: Graphics) -> Graphics
     ensures { λ r. ⌜ r ≡ withRegion v g ⌝ }
 {
-    let format = g.format;
+    let header = g.header;
     let point = g.point;
     let aperture = g.aperture;
     let transform = g.transform;
     Graphics {
-        format: format,
+        old: g.old,
+        header: header,
+        incremental: g.incremental,
         point: point,
         aperture: aperture,
         mode: g.mode,

@@ -43,7 +43,7 @@ module _ (book : Book) (file : List ℕ) (short : length file < 2 ^ 64) (from at
 
   -- and what it comes to, by what the scanner says of the command
   abbrev pub outcome : Scan → Answer
-  outcome (Command kind place text end next) = run (settled (Complete kind) (isEnd (bare file place next))) place next
+  outcome (Command kind place text end next) = run (settled (Complete kind) (isEnd book (bare file place next))) place next
   outcome (BadByte place) = refused 2 place
   outcome (Ended place) = refused 3 place
 
@@ -73,11 +73,11 @@ module _ (book : Book) (file : List ℕ) (short : length file < 2 ^ 64) (from at
 
   -- with the byte at i taken, of a command that begins at `place`
   with-byte : (i : ℕ) → i < length file → (way : Way) (place : ℕ) → place ≤ i → (step book way (byte i) i ≡ Between → ⊥) → Inner (i + 1) →
-      run (settled (step book way (byte i) i) (isEnd (bare file place (i + 1)))) place (i + 1) ≡ outcome (walked place way i)
+      run (settled (step book way (byte i) i) (isEnd book (bare file place (i + 1)))) place (i + 1) ≡ outcome (walked place way i)
   unfolding settled
   with-byte i h way place l out rest = go (step book way (byte i) i) refl
     where
-      go : (next : Way) → step book way (byte i) i ≡ next → run (settled (step book way (byte i) i) (isEnd (bare file place (i + 1)))) place (i + 1) ≡ outcome (walked place way i)
+      go : (next : Way) → step book way (byte i) i ≡ next → run (settled (step book way (byte i) i) (isEnd book (bare file place (i + 1)))) place (i + 1) ≡ outcome (walked place way i)
       go Between e = absurd (out e)
       go (Inside s) e = rw (e, runs.at-inside book file place way i h e) (rest s place (omega arith))
       go (Complete kind) e = rw (e, runs.at-complete book file place way i h e)

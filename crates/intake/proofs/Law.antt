@@ -130,13 +130,13 @@ module _ (book : Book) (file : List ℕ) (short : length file < 2 ^ 64) where
       go : (r : Scan) → nextCommand book file at ≡ r → outcome book file short from at (nextCommand book file at) ≡ walked book (suc n) file from at
       go (BadByte place) e = rw (walked, e)
       go (Ended place) e = rw (walked, e)
-      go (Command kind place text end next) e = rw (walked, e) (by-end (isEnd (bare file place next)) refl)
+      go (Command kind place text end next) e = rw (walked, e) (by-end (isEnd book (bare file place next)) refl)
         where
           w : Within (length file) at (Command kind place text end next)
           w = rw e at (next-within book file at h)
 
-          by-end : (t : Bool) → isEnd (bare file place next) ≡ t → outcome book file short from at (Command kind place text end next)
-              ≡ elim (isEnd (bare file place next)) [ true ↦ atEnd file from at place next | false ↦ walked book n file place next ]
+          by-end : (t : Bool) → isEnd book (bare file place next) ≡ t → outcome book file short from at (Command kind place text end next)
+              ≡ elim (isEnd book (bare file place next)) [ true ↦ atEnd file from at place next | false ↦ walked book n file place next ]
           by-end true f = rw f (over-run from at place (length file) next (omega arith) (w .4) (omega (arith, w .1, w .2, w .3)) ∙ at-end from at place next)
           by-end false f = rw f (rest place next (part file from at) (w .4) (omega (arith, w .0, w .1, w .2, w .3)))
 

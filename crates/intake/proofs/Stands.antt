@@ -77,17 +77,17 @@ module _ (book : Book) (file : List ℕ) (short : length file < 2 ^ 64) (from at
 
   -- a byte with which no command begins
   pub goes : (stage : Stage) (place : ℕ) → place ≤ i → begins stage b ≡ false →
-      pushed (along book file stage from at place i) b ≡ along book file (stageAfter book stage b i (isEnd (bare file place (i + 1)))) from at place (i + 1)
+      pushed (along book file stage from at place i) b ≡ along book file (stageAfter book stage b i (isEnd book (bare file place (i + 1)))) from at place (i + 1)
   unfolding pushed
-  goes stage place h e = rw (e, grows place h, digested, counted, end-held (bare file place (i + 1)))
+  goes stage place h e = rw (e, grows place h, digested, counted, end-held book (bare file place (i + 1)))
 
   -- the first byte of a command
   pub starts : (q : Piece) → isBreak b ≡ false →
-      pushed (between book file from at i q) b ≡ along book file (settled (step book Between b i) (isEnd (bare file i (i + 1)))) from at i (i + 1)
+      pushed (between book file from at i q) b ≡ along book file (settled (step book Between b i) (isEnd book (bare file i (i + 1)))) from at i (i + 1)
   unfolding pushed begins opens stageAfter notedAll
   starts q e =
       let new : grown (piece i (fed started (bare file 0 i)) nothing) (b ∷ []) ≡ part file i (i + 1) = rw (bare-none file i) at (grows i (omega arith)) in
-      rw (e, new, digested, counted, end-held (bare file i (i + 1)))
+      rw (e, new, digested, counted, end-held book (bare file i (i + 1)))
 
   -- CR or LF between commands
   pub skips : (q : Piece) → isBreak b ≡ true → pushed (between book file from at i q) b ≡ between book file from at (i + 1) q

@@ -41,7 +41,7 @@ pushed s b =
     let this : Piece = grown (cond new (piece (s .at) (s .digest) nothing) (s .this)) (b ∷ []) in
     intake
     (s .book)
-    (stageAfter (s .book) (s .stage) b (s .at) (isEnd (textOf (this .text))))
+    (stageAfter (s .book) (s .stage) b (s .at) (isEnd (s .book) (textOf (this .text))))
     ((s .at + 1) % 2 ^ 64)
     (fed (s .digest) (unbroken (b ∷ [])))
     this

@@ -169,7 +169,7 @@ fn push(s: Intake, b: u8) -> Intake
     let new = does_begin(stage, b);
     let this = grow(pick(new, fresh(s.at, before), old), &run);
     let text = this.text;
-    let next = stage_after(book, stage, b, s.at, signature::holds_end(text));
+    let next = stage_after(book, stage, b, s.at, signature::holds_end(book, text));
     let digest = digest::feed_text(before, &run);
     let last = pick(new, old, older);
     Intake {

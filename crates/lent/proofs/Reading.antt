@@ -8,6 +8,7 @@ use mathlib.Core.List.{List, [], _∷_}
 use lib.Dec.{eqb}
 use borrow.Author.Tests.{eq-eqb}
 use Rattle.base.specs.Or.{_or_}
+use Rattle.command.specs.declared.Setting.{Setting}
 use Rattle.command.specs.declared.Operation.{Operation}
 use Rattle.command.specs.declared.Operation.the-variants as operation
 use Rattle.command.specs.declared.Definition.{Definition}
@@ -17,7 +18,7 @@ use Rattle.command.specs.declared.Bracket.the-variants as bracket
 use Rattle.command.specs.declared.Deed.{Deed}
 use Rattle.command.specs.declared.Deed.the-variants as deed
 use Rattle.command.specs.declared.Command.{Command}
-use Rattle.command.specs.declared.Command.the-variants.{Broken, Note, End, Set, Operate, Select, Define, Contain, Attribute}
+use Rattle.command.specs.declared.Command.the-variants.{Broken, Note, End, Set, Operate, Coded, Select, Define, Contain, Attribute}
 use Rattle.graphics.specs.declared.Graphics.{Graphics}
 use Rattle.changes.specs.After.{after}
 use Rattle.rules.specs.Rules.{apertureFault}
@@ -48,13 +49,14 @@ use Rattle.reading.specs.Steps.{
   repeatEndStep,
   fileAttributeStep,
   operationStep,
+  codedStep,
   definitionStep,
   bracketStep,
   deedStep,
   stepOf,
 }
 use Rattle.reading.proofs.Outcomes.{Verdict, fine, nine, ten, outcome-verdict}
-use Rattle.lent.specs.Stepped.{workedNumber, operationFault, definitionFault, bracketFault, deedFault, faultOf, behind, steppedOf}
+use Rattle.lent.specs.Stepped.{workedNumber, operationFault, codedFault, definitionFault, bracketFault, deedFault, faultOf, behind, steppedOf}
 use Rattle.lent.specs.Knowing.{workedOf, ofDefinition, ofBracket, ofDeed, knownOf}
 
 -- what an AD comes to is told whole by its case
@@ -70,6 +72,12 @@ module _ (room : Room) (t : List ℕ) (p : ℕ) (s : State) where
   operation-fault (operation.Draw x y o) = refl
   operation-fault (operation.Move x y) = refl
   operation-fault (operation.Flash x y) = refl
+
+  coded-fault : (code : Setting) (o : Operation) → codedFault (s .graphics) (s .level) code o (knownOf room t (Coded code o) s) ≡ codedStep room p code o s .fault
+  unfolding codedFault operationFault knownOf codedStep operationStep settingStep drawStep moveStep flashStep withGraphics
+  coded-fault code (operation.Draw x y o) = refl
+  coded-fault code (operation.Move x y) = refl
+  coded-fault code (operation.Flash x y) = refl
 
   definition-fault : (d : Definition) → definitionFault (s .graphics) d (ofDefinition room t d s) ≡ definitionStep room t d s .fault
   unfolding definitionFault ofDefinition definitionStep apertureStep macroStep
@@ -101,6 +109,7 @@ module _ (room : Room) (t : List ℕ) (p : ℕ) (s : State) where
   fault-of End = refl
   fault-of (Set x) = refl
   fault-of (Operate o) = operation-fault o
+  fault-of (Coded code o) = coded-fault code o
   fault-of (Select n) = refl
   fault-of (Define d) = definition-fault d
   fault-of (Contain b) = bracket-fault b
@@ -113,6 +122,12 @@ module _ (room : Room) (t : List ℕ) (p : ℕ) (s : State) where
   operation-behind (operation.Draw x y o) = refl
   operation-behind (operation.Move x y) = refl
   operation-behind (operation.Flash x y) = refl
+
+  coded-behind : (code : Setting) (o : Operation) → after (Coded code o) (s .graphics) ≡ codedStep room p code o s .next .graphics
+  unfolding after codedStep operationStep settingStep drawStep moveStep flashStep passed withLevel withGraphics
+  coded-behind code (operation.Draw x y o) = refl
+  coded-behind code (operation.Move x y) = refl
+  coded-behind code (operation.Flash x y) = refl
 
   definition-behind : (d : Definition) → s .graphics ≡ definitionStep room t d s .next .graphics
   unfolding definitionStep apertureStep macroStep withApertures withMacros withNumbers
@@ -154,6 +169,7 @@ module _ (room : Room) (t : List ℕ) (p : ℕ) (s : State) where
   graphics-behind End = refl
   graphics-behind (Set x) = refl
   graphics-behind (Operate o) = operation-behind o
+  graphics-behind (Coded code o) = coded-behind code o
   graphics-behind (Select n) = refl
   graphics-behind (Define d) = definition-behind d
   graphics-behind (Contain b) = bracket-behind b

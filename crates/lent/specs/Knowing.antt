@@ -12,7 +12,7 @@ use Rattle.command.specs.declared.Bracket.the-variants as bracket
 use Rattle.command.specs.declared.Deed.{Deed}
 use Rattle.command.specs.declared.Deed.the-variants as deed
 use Rattle.command.specs.declared.Command.{Command}
-use Rattle.command.specs.declared.Command.the-variants.{Broken, Note, End, Set, Operate, Select, Define, Contain, Attribute}
+use Rattle.command.specs.declared.Command.the-variants.{Broken, Note, End, Set, Operate, Coded, Select, Define, Contain, Attribute}
 use Rattle.graphics.specs.Graphics.{noAperture}
 use Rattle.graphics.specs.declared.Selected.{Selected}
 use Rattle.reading.specs.State.{Room, State}
@@ -64,6 +64,7 @@ knownOf room t Note s = roomAlone (left room s)
 knownOf room t End s = roomAlone (left room s)
 knownOf room t (Set x) s = roomAlone (left room s)
 knownOf room t (Operate o) s = roomAlone (left room s)
+knownOf room t (Coded code o) s = roomAlone (left room s)
 knownOf room t (Select n) s = facts (left room s) (apertureWith n (s .apertures)) false false Fine false
 knownOf room t (Define d) s = ofDefinition room t d s
 knownOf room t (Contain b) s = ofBracket room b s

@@ -5,6 +5,7 @@ use mathlib.Core.Bool.{cond}
 use lib.Dec.{eqb}
 use Rattle.base.specs.Or.{_or_}
 use Rattle.command.specs.Flaws.{flawNumber}
+use Rattle.command.specs.declared.Setting.{Setting}
 use Rattle.command.specs.declared.Operation.{Operation}
 use Rattle.command.specs.declared.Operation.the-variants as operation
 use Rattle.command.specs.declared.Definition.{Definition}
@@ -14,12 +15,12 @@ use Rattle.command.specs.declared.Bracket.the-variants as bracket
 use Rattle.command.specs.declared.Deed.{Deed}
 use Rattle.command.specs.declared.Deed.the-variants as deed
 use Rattle.command.specs.declared.Command.{Command}
-use Rattle.command.specs.declared.Command.the-variants.{Broken, Note, End, Set, Operate, Select, Define, Contain, Attribute}
+use Rattle.command.specs.declared.Command.the-variants.{Broken, Note, End, Set, Operate, Coded, Select, Define, Contain, Attribute}
 use Rattle.graphics.specs.Graphics.{withAperture}
 use Rattle.graphics.specs.Level.{block, repeat}
 use Rattle.graphics.specs.declared.Graphics.{Graphics}
 use Rattle.graphics.specs.declared.Level.{Level}
-use Rattle.changes.specs.After.{after}
+use Rattle.changes.specs.After.{afterSetting, after}
 use Rattle.drawing.specs.Faults.{drawFault, moveFault, flashFault}
 use Rattle.rules.specs.Bounds.{isRepeat}
 use Rattle.rules.specs.Settings.{settingFault}
@@ -34,6 +35,7 @@ use Rattle.rules.specs.Rules.{
   fileAttributeFault,
   endFault,
 }
+use Rattle.faults.specs.Order.{sooner}
 use Rattle.lent.specs.declared.Worked.{Worked}
 use Rattle.lent.specs.declared.Worked.the-variants.{Fine, Undefined, Unruly}
 use Rattle.lent.specs.declared.Known.{Known}
@@ -50,6 +52,11 @@ unfoldable pub operationFault : Graphics → Level → Operation → Known → �
 operationFault g l (operation.Draw x y o) k = drawFault g l (k .entries) x y o
 operationFault g l (operation.Move x y) k = moveFault g x y
 operationFault g l (operation.Flash x y) k = flashFault g l (k .entries) x y
+
+-- "The code takes effect first, then the operation in the state behind it"; of their faults the one that is tested first (02, [9];
+-- decision 516)
+unfoldable pub codedFault : Graphics → Level → Setting → Operation → Known → ℕ
+codedFault g l code o k = sooner (settingFault g code) (operationFault (afterSetting code g) l o k)
 
 unfoldable pub definitionFault : Graphics → Definition → Known → ℕ
 definitionFault g (definition.Aperture n name ps rounded) k =
@@ -75,6 +82,7 @@ faultOf g l Note k = 0
 faultOf g l End k = endFault g l
 faultOf g l (Set s) k = settingFault g s
 faultOf g l (Operate o) k = operationFault g l o k
+faultOf g l (Coded code o) k = codedFault g l code o k
 faultOf g l (Select n) k = selectFault g (k .aperture .set)
 faultOf g l (Define d) k = definitionFault g d k
 faultOf g l (Contain b) k = bracketFault g l b k
@@ -88,6 +96,7 @@ behind g Note k = after Note g
 behind g End k = after End g
 behind g (Set s) k = after (Set s) g
 behind g (Operate o) k = after (Operate o) g
+behind g (Coded code o) k = after (Coded code o) g
 behind g (Define d) k = after (Define d) g
 behind g (Contain b) k = after (Contain b) g
 behind g (Attribute d) k = after (Attribute d) g

@@ -5,11 +5,13 @@ use command::Command;
 use command::Deed;
 use command::Definition;
 use command::Operation;
+use command::Setting;
 use graphics::Graphics;
 use graphics::Level;
 use graphics::Selected;
 ghost use mathlib.Core.Path.{_≡_};
-ghost use Rattle.lent.specs.Stepped.{workedNumber, operationFault, definitionFault, bracketFault, deedFault, faultOf, behind, steppedOf};
+ghost use Rattle.changes.specs.After.{Reached};
+ghost use Rattle.lent.specs.Stepped.{workedNumber, operationFault, codedFault, definitionFault, bracketFault, deedFault, faultOf, behind, steppedOf};
 
 // What the parameters of an AD come to.
 pub enum Worked {
@@ -62,6 +64,16 @@ fn operation_fault(g: Graphics, l: Level, o: Operation, k: Known) -> u64
         Operation::Move { x, y } => drawing::move_fault(g, x, y),
         Operation::Flash { x, y } => drawing::flash_fault(g, l, k.entries, x, y),
     }
+}
+
+// An operation behind a G code, which takes effect first: of the rules that the two break, the one tested first.
+fn coded_fault(g: Graphics, l: Level, code: Setting, o: Operation, k: Known) -> u64
+    ensures { λ r. ⌜ r ≡ codedFault g l code o k ⌝ }
+{
+    faults::sooner(
+        rules::setting_fault(g, code),
+        operation_fault(changes::after_setting(code, g), l, o, k),
+    )
 }
 
 // AD and AM, likewise.
@@ -124,6 +136,7 @@ fn fault_of(g: Graphics, l: Level, c: Command, k: Known) -> u64
         Command::End => rules::end_fault(g, l),
         Command::Set(s) => rules::setting_fault(g, s),
         Command::Operate(o) => operation_fault(g, l, o, k),
+        Command::Coded { code, operation } => coded_fault(g, l, code, operation, k),
         Command::Select(_) => rules::select_fault(g, k.aperture.set),
         Command::Define(d) => definition_fault(g, d, k),
         Command::Contain(b) => bracket_fault(g, l, b, k),
@@ -133,6 +146,7 @@ fn fault_of(g: Graphics, l: Level, c: Command, k: Known) -> u64
 
 // The state behind a command that is accepted.
 fn behind(g: Graphics, c: Command, k: Known) -> Graphics
+    requires { ⌜ Reached c g ⌝ }
     ensures { λ r. ⌜ r ≡ behind g c k ⌝ }
 {
     match c {
@@ -142,6 +156,7 @@ fn behind(g: Graphics, c: Command, k: Known) -> Graphics
         }
         Command::Set(_) => changes::after(c, g),
         Command::Operate(_) => changes::after(c, g),
+        Command::Coded { .. } => changes::after(c, g),
         Command::Contain(_) => changes::after(c, g),
         Command::Broken(_) => g,
         Command::Note => g,

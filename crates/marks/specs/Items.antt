@@ -1,7 +1,7 @@
 -- The items that D01 and D03 draw (01, Items; decisions 93 to 95). No flash has brought them yet: their own place is the outer one too
 -- (02, [6]).
 use Prim.Native.Nat.{ℕ, _+_}
-use mathlib.Core.Bool.{false, cond}
+use mathlib.Core.Bool.{false}
 use Rattle.points.specs.declared.Point.{Point}
 use Rattle.place.specs.Kind as kind
 use Rattle.place.specs.declared.Item.{Item}
@@ -10,16 +10,12 @@ use Rattle.command.specs.declared.Offset.{Offset}
 use Rattle.graphics.specs.Graphics.{origin}
 use Rattle.graphics.specs.Orientation.{orientation}
 use Rattle.graphics.specs.declared.Graphics.{Graphics}
-use Rattle.fits.specs.Fits.{circular, centreOf}
+use Rattle.arcs.specs.Arcs.{kindDrawn, arcCentre}
 
--- "Unused fields .. are 0": a line has no centre
-unfoldable pub arcCentre : Graphics → Offset → Point
-arcCentre g o = cond (circular g) (centreOf g o) origin
-
--- a D01 outside a region: the mode is the item's kind
+-- a D01 outside a region
 unfoldable pub drawn : Graphics → Point → Offset → ℕ → Item
 drawn g end o place = record {
-  kind = g .mode;
+  kind = kindDrawn g end;
   aperture = g .aperture .number;
   clear = g .transform .clear;
   flip = orientation (g .transform) .flip;
@@ -27,7 +23,7 @@ drawn g end o place = record {
   scale = g .transform .scale;
   start = g .point .at;
   end = end;
-  centre = arcCentre g o;
+  centre = arcCentre g end o;
   count = 0;
   place = place;
   outer = place;
@@ -36,7 +32,7 @@ drawn g end o place = record {
 -- "contours and edges have angle 0, scale 1, no flip", and aperture 0; edges are numbered as the kinds of D01, behind the contour
 unfoldable pub edge : Graphics → Point → Offset → ℕ → Item
 edge g end o place = record {
-  kind = kind.contour + g .mode;
+  kind = kind.contour + kindDrawn g end;
   aperture = 0;
   clear = g .transform .clear;
   flip = false;
@@ -44,7 +40,7 @@ edge g end o place = record {
   scale = 1_000_000;
   start = g .point .at;
   end = end;
-  centre = arcCentre g o;
+  centre = arcCentre g end o;
   count = 0;
   place = place;
   outer = place;

@@ -14,9 +14,9 @@ use Rattle.command.specs.declared.Operation.the-variants as operation
 use Rattle.command.specs.declared.Bracket.{Bracket}
 use Rattle.command.specs.declared.Bracket.the-variants as bracket
 use Rattle.command.specs.declared.Command.{Command}
-use Rattle.command.specs.declared.Command.the-variants.{Broken, Note, End, Set, Operate, Select, Define, Contain, Attribute}
+use Rattle.command.specs.declared.Command.the-variants.{Broken, Note, End, Set, Operate, Coded, Select, Define, Contain, Attribute}
 use Rattle.graphics.specs.declared.Graphics.{Graphics}
-use Rattle.changes.specs.After.{target, startsContour}
+use Rattle.changes.specs.After.{target, startsContour, afterSetting}
 use Rattle.marks.specs.Items.{drawn, edge, contour, flashed, pose}
 
 -- D01 draws an item; in a region it gives a contour an edge, and begins the contour where none is open
@@ -54,6 +54,8 @@ bracketMarks bracket.RepeatEnd = mark.finish ∷ []
 -- every other command leaves nothing
 unfoldable pub marksOf : Command → Graphics → ℕ → List Mark
 marksOf (Operate o) g place = operationMarks o g place
+-- in the state behind the code
+marksOf (Coded code o) g place = operationMarks o (afterSetting code g) place
 marksOf (Contain b) g place = bracketMarks b
 marksOf (Broken flaw) g place = []
 marksOf Note g place = []

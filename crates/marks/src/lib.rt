@@ -1,9 +1,8 @@
 // The items that D01 and D03 draw, and how a block is flashed.
 ghost use mathlib.Core.Path.{_≡_};
-ghost use Prim.Native.Nat.{_≤_, _^_};
-ghost use Rattle.points.specs.Points.{Within};
-ghost use Rattle.fits.specs.Fits.{offsetOf};
-ghost use Rattle.marks.specs.Items.{arcCentre, drawn, edge, contour, flashed, pose};
+ghost use Prim.Native.Nat.{_≤_};
+ghost use Rattle.arcs.specs.Near.{Near};
+ghost use Rattle.marks.specs.Items.{drawn, edge, contour, flashed, pose};
 ghost use Rattle.marks.specs.Marks.{repeatOf};
 use command::Offset;
 use decimal::Amount;
@@ -13,30 +12,16 @@ use place::Pose;
 use place::Repeat;
 use points::Point;
 
-// The centre of an arc; a line has none.
-fn arc_centre(g: Graphics, o: Offset) -> Point
-    requires { ⌜ Within (10 ^ 12) (g .point .at) ⌝ }
-    requires { ⌜ Within (10 ^ 12) (offsetOf o) ⌝ }
-    ensures { λ r. ⌜ r ≡ arcCentre g o ⌝ }
-{
-    let start = g.point.at;
-    if fits::is_circular(g) {
-        return points::shifted(start, fits::offset_of(o));
-    }
-    Point { x: 0, y: 0 }
-}
-
 // The item of a D01 to end, outside a region.
 pub fn drawn(g: Graphics, end: Point, o: Offset, place: u64) -> Item
-    requires { ⌜ Within (10 ^ 12) (g .point .at) ⌝ }
-    requires { ⌜ Within (10 ^ 12) (offsetOf o) ⌝ }
+    requires { ⌜ Near g end o ⌝ }
     ensures { λ r. ⌜ r ≡ drawn g end o place ⌝ }
 {
     let t = g.transform;
     let turn = graphics::oriented(t);
     let start = g.point.at;
     Item {
-        kind: g.mode,
+        kind: arcs::kind_drawn(g, end),
         aperture: g.aperture.number,
         clear: g.transform.clear,
         flip: turn.flip,
@@ -44,7 +29,7 @@ pub fn drawn(g: Graphics, end: Point, o: Offset, place: u64) -> Item
         scale: g.transform.scale,
         start,
         end,
-        centre: arc_centre(g, o),
+        centre: arcs::arc_centre(g, end, o),
         count: 0,
         place,
         outer: place,
@@ -54,13 +39,12 @@ pub fn drawn(g: Graphics, end: Point, o: Offset, place: u64) -> Item
 // The edge of a D01 to end, in a region.
 pub fn edge(g: Graphics, end: Point, o: Offset, place: u64) -> Item
     requires { ⌜ g .mode ≤ 3 ⌝ }
-    requires { ⌜ Within (10 ^ 12) (g .point .at) ⌝ }
-    requires { ⌜ Within (10 ^ 12) (offsetOf o) ⌝ }
+    requires { ⌜ Near g end o ⌝ }
     ensures { λ r. ⌜ r ≡ edge g end o place ⌝ }
 {
     let start = g.point.at;
     Item {
-        kind: 5 + g.mode,
+        kind: 5 + arcs::kind_drawn(g, end),
         aperture: 0,
         clear: g.transform.clear,
         flip: false,
@@ -68,7 +52,7 @@ pub fn edge(g: Graphics, end: Point, o: Offset, place: u64) -> Item
         scale: 1000000,
         start,
         end,
-        centre: arc_centre(g, o),
+        centre: arcs::arc_centre(g, end, o),
         count: 0,
         place,
         outer: place,

@@ -10,14 +10,15 @@ use Rattle.base.specs.Bytes.{sameBytes}
 use Rattle.text.specs.First.{firstIn}
 use Rattle.text.specs.Name.{letter, nameStart, nameByte, nameBytes, isName}
 use Rattle.text.specs.Text.{text, among}
-use Rattle.book.specs.Books.{ascii}
+use Rattle.book.specs.Books.{ascii, isOldEdition, isOld}
 use Rattle.scan.specs.Permitted.{printable, breaksAfter, mayBreak, permitted, letterHere, badIn}
 use Rattle.scan.specs.Scan.{kindOf, textFrom, endOf, cutBy, commandIn, nextCommand}
 use Rattle.scan.specs.Fields.{inField}
 use Rattle.base.specs.Choose.{pick}
-use Rattle.words.specs.Words.{codeOf, wordOf}
+use Rattle.words.specs.Newer.{codeOf, newerWord}
+use Rattle.words.specs.Words.{wordOf}
 use Rattle.attributes.specs.Attributes.{valueOf, attributeOf}
-use Rattle.recognise.specs.Commands.{oneBlock, dataOf, extendedOf, commandOf}
+use Rattle.recognise.specs.Commands.{oneBlock, isUnread, dataOf, dataIn, extendedOf, commandOf}
 use Rattle.reading.specs.Apertures.{isAmong}
 use Rattle.names.specs.Sets.{setsBy, setsOf}
 use Rattle.names.specs.Twice.{seen, looked, lookAt, namedFrom, twiceFrom, twiceAt}
@@ -33,5 +34,5 @@ files =
     ∷ []
 
 files-looked : map (λ row. twiceAt ascii (text (row .0))) files ≡ map (λ row. row .1) files
-unfolding twiceAt twiceFrom namedFrom lookAt looked seen setsOf setsBy isAmong nextCommand commandIn cutBy inField letterHere kindOf textFrom endOf badIn permitted printable mayBreak breaksAfter commandOf wordOf codeOf extendedOf dataOf oneBlock attributeOf valueOf isName nameStart nameByte nameBytes letter pick firstIn among sameBytes _and_ _or_
+unfolding twiceAt twiceFrom namedFrom lookAt looked seen setsOf setsBy isAmong nextCommand commandIn cutBy inField letterHere kindOf textFrom endOf badIn permitted printable mayBreak breaksAfter commandOf wordOf newerWord codeOf isOld isOldEdition extendedOf dataIn isUnread dataOf oneBlock attributeOf valueOf isName nameStart nameByte nameBytes letter pick firstIn among sameBytes _and_ _or_
 files-looked = refl

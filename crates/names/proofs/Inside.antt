@@ -33,6 +33,7 @@ module _ (s : List ℕ) where
   sets-inside cmd.End b = tt
   sets-inside (cmd.Set a) b = tt
   sets-inside (cmd.Operate o) b = tt
+  sets-inside (cmd.Coded code o) b = tt
   sets-inside (cmd.Select n) b = tt
   sets-inside (cmd.Define d) b = tt
   sets-inside (cmd.Contain k) b = tt

@@ -16,6 +16,7 @@ use Rattle.scan.specs.declared.Scan.{Scan}
 use Rattle.scan.specs.declared.Scan.the-variants as scan
 use Rattle.scan.proofs.Within.{Within, next-within}
 use Rattle.command.specs.declared.Span.{Span}
+use Rattle.formats.specs.declared.Format.{Format}
 use Rattle.recognise.specs.Commands.{commandOf}
 use Rattle.bounds.proofs.Bounds.{bounded}
 use Rattle.commands.specs.Leads.{leadOf}
@@ -39,34 +40,34 @@ pub record Same (book : Book) (file : List ℕ) (at next : ℕ) (c : Placed) : T
   pub ordered : c .from ≤ c .end
   pub inside : Inside (c .end - c .from) (setsOf (c .command))
 
-module _ (book : Book) (n : ℕ) (file : List ℕ) (at : ℕ) where
-  more-command : (n : ℕ) (c d : Placed) (way : Lead) (m next to : ℕ) → led n c way to ≡ turn.More d m next → (c ≡ d) × (to ≡ next)
+module _ (book : Book) (f : Format) (file : List ℕ) (at : ℕ) where
+  more-command : (f : Format) (c d : Placed) (way : Lead) (g : Format) (next to : ℕ) → led f c way to ≡ turn.More d g next → (c ≡ d) × (to ≡ next)
   unfolding led
-  more-command n c d lead.Broken m next to e = let z : _≡_ {A = ℕ} 0 1 = cc in absurd (omega arith)
-  more-command n c d lead.Last m next to e = let z : _≡_ {A = ℕ} 0 1 = cc in absurd (omega arith)
-  more-command n c d (lead.Format k) m next to e = (cc, cc)
-  more-command n c d lead.Plain m next to e = (cc, cc)
+  more-command f c d (lead.Broken number) g next to e = let z : _≡_ {A = ℕ} 0 1 = cc in absurd (omega arith)
+  more-command f c d lead.Last g next to e = let z : _≡_ {A = ℕ} 0 1 = cc in absurd (omega arith)
+  more-command f c d (lead.Format h) g next to e = (cc, cc)
+  more-command f c d lead.Plain g next to e = (cc, cc)
 
-  same-scan : (c : Placed) (m next : ℕ) (s : Scan) → nextCommand book file at ≡ s → Within (length file) at s → turned n file s ≡ turn.More c m next → Same book file at next c
+  same-scan : (c : Placed) (g : Format) (next : ℕ) (s : Scan) → nextCommand book file at ≡ s → Within (length file) at s → turned book f file s ≡ turn.More c g next → Same book file at next c
   unfolding turned lookAt looked
-  same-scan c m next (scan.Command k place from end to) f (h, i, j, q, l) e =
+  same-scan c g next (scan.Command k place from end to) q (h, i, j, p, l) e =
       let t : List ℕ = slice from end file in
-      let d : Placed = record { place = place; from = from; end = end; command = commandOf n k t } in
-      let p = more-command n d c (leadOf (commandOf n k t)) m next to e in
+      let d : Placed = record { place = place; from = from; end = end; command = commandOf book f k t } in
+      let same = more-command f d c (leadOf (commandOf book f k t)) g next to e in
       let long : length t ≡ end - from = length-slice from end file (omega arith) in
       let here : Same book file at to d = record {
-        look = ap (looked file) f ∙ ap (seen place from to) (sym (sets-any n k t));
+        look = ap (looked book file) q ∙ ap (seen place from to) (sym (sets-any book f k t));
         ordered = j;
-        inside = rw long at (sets-inside t (commandOf n k t) (bounded n k t));
+        inside = rw long at (sets-inside t (commandOf book f k t) (bounded book f k t));
       } in
-      rw (p .0, p .1) at here
-  same-scan c m next (scan.BadByte place) f w e = let z : _≡_ {A = ℕ} 0 1 = cc in absurd (omega arith)
-  same-scan c m next (scan.Ended place) f w e = let z : _≡_ {A = ℕ} 0 1 = cc in absurd (omega arith)
+      rw (same .0, same .1) at here
+  same-scan c g next (scan.BadByte place) q w e = let z : _≡_ {A = ℕ} 0 1 = cc in absurd (omega arith)
+  same-scan c g next (scan.Ended place) q w e = let z : _≡_ {A = ℕ} 0 1 = cc in absurd (omega arith)
 
-  module _ {c : Placed} {m next : ℕ} (h : at ≤ length file) (e : turnOf book n file at ≡ turn.More c m next) where
+  module _ {c : Placed} {g : Format} {next : ℕ} (h : at ≤ length file) (e : turnOf book f file at ≡ turn.More c g next) where
     same : Same book file at next c
     unfolding turnOf
-    same = same-scan c m next (nextCommand book file at) refl (next-within book file at h) e
+    same = same-scan c g next (nextCommand book file at) refl (next-within book file at h) e
 
     module _ (names : List (List ℕ)) (k : Known book file at names) where
       -- a command that sets no name

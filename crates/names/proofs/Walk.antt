@@ -14,6 +14,7 @@ use Rattle.scan.specs.declared.Scan.{Scan}
 use Rattle.scan.specs.declared.Scan.the-variants as scan
 use Rattle.scan.proofs.Within.{Within, next-within}
 use Rattle.command.specs.declared.Span.{Span}
+use Rattle.formats.specs.Format.{noFormat}
 use Rattle.recognise.specs.Commands.{commandOf}
 use Rattle.bounds.proofs.Bounds.{bounded}
 use Rattle.reading.specs.Apertures.{isAmong}
@@ -37,28 +38,29 @@ unfolding seen
 seen-onward l at place from end next Nothing h i j e k w = (omega arith, k)
 seen-onward l at place from end next (Name n) h i j e k (p, q) = (h, omega arith, k, omega arith, omega arith)
 
-looked-onward : (file : List ℕ) (at : ℕ) (s : Scan) → Within (length file) at s → Onward (length file) at (looked file s)
+looked-onward : (book : Book) (file : List ℕ) (at : ℕ) (s : Scan) → Within (length file) at s → Onward (length file) at (looked book file s)
 unfolding looked
-looked-onward file at (scan.Command k place from end next) (h, i, j, e, m) =
-    let p : length (slice from end file) ≡ end - from = length-slice from end file (omega arith) in
-    seen-onward (length file) at place from end next _ h i j e m (rw p at (sets-inside (slice from end file) (commandOf 0 k (slice from end file)) (bounded 0 k (slice from end file))))
-looked-onward file at (scan.BadByte place) w = tt
-looked-onward file at (scan.Ended place) w = tt
+looked-onward book file at (scan.Command k place from end next) (h, i, j, e, m) =
+    let t : List ℕ = slice from end file in
+    let p : length t ≡ end - from = length-slice from end file (omega arith) in
+    seen-onward (length file) at place from end next _ h i j e m (rw p at (sets-inside t (commandOf book noFormat k t) (bounded book noFormat k t)))
+looked-onward book file at (scan.BadByte place) w = tt
+looked-onward book file at (scan.Ended place) w = tt
 
 pub look-onward : (book : Book) (file : List ℕ) (at : ℕ) → at ≤ length file → Onward (length file) at (lookAt book file at)
 unfolding lookAt
-look-onward book file at h = looked-onward file at (nextCommand book file at) (next-within book file at h)
+look-onward book file at h = looked-onward book file at (nextCommand book file at) (next-within book file at h)
 
 -- what the scanner found tells what is seen
 module _ (book : Book) (file : List ℕ) (at : ℕ) {k : Kind} {place from end next : ℕ} (e : nextCommand book file at ≡ scan.Command k place from end next) where
-  pub look-other : setsOf (commandOf 0 k (slice from end file)) ≡ Nothing → Other next ≡ lookAt book file at
+  pub look-other : setsOf (commandOf book noFormat k (slice from end file)) ≡ Nothing → Other next ≡ lookAt book file at
   unfolding lookAt looked seen
-  look-other q = sym (ap (looked file) e ∙ ap (seen place from next) q)
+  look-other q = sym (ap (looked book file) e ∙ ap (seen place from next) q)
 
-  module _ {n : Span} (q : setsOf (commandOf 0 k (slice from end file)) ≡ Name n) where
+  module _ {n : Span} (q : setsOf (commandOf book noFormat k (slice from end file)) ≡ Name n) where
     pub look-naming : Naming place (from + n .from) (from + n .to) next ≡ lookAt book file at
     unfolding lookAt looked seen
-    look-naming = sym (ap (looked file) e ∙ ap (seen place from next) q)
+    look-naming = sym (ap (looked book file) e ∙ ap (seen place from next) q)
 
     pub naming-fits : at ≤ length file → (from + n .from ≤ from + n .to) × (from + n .to ≤ length file)
     naming-fits h = let o = rw (← look-naming) at (look-onward book file at h) in (o .3, o .4)

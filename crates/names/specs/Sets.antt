@@ -21,6 +21,7 @@ setsOf cmd.Note = Nothing
 setsOf cmd.End = Nothing
 setsOf (cmd.Set s) = Nothing
 setsOf (cmd.Operate o) = Nothing
+setsOf (cmd.Coded code o) = Nothing
 setsOf (cmd.Select n) = Nothing
 setsOf (cmd.Define d) = Nothing
 setsOf (cmd.Contain b) = Nothing

@@ -9,6 +9,7 @@ use Rattle.scan.specs.Scan.{nextCommand}
 use Rattle.book.specs.declared.Book.{Book}
 use Rattle.scan.specs.declared.Scan.{Scan}
 use Rattle.scan.specs.declared.Scan.the-variants as scan
+use Rattle.formats.specs.Format.{noFormat}
 use Rattle.recognise.specs.Commands.{commandOf}
 use Rattle.reading.specs.Apertures.{isAmong}
 use Rattle.names.specs.Sets.{setsOf}
@@ -22,15 +23,15 @@ unfoldable pub seen : ℕ → ℕ → ℕ → Sets → Look
 seen place from next Nothing = Other next
 seen place from next (Name n) = Naming place (from + n .from) (from + n .to) next
 
--- no TF depends on the n of FS, so that it is 0 here (proofs/Settings)
-unfoldable pub looked : List ℕ → Scan → Look
-looked file (scan.Command kind place from end next) = seen place from next (setsOf (commandOf 0 kind (slice from end file)))
-looked file (scan.BadByte place) = End
-looked file (scan.Ended place) = End
+-- no TF depends on the format of FS, so that there is none here (proofs/Nameless)
+unfoldable pub looked : Book → List ℕ → Scan → Look
+looked book file (scan.Command kind place from end next) = seen place from next (setsOf (commandOf book noFormat kind (slice from end file)))
+looked book file (scan.BadByte place) = End
+looked book file (scan.Ended place) = End
 
 -- what stands next from `at` on
 unfoldable pub lookAt : Book → List ℕ → ℕ → Look
-lookAt book file at = looked file (nextCommand book file at)
+lookAt book file at = looked book file (nextCommand book file at)
 
 -- a TF: its place, and the name that it sets
 pub record Named : Type 0 where

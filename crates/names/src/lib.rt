@@ -4,6 +4,7 @@ ghost use Prim.Native.Nat.{_≤_, _<_, min};
 ghost use lib.ListN.{length, replicate};
 ghost use lib.Seq.{slice};
 ghost use Rattle.index.specs.Names.{Named};
+ghost use Rattle.formats.specs.Format.{noFormat};
 ghost use Rattle.recognise.specs.Commands.{commandOf};
 ghost use Rattle.names.specs.Sets.{setsBy, setsOf};
 ghost use Rattle.names.specs.Twice.{lookAt, firstAt, twiceAt};
@@ -74,6 +75,7 @@ pub fn sets_of(c: Command) -> Sets
         Command::End => Sets::Nothing,
         Command::Set(_) => Sets::Nothing,
         Command::Operate(_) => Sets::Nothing,
+        Command::Coded { .. } => Sets::Nothing,
         Command::Select(_) => Sets::Nothing,
         Command::Define(_) => Sets::Nothing,
         Command::Contain(_) => Sets::Nothing,
@@ -82,15 +84,16 @@ pub fn sets_of(c: Command) -> Sets
 }
 
 // The same of a command's kind and text. Only one that begins with `TF` is recognised: that costs more than to cut it out.
-fn sets_in(kind: Kind, s: &[u8]) -> Sets
-    ensures { λ r. ⌜ r ≡ setsOf (commandOf 0 kind (now (s .entry))) ⌝ }
+fn sets_in(book: Book, kind: Kind, s: &[u8]) -> Sets
+    ensures { λ r. ⌜ r ≡ setsOf (commandOf book noFormat kind (now (s .entry))) ⌝ }
 {
     match kind {
         Kind::Word => Sets::Nothing,
         Kind::Macro => Sets::Nothing,
         Kind::Extended => {
             if text::begins(s, b"TF") {
-                return sets_of(recognise::command_of(0, Kind::Extended, s));
+                let none = formats::no_format();
+                return sets_of(recognise::command_of(book, none, Kind::Extended, s));
             }
             Sets::Nothing
         }
@@ -111,7 +114,7 @@ fn look_at(book: Book, file: &[u8], at: usize) -> Look
             end,
             next,
         } => {
-            let sets = sets_in(kind, base::part(file, from, end));
+            let sets = sets_in(book, kind, base::part(file, from, end));
             match sets {
                 Sets::Nothing => Look::Other { next },
                 Sets::Name(n) => Look::Naming {

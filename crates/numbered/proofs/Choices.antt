@@ -1,11 +1,13 @@
--- Which book a number names, and what the calls come to by it: one law for each way out.
+-- Which book two numbers name, and what the calls come to by it: one law for each way out.
 -- Assumes nothing.
 use Prim.Native.Nat.{ℕ}
 use mathlib.Core.Path.{_≡_, refl}
 use mathlib.Core.List.{List}
 use borrow.Author.Tests.{eq-eqb, ne-eqb}
-use Rattle.book.specs.Books.{ascii, utf8}
 use Rattle.book.specs.declared.Book.{Book}
+use Rattle.book.specs.declared.Edition.{Edition}
+use Rattle.book.specs.declared.Edition.the-variants as edition
+use Rattle.book.specs.declared.Letters.the-variants as letters
 use Rattle.commands.specs.Rounded.{roundedIn}
 use Rattle.sayings.specs.declared.Kind.{Kind}
 use Rattle.attribute.specs.Attribute as attribute
@@ -16,24 +18,38 @@ use Rattle.progress.specs.Lent.{Lent}
 use Rattle.reader.specs.Reads.{Reads, Zeroed}
 use Rattle.reader.specs.declared.Answer as code
 use Rattle.reader.specs.declared.Answer.the-variants as answer
-use Rattle.numbered.specs.Choice.{choiceOf}
+use Rattle.numbered.specs.Choice.{bookOf, withLetters, choiceOf}
 use Rattle.numbered.specs.Calls.{attributeBy, signatureBy, readingBy, roundedBy}
 use Rattle.numbered.specs.declared.Choice.{Choice}
 use Rattle.numbered.specs.declared.Choice.the-variants.{By, Unknown}
 
-module _ (n : ℕ) where
-  pub choice-old : n ≡ 1 → By ascii ≡ choiceOf n
-  unfolding choiceOf
-  choice-old e = rw (eq-eqb n 1 e)
+module _ (e : Edition) (n : ℕ) where
+  pub letters-old : n ≡ 1 → By (bookOf e letters.Old) ≡ withLetters e n
+  unfolding withLetters
+  letters-old p = rw (eq-eqb n 1 p)
 
   module _ (other : n ≡ 1 → ⊥) where
-    pub choice-new : n ≡ 2 → By utf8 ≡ choiceOf n
-    unfolding choiceOf
-    choice-new e = rw (ne-eqb n 1 other, eq-eqb n 2 e)
+    pub letters-new : n ≡ 2 → By (bookOf e letters.New) ≡ withLetters e n
+    unfolding withLetters
+    letters-new p = rw (ne-eqb n 1 other, eq-eqb n 2 p)
 
-    pub choice-none : (n ≡ 2 → ⊥) → Unknown ≡ choiceOf n
+    pub letters-none : (n ≡ 2 → ⊥) → Unknown ≡ withLetters e n
+    unfolding withLetters
+    letters-none p = rw (ne-eqb n 1 other, ne-eqb n 2 p)
+
+module _ (m n : ℕ) where
+  pub edition-new : m ≡ 1 → withLetters edition.New n ≡ choiceOf m n
+  unfolding choiceOf
+  edition-new p = rw (eq-eqb m 1 p)
+
+  module _ (other : m ≡ 1 → ⊥) where
+    pub edition-old : m ≡ 2 → withLetters edition.Old n ≡ choiceOf m n
     unfolding choiceOf
-    choice-none e = rw (ne-eqb n 1 other, ne-eqb n 2 e)
+    edition-old p = rw (ne-eqb m 1 other, eq-eqb m 2 p)
+
+    pub edition-none : (m ≡ 2 → ⊥) → Unknown ≡ choiceOf m n
+    unfolding choiceOf
+    edition-none p = rw (ne-eqb m 1 other, ne-eqb m 2 p)
 
 -- a book is named
 module _ {c : Choice} {book : Book} (e : c ≡ By book) (file : List ℕ) where

@@ -1,4 +1,4 @@
-// The calls on a file whose book is named by a number, as a host in C names it: a number that names none is answered and not trusted.
+// The calls on a file whose book is named by two numbers, as a host in C names it: a number that names nothing is answered and not trusted.
 use attribute::Answer;
 use book::Book;
 use book::Edition;
@@ -7,7 +7,7 @@ use sayings::Kind;
 ghost use mathlib.Core.Path.{_≡_};
 ghost use Rattle.progress.specs.Lent.{lentOf, roomOf};
 ghost use Rattle.reader.specs.Reads.{Reads};
-ghost use Rattle.numbered.specs.Choice.{choiceOf};
+ghost use Rattle.numbered.specs.Choice.{withLetters, choiceOf};
 ghost use lib.ListN.{length};
 ghost use Rattle.numbered.specs.Mending.{MendsBy};
 ghost use Rattle.numbered.specs.Calls.{attributeBy, signatureBy, readingBy, roundedBy};
@@ -18,30 +18,50 @@ pub enum Choice {
     Unknown,
 }
 
-// The book with the rule of letters of a number: 1 is the old one, 2 the new one.
-fn choice_of(letters: u64) -> Choice
-    ensures { λ r. ⌜ r ≡ choiceOf letters ⌝ }
+// The book of an edition with the rule of letters of a number: 1 is the old one, 2 the new one.
+fn with_letters(edition: Edition, letters: u64) -> Choice
+    ensures { λ r. ⌜ r ≡ withLetters edition letters ⌝ }
 {
     if letters == 1 {
         return Choice::By(Book {
-            edition: Edition::New,
+            edition: edition,
             letters: Letters::Old,
         });
     }
     if letters == 2 {
         return Choice::By(Book {
-            edition: Edition::New,
+            edition: edition,
             letters: Letters::New,
         });
     }
     Choice::Unknown
 }
 
-// The attribute call by the book with this rule of letters; 101 where the number names none.
-pub fn attribute(letters: u64, file: &[u8], kind: Kind, place: usize, name: &[u8]) -> Answer
-    ensures { λ r. ⌜ r ≡ attributeBy (choiceOf letters) (now (file .entry)) kind place (now (name .entry)) ⌝ }
+// The book of two numbers: 1 is the newer edition, 2 the old one.
+fn choice_of(edition: u64, letters: u64) -> Choice
+    ensures { λ r. ⌜ r ≡ choiceOf edition letters ⌝ }
 {
-    let c = choice_of(letters);
+    if edition == 1 {
+        return with_letters(Edition::New, letters);
+    }
+    if edition == 2 {
+        return with_letters(Edition::Old, letters);
+    }
+    Choice::Unknown
+}
+
+// The attribute call by the book of two numbers; 101 where one of them names nothing.
+pub fn attribute(
+    edition: u64,
+    letters: u64,
+    file: &[u8],
+    kind: Kind,
+    place: usize,
+    name: &[u8],
+) -> Answer
+    ensures { λ r. ⌜ r ≡ attributeBy (choiceOf edition letters) (now (file .entry)) kind place (now (name .entry)) ⌝ }
+{
+    let c = choice_of(edition, letters);
     match c {
         Choice::By(book) => attribute::attribute(book, file, kind, place, name),
         Choice::Unknown => Answer {
@@ -53,18 +73,19 @@ pub fn attribute(letters: u64, file: &[u8], kind: Kind, place: usize, name: &[u8
 }
 
 // Whether a file is signed, likewise.
-pub fn signature(letters: u64, file: &[u8]) -> signature::Answer
-    ensures { λ r. ⌜ r ≡ signatureBy (choiceOf letters) (now (file .entry)) ⌝ }
+pub fn signature(edition: u64, letters: u64, file: &[u8]) -> signature::Answer
+    ensures { λ r. ⌜ r ≡ signatureBy (choiceOf edition letters) (now (file .entry)) ⌝ }
 {
-    let c = choice_of(letters);
+    let c = choice_of(edition, letters);
     match c {
         Choice::By(book) => signature::check(book, file),
         Choice::Unknown => signature::refuse(101, 0),
     }
 }
 
-// Reads a file into the lent words, likewise; a number that names no book leaves zeros in every word.
+// Reads a file into the lent words, likewise; numbers that name no book leave zeros in every word.
 pub fn read(
+    edition: u64,
     letters: u64,
     file: &[u8],
     head: &mut [u64; 8],
@@ -73,12 +94,12 @@ pub fn read(
     m: &mut [u64],
     numbers: &mut [i64],
 ) -> reader::Answer
-    ensures { λ r. ⌜ Reads (roundedBy (choiceOf letters) (now (file .entry)))
-        (readingBy (choiceOf letters) (roomOf (lentOf (now (file .entry)) (now (e .entry)) (now (a .entry)) (now (m .entry)) (now (numbers .entry)))) (now (file .entry)))
+    ensures { λ r. ⌜ Reads (roundedBy (choiceOf edition letters) (now (file .entry)))
+        (readingBy (choiceOf edition letters) (roomOf (lentOf (now (file .entry)) (now (e .entry)) (now (a .entry)) (now (m .entry)) (now (numbers .entry)))) (now (file .entry)))
         (lentOf (now (file .entry)) (now (e .entry)) (now (a .entry)) (now (m .entry)) (now (numbers .entry)))
         (lentOf (now (file .entry)) (now (e .exit)) (now (a .exit)) (now (m .exit)) (now (numbers .exit))) (now (head .exit)) r ⌝ }
 {
-    let c = choice_of(letters);
+    let c = choice_of(edition, letters);
     match c {
         Choice::By(book) => reader::read(book, file, head, e, a, m, numbers),
         Choice::Unknown => {

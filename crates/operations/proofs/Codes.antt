@@ -2,39 +2,39 @@
 -- Assumes nothing.
 use Prim.Native.Nat.{ℕ}
 use mathlib.Core.Path.{_≡_, refl}
-use mathlib.Core.Bool.{Bool, true, false, cond}
+use mathlib.Core.Bool.{Bool, true, false}
 use mathlib.Core.List.{List, [], _∷_}
-use lib.Dec.{eqb}
 use Rattle.text.specs.Text.{_ends_}
 use Rattle.base.specs.Choose.{pick, choose}
+use Rattle.formats.specs.declared.Format.{Format}
 use Rattle.command.specs.declared.Command.{Command}
-use Rattle.operations.specs.Operations.{drawOf, moveOf, flashOf, operationCode, operationOf}
+use Rattle.operations.specs.Operations.{operationCode, operationOf}
 
-module _ (draw move flash other : Command) where
-  one-of : (t u v : Bool) → let code : ℕ = pick t 1 (pick u 2 (pick v 3 0)) in
-      (code ≡ 0 → ⊥) → cond (eqb code 1) draw (cond (eqb code 2) move flash) ≡ pick t draw (pick u move (pick v flash other))
+module _ (of : ℕ → Command) (other : Command) where
+  one-of : (t u v : Bool) → let number : ℕ = pick t 1 (pick u 2 (pick v 3 0)) in
+      (number ≡ 0 → ⊥) → of number ≡ pick t (of 1) (pick u (of 2) (pick v (of 3) other))
   unfolding pick
   one-of true u v h = refl
   one-of false true v h = refl
   one-of false false true h = refl
   one-of false false false h = absurd (h refl)
 
-  none-of : (t u v : Bool) → let code : ℕ = pick t 1 (pick u 2 (pick v 3 0)) in
-      code ≡ 0 → other ≡ pick t draw (pick u move (pick v flash other))
+  none-of : (t u v : Bool) → let number : ℕ = pick t 1 (pick u 2 (pick v 3 0)) in
+      number ≡ 0 → other ≡ pick t (of 1) (pick u (of 2) (pick v (of 3) other))
   unfolding pick
   none-of true u v h = cc
   none-of false true v h = cc
   none-of false false true h = cc
   none-of false false false h = refl
 
-module _ (n : ℕ) (s : List ℕ) (other : Command) where
+module _ (f : Format) (s : List ℕ) (other : Command) where
   abbrev rows : Command
-  rows = choose ((s ends "D01", drawOf n s) ∷ (s ends "D02", moveOf n s) ∷ (s ends "D03", flashOf n s) ∷ []) other
+  rows = choose ((s ends "D01", operationOf 1 f s) ∷ (s ends "D02", operationOf 2 f s) ∷ (s ends "D03", operationOf 3 f s) ∷ []) other
 
-  pub is-operation : (operationCode s ≡ 0 → ⊥) → operationOf (operationCode s) n s ≡ rows
-  unfolding operationCode operationOf
-  is-operation = one-of (drawOf n s) (moveOf n s) (flashOf n s) other (s ends "D01") (s ends "D02") (s ends "D03")
+  pub is-operation : (operationCode s ≡ 0 → ⊥) → operationOf (operationCode s) f s ≡ rows
+  unfolding operationCode
+  is-operation = one-of (λ number. operationOf number f s) other (s ends "D01") (s ends "D02") (s ends "D03")
 
   pub no-operation : operationCode s ≡ 0 → other ≡ rows
   unfolding operationCode
-  no-operation = none-of (drawOf n s) (moveOf n s) (flashOf n s) other (s ends "D01") (s ends "D02") (s ends "D03")
+  no-operation = none-of (λ number. operationOf number f s) other (s ends "D01") (s ends "D02") (s ends "D03")

@@ -1,23 +1,28 @@
 -- D01, D02 and D03 (01, Form: "X and Y optional, each in that order; for D01 only, I and J together after them"; decisions 27 and 43).
-use Prim.Native.Nat.{ℕ}
+use Prim.Native.Nat.{ℕ, _-_}
 use mathlib.Core.Bool.{Bool, cond, not}
 use mathlib.Core.List.{List, [], _∷_}
 use lib.Dec.{eqb}
+use lib.ListN.{length, take}
 use Rattle.base.specs.Or.{_or_}
 use Rattle.points.specs.Points.{pt}
 use Rattle.text.specs.Text.{_ends_}
 use Rattle.base.specs.Choose.{choose}
+use Rattle.formats.specs.declared.Format.{Format}
 use Rattle.command.specs.Numbers.{judged}
 use Rattle.command.specs.declared.Axis.{Axis}
 use Rattle.command.specs.declared.Axis.the-variants as axis
 use Rattle.command.specs.declared.Offset.{Offset}
 use Rattle.command.specs.declared.Offset.the-variants as offset
-use Rattle.command.specs.declared.Command.{Command}
-use Rattle.command.specs.declared.Command.the-variants.{Operate}
+use Rattle.command.specs.declared.Setting.{Setting}
+use Rattle.command.specs.declared.Operation.{Operation}
 use Rattle.command.specs.declared.Operation.the-variants.{Draw, Move, Flash}
-use Rattle.operations.specs.Coordinates.{fieldsOf}
+use Rattle.command.specs.declared.Command.{Command}
+use Rattle.command.specs.declared.Command.the-variants.{Operate, Coded}
+use Rattle.operations.specs.Coordinates.{fieldsIn}
 use Rattle.operations.specs.declared.Field.{Field}
 use Rattle.operations.specs.declared.Fields.{Fields}
+use Rattle.operations.specs.declared.Written.{Written}
 
 -- a coordinate that is none, or bytes left after them
 unfoldable pub broken : Fields → Bool
@@ -33,30 +38,46 @@ alone f = cond (f .i .given) (not (f .j .given)) (f .j .given)
 unfoldable pub axisOf : Field → Axis
 axisOf f = cond (f .given) (axis.At (f .value)) axis.Missing
 
+-- I and J, and whether one of them has a sign
 unfoldable pub offsetOf : Fields → Offset
-offsetOf f = cond (f .i .given) (offset.By (pt (f .i .value) (f .j .value))) offset.Missing
+offsetOf f = cond (f .i .given) (offset.By (pt (f .i .value) (f .j .value)) (f .i .signed or f .j .signed)) offset.Missing
 
 -- D01
-unfoldable pub draw : Fields → Command
-draw f = judged (broken f or alone f) (tooLong f) (Operate (Draw (axisOf (f .x)) (axisOf (f .y)) (offsetOf f)))
-
-unfoldable pub drawOf : ℕ → List ℕ → Command
-drawOf n s = draw (fieldsOf n s)
+unfoldable pub draw : Fields → Written
+draw f = record { formless = broken f or alone f; long = tooLong f; operation = Draw (axisOf (f .x)) (axisOf (f .y)) (offsetOf f) }
 
 -- D02 and D03, which have no I and J
-unfoldable pub plain : Fields → Command → Command
-plain f c = judged (broken f or f .i .given or f .j .given) (tooLong f) c
+unfoldable pub plain : Fields → Operation → Written
+plain f o = record { formless = broken f or f .i .given or f .j .given; long = tooLong f; operation = o }
 
-unfoldable pub moveOf : ℕ → List ℕ → Command
-moveOf n s = let f : Fields = fieldsOf n s in plain f (Operate (Move (axisOf (f .x)) (axisOf (f .y))))
+unfoldable pub move : Fields → Written
+move f = plain f (Move (axisOf (f .x)) (axisOf (f .y)))
 
-unfoldable pub flashOf : ℕ → List ℕ → Command
-flashOf n s = let f : Fields = fieldsOf n s in plain f (Operate (Flash (axisOf (f .x)) (axisOf (f .y))))
+unfoldable pub flash : Fields → Written
+flash f = plain f (Flash (axisOf (f .x)) (axisOf (f .y)))
+
+-- the operation of a number, 1 for D01, of its coordinates alone
+unfoldable pub operationIn : ℕ → Format → List ℕ → Written
+operationIn number format s =
+    let f : Fields = fieldsIn format s in
+    cond (eqb number 1) (draw f) (cond (eqb number 2) (move f) (flash f))
+
+-- an operation with no code before it; what is not of its form is 4, and too many digits are 5
+unfoldable pub operates : Written → Command
+operates w = judged (w .formless) (w .long) (Operate (w .operation))
+
+-- one behind a G code of the old book
+unfoldable pub coded : Setting → Written → Command
+coded g w = judged (w .formless) (w .long) (Coded g (w .operation))
+
+-- the coordinates of an operation whose code has three bytes
+unfoldable pub uncoded : List ℕ → List ℕ
+uncoded s = take (length s - 3) s
 
 -- the number of the operation that a text ends in, 0 where it ends in none
 unfoldable pub operationCode : List ℕ → ℕ
 operationCode s = choose ((s ends "D01", 1) ∷ (s ends "D02", 2) ∷ (s ends "D03", 3) ∷ []) 0
 
 -- the operation of such a number
-unfoldable pub operationOf : ℕ → ℕ → List ℕ → Command
-operationOf code n s = cond (eqb code 1) (drawOf n s) (cond (eqb code 2) (moveOf n s) (flashOf n s))
+unfoldable pub operationOf : ℕ → Format → List ℕ → Command
+operationOf number format s = operates (operationIn number format (uncoded s))

@@ -3,7 +3,6 @@
 use Prim.Native.Nat.{ℕ, _^_, _≤_}
 use mathlib.Core.Path.{_≡_, refl, sym, _∙_}
 use mathlib.Core.Bool.{Bool, true, false, false≢true}
-use mathlib.Core.List.{List}
 use native.Mathlib.Omega.{arith}
 use Rattle.points.specs.Points.{Within}
 use Rattle.command.specs.declared.Axis.{Axis}
@@ -12,15 +11,16 @@ use Rattle.command.specs.declared.Setting.the-variants as setting
 use Rattle.command.specs.declared.Operation.{Operation}
 use Rattle.command.specs.declared.Operation.the-variants as operation
 use Rattle.command.specs.declared.Command.{Command}
-use Rattle.command.specs.declared.Command.the-variants.{Broken, Note, End, Set, Operate, Select, Define, Contain, Attribute}
-use Rattle.graphics.specs.Graphics.{noRegion, withFormat, withPoint, withMode, withQuadrants, withTransform, withRegion}
+use Rattle.command.specs.declared.Command.the-variants.{Broken, Note, End, Set, Operate, Coded, Select, Define, Contain, Attribute}
+use Rattle.graphics.specs.Graphics.{noRegion, withHeader, withNotation, withPoint, withMode, withQuadrants, withTransform, withRegion}
 use Rattle.graphics.specs.declared.Graphics.{Graphics}
-use Rattle.graphics.specs.declared.Format.{Format}
+use Rattle.graphics.specs.declared.Header.{Header}
+use Rattle.graphics.specs.declared.Level.{Level}
 use Rattle.graphics.specs.declared.Transform.{Transform}
 use Rattle.graphics.specs.declared.Region.{Region}
-use Rattle.changes.specs.After.{target, goingTo, emptyRegion, ended, afterSetting, afterOperation, after}
-use Rattle.bounds.specs.Bounded.{Goes, OperationBounded, Bounded}
-use Rattle.bounds.proofs.Target.{target-within}
+use Rattle.changes.specs.After.{target, goal, goingTo, emptyRegion, ended, afterSetting, afterOperation, after, Reached}
+use Rattle.drawing.specs.Faults.{moveFault}
+use Rattle.drawing.proofs.Reached.{move-reached}
 use Rattle.reading.specs.State.{State}
 use Rattle.reading.specs.Steps as state
 use Rattle.progress.specs.Parts.{withGraphics}
@@ -28,7 +28,7 @@ use Rattle.progress.specs.Lent.{Lent}
 use Rattle.progress.specs.Levels.{levelOf}
 use Rattle.progress.specs.Knows.{Knows}
 use Rattle.progress.specs.declared.Progress.{Progress}
-use Rattle.plain.specs.Plain.{isPlainOperation, isPlain}
+use Rattle.plain.specs.Plain.{isPlainOperation, isPlain, operationFault, faultOf}
 
 -- h in the place of g: the same aperture, and no contour that was not open in g
 pub record Keeps (g h : Graphics) : Type 0 where
@@ -63,9 +63,17 @@ module _ (w : Lent) (p : Progress) (s : State) (k : Knows w p s) where
 
 -- each plain command keeps what is known of the graphics state
 module _ (g : Graphics) (k : Keeps g g) where
-  format-keeps : (f : Format) → Keeps g (withFormat f g)
-  unfolding withFormat
-  format-keeps f = record { point = k .point; mode = k .mode; inside = k .inside; aperture = refl; contour = λ e. e }
+  header-keeps : (h : Header) → Keeps g (withHeader h g)
+  unfolding withHeader
+  header-keeps h = record { point = k .point; mode = k .mode; inside = k .inside; aperture = refl; contour = λ e. e }
+
+  notation-keeps : (b : Bool) → Keeps g (withNotation b g)
+  unfolding withNotation
+  notation-keeps b = record { point = k .point; mode = k .mode; inside = k .inside; aperture = refl; contour = λ e. e }
+
+  format-keeps : (b : Bool) (h : Header) → Keeps g (withNotation b (withHeader h g))
+  unfolding withNotation withHeader
+  format-keeps b h = record { point = k .point; mode = k .mode; inside = k .inside; aperture = refl; contour = λ e. e }
 
   mode-keeps : (m : ℕ) → m ≤ 3 → Keeps g (withMode m g)
   unfolding withMode
@@ -89,47 +97,74 @@ module _ (g : Graphics) (k : Keeps g g) where
     contour = λ e. absurd (false≢true (sym none ∙ e));
   }
 
-  move-keeps : (x y : Axis) → Goes x y → Keeps g (goingTo (target g x y) (withRegion (ended (g .region)) g))
+  move-keeps : (x y : Axis) → moveFault g x y ≡ 0 → Keeps g (goingTo (target g x y) (withRegion (ended (g .region)) g))
   unfolding goingTo withPoint withRegion ended
   move-keeps x y l = record {
-    point = target-within g x y (k .point) l;
+    point = move-reached g x y l;
     mode = k .mode;
     inside = λ e. absurd (false≢true e);
     aperture = refl;
     contour = λ e. absurd (false≢true e);
   }
 
-  setting-keeps : (s : Setting) → Keeps g (afterSetting s g)
+  pub setting-keeps : (s : Setting) → Keeps g (afterSetting s g)
   unfolding afterSetting emptyRegion noRegion
   setting-keeps setting.Linear = mode-keeps 1 (omega arith)
   setting-keeps setting.Clockwise = mode-keeps 2 (omega arith)
   setting-keeps setting.Counterclockwise = mode-keeps 3 (omega arith)
+  setting-keeps setting.SingleQuadrant = quadrants-keep false
   setting-keeps setting.MultiQuadrant = quadrants-keep true
   setting-keeps setting.RegionStart = region-keeps _ refl
   setting-keeps setting.RegionEnd = region-keeps _ refl
-  setting-keeps (setting.Format n) = format-keeps _
-  setting-keeps setting.Millimetres = format-keeps _
-  setting-keeps setting.Inches = format-keeps _
+  setting-keeps (setting.Format f) = format-keeps _ _
+  setting-keeps setting.Absolute = notation-keeps false
+  setting-keeps setting.Incremental = notation-keeps true
+  setting-keeps setting.Millimetres = header-keeps _
+  setting-keeps setting.Inches = header-keeps _
+  setting-keeps setting.CodedMillimetres = header-keeps _
+  setting-keeps setting.CodedInches = header-keeps _
+  setting-keeps setting.Halt = k
   setting-keeps setting.Dark = transform-keeps _
   setting-keeps setting.Clear = transform-keeps _
   setting-keeps (setting.Mirror x y) = transform-keeps _
   setting-keeps (setting.Rotation a rounded) = transform-keeps _
   setting-keeps (setting.Scale a rounded) = transform-keeps _
 
-  operation-keeps : (o : Operation) → isPlainOperation o ≡ true → OperationBounded o → Keeps g (afterOperation o g)
-  unfolding isPlainOperation OperationBounded afterOperation
-  operation-keeps (operation.Move x y) q b = move-keeps x y b
-  operation-keeps (operation.Draw x y o) q b = absurd (false≢true q)
-  operation-keeps (operation.Flash x y) q b = absurd (false≢true q)
+  operation-keeps : (o : Operation) → isPlainOperation o ≡ true → operationFault g o ≡ 0 → Keeps g (afterOperation o g)
+  unfolding isPlainOperation operationFault afterOperation
+  operation-keeps (operation.Move x y) q e = move-keeps x y e
+  operation-keeps (operation.Draw x y o) q e = absurd (false≢true q)
+  operation-keeps (operation.Flash x y) q e = absurd (false≢true q)
 
-  pub after-keeps : (text : List ℕ) (c : Command) → isPlain c ≡ true → Bounded text c → Keeps g (after c g)
-  unfolding isPlain Bounded after
-  after-keeps text (Broken flaw) q b = k
-  after-keeps text Note q b = k
-  after-keeps text End q b = k
-  after-keeps text (Set s) q b = setting-keeps s
-  after-keeps text (Operate o) q b = operation-keeps o q b
-  after-keeps text (Attribute d) q b = k
-  after-keeps text (Select n) q b = absurd (false≢true q)
-  after-keeps text (Define d) q b = absurd (false≢true q)
-  after-keeps text (Contain b′) q b = absurd (false≢true q)
+  pub after-keeps : (c : Command) → isPlain c ≡ true → (l : Level) → faultOf g l c ≡ 0 → Keeps g (after c g)
+  unfolding isPlain faultOf after
+  after-keeps (Broken flaw) q l e = k
+  after-keeps Note q l e = k
+  after-keeps End q l e = k
+  after-keeps (Set s) q l e = setting-keeps s
+  after-keeps (Operate o) q l e = operation-keeps o q e
+  after-keeps (Coded code o) q l e = absurd (false≢true q)
+  after-keeps (Attribute d) q l e = k
+  after-keeps (Select n) q l e = absurd (false≢true q)
+  after-keeps (Define d) q l e = absurd (false≢true q)
+  after-keeps (Contain b) q l e = absurd (false≢true q)
+
+-- a plain command that breaks no rule goes to a point within 10^12
+reached-by : (g : Graphics) (o : Operation) → isPlainOperation o ≡ true → operationFault g o ≡ 0 → Within (10 ^ 12) (goal o g)
+unfolding isPlainOperation operationFault goal
+reached-by g (operation.Move x y) q e = move-reached g x y e
+reached-by g (operation.Draw x y o) q e = absurd (false≢true q)
+reached-by g (operation.Flash x y) q e = absurd (false≢true q)
+
+pub plain-reached : (g : Graphics) (l : Level) (c : Command) → isPlain c ≡ true → faultOf g l c ≡ 0 → Reached c g
+unfolding isPlain faultOf Reached
+plain-reached g l (Broken flaw) q e = tt
+plain-reached g l Note q e = tt
+plain-reached g l End q e = tt
+plain-reached g l (Set s) q e = tt
+plain-reached g l (Operate o) q e = reached-by g o q e
+plain-reached g l (Coded code o) q e = absurd (false≢true q)
+plain-reached g l (Attribute d) q e = tt
+plain-reached g l (Select n) q e = tt
+plain-reached g l (Define d) q e = tt
+plain-reached g l (Contain b) q e = tt

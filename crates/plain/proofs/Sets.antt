@@ -10,7 +10,6 @@ use Rattle.graphics.specs.declared.Graphics.{Graphics}
 use Rattle.graphics.specs.declared.Level.{Level}
 use Rattle.changes.specs.After.{after}
 use Rattle.rules.specs.Rules.{fileAttributeFault}
-use Rattle.bounds.specs.Bounded.{Bounded}
 use Rattle.reading.specs.State.{State}
 use Rattle.reading.specs.Steps as state
 use Rattle.reading.specs.Apertures.{isAmong}
@@ -25,7 +24,7 @@ use Rattle.plain.specs.Plain.{isPlain, faultOf}
 use Rattle.plain.proofs.Keeps.{Keeps, keeps-itself, still-known, after-keeps}
 use Rattle.plain.proofs.Steps.{plain-step}
 
-module _ (p : Progress) (c : Command) (text : List ℕ) (place : ℕ) (q : isPlain c ≡ true) (b : Bounded text c) (l : Level) (at : l ≡ levelOf p) where
+module _ (p : Progress) (c : Command) (text : List ℕ) (place : ℕ) (q : isPlain c ≡ true) (l : Level) (at : l ≡ levelOf p) where
   fault-is : (w : Lent) (s : State) → Knows w p s → stepOf (roomOf w) text place c s .fault ≡ faultOf (p .graphics) l c
   fault-is w s k =
       ap (λ t. t .fault) (plain-step (roomOf w) text place s c q) ∙ sym (λ i. faultOf (k .graphics i) ((at ∙ k .level) i) c)
@@ -47,7 +46,7 @@ module _ (p : Progress) (c : Command) (text : List ℕ) (place : ℕ) (q : isPla
       → StepsTo (λ room s. stepOf room text place c s) (λ w. Unit) (λ w. w) p (Next r)
   unfolding Follows
   set-goes-on g a e r r-is w s u k =
-      let now : Keeps (s .graphics) (after c (s .graphics)) = after-keeps (s .graphics) (keeps-itself w p s k) text c q b in
+      let now : Keeps (s .graphics) (after c (s .graphics)) = after-keeps (s .graphics) (keeps-itself w p s k) c q l (sym (λ i. faultOf (k .graphics i) l c) ∙ e) in
       let known : Knows w (withGraphics (after c (s .graphics)) p) (state.withGraphics (after c (s .graphics)) s) = still-known w p s k _ now in
       let same : after c (s .graphics) ≡ g = sym (a ∙ ap (after c) (k .graphics)) in (
         fault-is w s k ∙ e,

@@ -9,7 +9,7 @@ use Rattle.command.specs.declared.Operation.the-variants as operation
 use Rattle.command.specs.declared.Deed.{Deed}
 use Rattle.command.specs.declared.Deed.the-variants as deed
 use Rattle.command.specs.declared.Command.{Command}
-use Rattle.command.specs.declared.Command.the-variants.{Broken, Note, End, Set, Operate, Select, Define, Contain, Attribute}
+use Rattle.command.specs.declared.Command.the-variants.{Broken, Note, End, Set, Operate, Coded, Select, Define, Contain, Attribute}
 use Rattle.changes.specs.After.{after}
 use Rattle.reading.specs.State.{Room, State}
 use Rattle.reading.specs.Steps.{does, withGraphics, settingStep, moveStep, operationStep, deedStep, stepOf}
@@ -43,6 +43,7 @@ module _ (room : Room) (text : List ℕ) (place : ℕ) (s : State) where
   plain-step End q = refl
   plain-step (Set x) q = refl
   plain-step (Operate o) q = operation-step o q
+  plain-step (Coded code o) q = absurd (false≢true q)
   plain-step (Attribute d) q = deed-step d q
   plain-step (Select n) q = absurd (false≢true q)
   plain-step (Define d) q = absurd (false≢true q)

@@ -7,7 +7,7 @@ use Rattle.command.specs.declared.Operation.the-variants as operation
 use Rattle.command.specs.declared.Deed.{Deed}
 use Rattle.command.specs.declared.Deed.the-variants as deed
 use Rattle.command.specs.declared.Command.{Command}
-use Rattle.command.specs.declared.Command.the-variants.{Broken, Note, End, Set, Operate, Select, Define, Contain, Attribute}
+use Rattle.command.specs.declared.Command.the-variants.{Broken, Note, End, Set, Operate, Coded, Select, Define, Contain, Attribute}
 use Rattle.graphics.specs.declared.Graphics.{Graphics}
 use Rattle.graphics.specs.declared.Level.{Level}
 use Rattle.drawing.specs.Faults.{moveFault}
@@ -34,6 +34,7 @@ isPlain Note = true
 isPlain End = true
 isPlain (Set s) = true
 isPlain (Operate o) = isPlainOperation o
+isPlain (Coded code o) = false
 isPlain (Attribute d) = isPlainDeed d
 isPlain (Select n) = false
 isPlain (Define d) = false
@@ -58,6 +59,7 @@ faultOf g l Note = 0
 faultOf g l End = endFault g l
 faultOf g l (Set s) = settingFault g s
 faultOf g l (Operate o) = operationFault g o
+faultOf g l (Coded code o) = 0
 faultOf g l (Attribute d) = deedFault g d
 faultOf g l (Select n) = 0
 faultOf g l (Define d) = 0

@@ -6,7 +6,6 @@ ghost use mathlib.Core.List.{List};
 ghost use Rattle.reading.specs.State.{State};
 ghost use Rattle.reading.specs.Apertures.{isAmong};
 ghost use Rattle.reading.specs.Steps.{fileAttributeStep, stepOf};
-ghost use Rattle.bounds.specs.Bounded.{Bounded};
 ghost use Rattle.progress.specs.Lent.{Lent};
 ghost use Rattle.progress.specs.Knows.{Knows, Follows, StepsTo};
 ghost use Rattle.plain.specs.Plain.{isPlain, operationFault, deedFault, faultOf};
@@ -52,6 +51,7 @@ pub fn fault_of(g: Graphics, l: Level, c: Command) -> u64
         Command::End => rules::end_fault(g, l),
         Command::Set(s) => rules::setting_fault(g, s),
         Command::Operate(o) => operation_fault(g, o),
+        Command::Coded { .. } => 0,
         Command::Attribute(d) => deed_fault(g, d),
         Command::Select(_) => 0,
         Command::Define(_) => 0,
@@ -61,7 +61,8 @@ pub fn fault_of(g: Graphics, l: Level, c: Command) -> u64
 
 // A plain command: its fault, or the graphics state behind it.
 pub fn set(p: Progress, c: Command) -> Stepped
-    ensures { λ r. ⌜ ((text : List ℕ) (place : ℕ) → isPlain c ≡ true → Bounded text c → StepsTo (λ room s. stepOf room text place c s) (λ w. Unit) (λ w. w) p r) ⌝ }
+    requires { ⌜ isPlain c ≡ true ⌝ }
+    ensures { λ r. ⌜ ((text : List ℕ) (place : ℕ) → StepsTo (λ room s. stepOf room text place c s) (λ w. Unit) (λ w. w) p r) ⌝ }
 {
     let g = p.graphics;
     let fault = fault_of(g, progress::level_of(p), c);

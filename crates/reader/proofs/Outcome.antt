@@ -1,5 +1,6 @@
 -- What the call comes to, by how the commands end.
 -- Assumes nothing.
+use Rattle.running.specs.Units.{unitIn}
 use Prim.Native.Nat.{ℕ, _+_, _≤_}
 use mathlib.Core.Path.{_≡_, refl, sym, ap, _∙_, subst}
 use mathlib.Core.Bool.{true, false}
@@ -63,7 +64,7 @@ module _ (w₀ w : Lent) (file-is : w .file ≡ w₀ .file) (e : w .entries ≡ 
 -- the rooms matter by their lengths alone
 pub same-answer : (book : Book) (w₀ w : Lent) → w .file ≡ w₀ .file → AsLong w₀ w → answerOf book w ≡ answerOf book w₀
 unfolding answerOf
-same-answer book w₀ w f l = λ i. readOn (same-room w₀ w l i) (f i) (walked book (f i) .commands) (walked book (f i) .fault) begun
+same-answer book w₀ w f l = λ i. readOn (same-room w₀ w l i) (f i) (walked book (f i) .commands) (walked book (f i) .fault) (begun book)
 
 -- a run that ends, and one that asks
 pub came : (book : Book) (w₀ w₁ w₂ : Lent) (look : Repeat) (o : Outcome) {x : End} → w₁ .file ≡ w₀ .file → AsLong w₀ w₁ → Comes book (answerOf book w₁) w₂ look o → o ≡ outcome.Ends x →
@@ -118,14 +119,14 @@ module _ (book : Book) (w₀ w : Lent) (head : List ℕ) (r : End) (short : fits
     pub sheet-fits : p .builder .closed + p .builder .high ≤ entryRoom (w .entries)
     sheet-fits = sheeted .knows .shows .fits
 
-    pub reads-accepted : (e′ : List ℕ) → w .file ≡ w₀ .file → head ≡ headOf (p .graphics .format .unit) (p .builder) (p .apertures) (p .macros) (p .numbers) →
-        Ended (w .entries) e′ (p .builder) → Reads (roundedIn book (w₀ .file)) (reading book (roomOf w₀) (w₀ .file)) w₀ (withEntries e′ w) head (answer.Accepted (p .graphics .format .unit) rounded)
+    pub reads-accepted : (e′ : List ℕ) → w .file ≡ w₀ .file → head ≡ headOf (unitIn (p .graphics .header)) (p .builder) (p .apertures) (p .macros) (p .numbers) →
+        Ended (w .entries) e′ (p .builder) → Reads (roundedIn book (w₀ .file)) (reading book (roomOf w₀) (w₀ .file)) w₀ (withEntries e′ w) head (answer.Accepted (unitIn (p .graphics .header)) rounded)
     unfolding Reads withEntries
     reads-accepted e′ file-is h ended =
         let s = sheeted in
         let all : rounded ≡ roundedIn book (w₀ .file) = s .counted ∙ ap (λ (f : List ℕ). roundedAmong (walked book f .commands)) file-is ∙ rounded-fits book (w₀ .file) short in
-        subst (λ (x : Answer). Reads (roundedIn book (w₀ .file)) x w₀ (withEntries e′ w) head (answer.Accepted (p .graphics .format .unit) rounded)) (sym (s .is) ∙ reading-fits book w₀ short) (
-          (λ i. answer.Accepted (s .knows .graphics i .format .unit) (all i)),
+        subst (λ (x : Answer). Reads (roundedIn book (w₀ .file)) x w₀ (withEntries e′ w) head (answer.Accepted (unitIn (p .graphics .header)) rounded)) (sym (s .is) ∙ reading-fits book w₀ short) (
+          (λ i. answer.Accepted (unitIn (s .knows .graphics i .header)) (all i)),
           record {
             entries-long = ended .as-long ∙ long .entries-long;
             apertures-long = long .apertures-long;
@@ -133,6 +134,6 @@ module _ (book : Book) (w₀ w : Lent) (head : List ℕ) (r : End) (short : fits
             numbers-long = long .numbers-long;
           },
           subst (λ (h : List ℕ). Leaves (w₀ .file) h e′ (w .apertures) (w .macros) (w .numbers) (s .state)) (sym h)
-              (subst (λ (f : List ℕ). Leaves f (headOf (p .graphics .format .unit) (p .builder) (p .apertures) (p .macros) (p .numbers)) e′ (w .apertures) (w .macros) (w .numbers) (s .state)) file-is
+              (subst (λ (f : List ℕ). Leaves f (headOf (unitIn (p .graphics .header)) (p .builder) (p .apertures) (p .macros) (p .numbers)) e′ (w .apertures) (w .macros) (w .numbers) (s .state)) file-is
               (leaves w p (s .state) (s .knows) (s .kept) (s .unit) e′ ended)),
         )

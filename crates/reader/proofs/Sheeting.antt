@@ -1,9 +1,14 @@
 -- A finished reading leaves a sheet of the file's marks in the lent words.
 -- Assumes nothing.
+use Rattle.graphics.specs.declared.Header.{Header}
+use Rattle.base.specs.Choose.{pick}
+use Rattle.base.specs.And.{_and_}
+use lib.Dec.{eqb}
+use Rattle.running.specs.Units.{unitIn}
 use Prim.Native.Nat.{ℕ, _≤_}
-use mathlib.Core.Path.{_≡_, sym, ap, _∙_}
+use mathlib.Core.Path.{_≡_, sym, ap, _∙_, refl}
 use mathlib.Core.List.{List}
-use mathlib.Core.Bool.{true}
+use mathlib.Core.Bool.{true, Bool, false}
 use native.Mathlib.Omega.{arith}
 use lib.Dec.{lit≤}
 use lib.ListN.{length}
@@ -34,9 +39,21 @@ use Rattle.progress.proofs.Macros as macros
 use Rattle.containers.proofs.Levels.{inside-top, around-top}
 use Rattle.reader.specs.Leaves.{Leaves}
 
--- M02's rules: MO is given, and nothing is open
+-- a unit that MO or a code has given
+unit-some : (h : Header) → (eqb (h .unit) 0 and eqb (h .coded) 0) ≡ false → 1 ≤ unitIn h
+unfolding unitIn pick _and_
+unit-some h e = go (eqb (h .unit) 0) refl e
+  where
+    some : (n : ℕ) → (n ≡ 0 → ⊥) → 1 ≤ n
+    some n ne = omega arith
+
+    go : (t : Bool) → eqb (h .unit) 0 ≡ t → (t and eqb (h .coded) 0) ≡ false → 1 ≤ pick t (h .coded) (h .unit)
+    go true q f = some _ (eqb-false _ _ f)
+    go false q f = some _ (eqb-false _ _ q)
+
+-- M02's rules: the unit is given, and nothing is open
 record Ready (g : Graphics) (l : Level) : Type 0 where
-  unit : 1 ≤ g .format .unit
+  unit : 1 ≤ unitIn (g .header)
   top : l .inside ≡ 0
 
 ready : (g : Graphics) (l : Level) → endFault g l ≡ 0 → Ready g l
@@ -45,17 +62,13 @@ ready g l none =
     let given = unbroken (lit≤ tt) none in
     let closed = unbroken (lit≤ tt) (given .1) in
     record {
-      unit = some (g .format .unit) (eqb-false _ _ (neither _ _ (given .0) .1));
+      unit = unit-some (g .header) (neither _ _ (given .0) .1);
       top = eqb-true _ _ (not-false _ (neither _ _ (closed .0) .1));
     }
-  where
-    some : (n : ℕ) → (n ≡ 0 → ⊥) → 1 ≤ n
-    some n ne = omega arith
-
-module _ (w : Lent) (p : Progress) (s : State) (k : Knows w p s) (kept : endFault (s .graphics) (s .level) ≡ 0) (small : s .graphics .format .unit ≤ 2)
+module _ (w : Lent) (p : Progress) (s : State) (k : Knows w p s) (kept : endFault (s .graphics) (s .level) ≡ 0) (small : unitIn (s .graphics .header) ≤ 2)
     (e′ : List ℕ) (ended : Ended (w .entries) e′ (p .builder)) where
-  unit-is : p .graphics .format .unit ≡ s .graphics .format .unit
-  unit-is = ap (λ (g : Graphics). g .format .unit) (k .graphics)
+  unit-is : unitIn (p .graphics .header) ≡ unitIn (s .graphics .header)
+  unit-is = ap (λ (g : Graphics). unitIn (g .header)) (k .graphics)
 
   ten : p .builder .height ≡ 10
   unfolding levelOf
@@ -77,17 +90,17 @@ module _ (w : Lent) (p : Progress) (s : State) (k : Knows w p s) (kept : endFaul
   macros-long = macros.known-long (w .file) (w .macros) (p .macros) (s .macros) (k .macros)
 
   abbrev head : List ℕ
-  head = headOf (p .graphics .format .unit) (p .builder) (p .apertures) (p .macros) (p .numbers)
+  head = headOf (unitIn (p .graphics .header)) (p .builder) (p .apertures) (p .macros) (p .numbers)
 
-  low : 1 ≤ p .graphics .format .unit
+  low : 1 ≤ unitIn (p .graphics .header)
   low = rw unit-is (ready (s .graphics) (s .level) kept .unit)
 
-  high : p .graphics .format .unit ≤ 2
+  high : unitIn (p .graphics .header) ≤ 2
   high = rw unit-is small
 
   is-valid : valid head e′ (w .apertures) ≡ true
   is-valid = is-sheet (s .marks) (w .entries) e′ (w .apertures) (p .apertures) (p .builder) (k .shows) ten items-few rooms ended
-      (p .graphics .format .unit) (p .macros) (p .numbers) low high
+      (unitIn (p .graphics .header)) (p .macros) (p .numbers) low high
 
   -- the addresses of the parts that the marks put on the sheet
   addressed : sheetAddresses head e′ (w .apertures) ≡ addressesOf (s .marks)
@@ -96,14 +109,14 @@ module _ (w : Lent) (p : Progress) (s : State) (k : Knows w p s) (kept : endFaul
       sym (addresses-are head e′ (w .apertures) is-valid)
       ∙ ap partAddresses
       (is-from-marks (s .marks) (w .entries) e′ (w .apertures) (p .apertures) (p .builder) (k .shows) ten items-few rooms ended
-      (p .graphics .format .unit) (p .macros) (p .numbers) low high)
+      (unitIn (p .graphics .header)) (p .macros) (p .numbers) low high)
 
   pub leaves : Leaves (w .file) head e′ (w .apertures) (w .macros) (w .numbers) s
   unfolding headOf
   leaves = record {
     sheet = is-valid;
     items = is-plain (s .marks) (w .entries) e′ (w .apertures) (p .apertures) (p .builder) (k .shows) ten items-few rooms ended
-        (p .graphics .format .unit) (p .macros) (p .numbers) low high;
+        (unitIn (p .graphics .header)) (p .macros) (p .numbers) low high;
     addresses = addressed;
     unit = unit-is;
     entries-used = k .entries;

@@ -1,5 +1,6 @@
 -- What an accepted reading leaves in the lent words (docs/SHEET.md): a sheet, whose items are those of the file's marks with every
 -- repeat and nested block written out, and their addresses those of the marks; the records of the apertures and the macros; the numbers. Unused room is zero.
+use Rattle.running.specs.Units.{unitIn}
 use Prim.Native.Nat.{ℕ, _-_, _*_, _≤_}
 use mathlib.Core.Path.{_≡_}
 use mathlib.Core.Bool.{true}
@@ -28,7 +29,7 @@ pub record Leaves (file head e a m : List ℕ) (n : List ℤ) (s : State) : Type
   pub sheet : valid head e a ≡ true
   pub items : sheetItems head e a ≡ plain (s .marks)
   pub addresses : sheetAddresses head e a ≡ addressesOf (s .marks)
-  pub unit : unitOf head ≡ s .graphics .format .unit
+  pub unit : unitOf head ≡ unitIn (s .graphics .header)
   pub entries-used : entriesUsed head ≡ s .entries
   pub apertures-used : aperturesUsed head ≡ length (s .apertures)
   pub macros-used : macrosUsed head ≡ length (s .macros)

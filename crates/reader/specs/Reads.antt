@@ -1,4 +1,5 @@
 -- What the call for a reading comes to: the answer of the definition (crates/reading), and the lent words behind it.
+use Rattle.running.specs.Units.{unitIn}
 use Prim.Native.Nat.{ℕ}
 use mathlib.Core.Path.{_≡_}
 use mathlib.Core.List.{List}
@@ -40,5 +41,5 @@ pub record Zeroed (w w′ : Lent) (head : List ℕ) : Type 0 where
 -- "An accepted reading also gives the unit, mm or inch", 1 or 2, and "reports how many decimals were rounded" (02, [1])
 unfoldable pub Reads : ℕ → Answer → Lent → Lent → List ℕ → code.Answer → Type 0
 Reads rounded (accepted s) w w′ head r =
-    (r ≡ answer.Accepted (s .graphics .format .unit) rounded) × AsLong w w′ × Leaves (w .file) head (w′ .entries) (w′ .apertures) (w′ .macros) (w′ .numbers) s
+    (r ≡ answer.Accepted (unitIn (s .graphics .header)) rounded) × AsLong w w′ × Leaves (w .file) head (w′ .entries) (w′ .apertures) (w′ .macros) (w′ .numbers) s
 Reads rounded (refused number place) w w′ head r = (r ≡ answer.Refused number place) × Zeroed w w′ head

@@ -4,6 +4,7 @@ ghost use mathlib.Core.Path.{_≡_};
 ghost use Prim.Native.Nat.{_+_, _≤_};
 ghost use lib.IntN.{pos};
 ghost use lib.ListN.{length, replicate};
+ghost use Rattle.running.specs.Units.{unitIn};
 ghost use Rattle.scan.specs.Permitted.{fits};
 ghost use Rattle.sheet.specs.Records.{entryRoom};
 ghost use Rattle.close.specs.Closed.{headOf, Ended};
@@ -82,13 +83,14 @@ fn run_over(
 // Finishes the sheet: the top level comes to lie behind what is closed. Its head.
 fn finish(e: &mut [u64], p: Progress) -> [u64; 8]
     requires { ⌜ p .builder .closed + p .builder .high ≤ entryRoom (now e) ⌝ }
-    ensures { λ r. ⌜ (r ≡ headOf (p .graphics .format .unit) (p .builder) (p .apertures) (p .macros) (p .numbers))
+    ensures { λ r. ⌜ (r ≡ headOf (unitIn (p .graphics .header)) (p .builder) (p .apertures) (p .macros) (p .numbers))
         × Ended (now (e .entry)) (now (e .exit)) (p .builder) ⌝ }
 {
     let b = p.builder;
+    let h = p.graphics.header;
     close::finish(e, b);
     close::head_words(
-        p.graphics.format.unit,
+        running::unit_in(h),
         b,
         p.apertures as u64,
         p.macros as u64,
@@ -123,8 +125,11 @@ fn read_file(
         }
         End::Sheet { progress, rounded } => {
             *head = finish(e, progress);
-            let unit = progress.graphics.format.unit;
-            Answer::Accepted { unit, rounded }
+            let h = progress.graphics.header;
+            Answer::Accepted {
+                unit: running::unit_in(h),
+                rounded,
+            }
         }
     }
 }

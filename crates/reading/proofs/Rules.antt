@@ -10,7 +10,7 @@ use mathlib.Core.Logic.{_⊎_, inl, inr}
 use native.Mathlib.Omega.{arith}
 use lib.Dec.{eqb}
 use lib.ListN.{getD}
-use Rattle.book.specs.Books.{under}
+use Rattle.book.specs.Books.{under, isOld}
 use Rattle.book.specs.declared.Book.{Book}
 use Rattle.book.specs.declared.Letters.the-variants.{Old, New}
 use Rattle.commands.specs.Commands.{commandsOf}
@@ -41,9 +41,9 @@ module _ (room : Room) (file : List ℕ) where
 
 module _ (book : Book) (room : Room) (file : List ℕ) where
   pub reading-kept : NotBad (reading (under Old book) room file) → reading (under New book) room file ≡ reading (under Old book) room file
-  unfolding reading
+  unfolding reading begun isOld
   reading-kept h =
-      on-kept room file (commandsOf (under Old book) file .commands) (commandsOf (under New book) file .commands) (commandsOf (under Old book) file .fault) (commandsOf (under New book) file .fault) begun
+      on-kept room file (commandsOf (under Old book) file .commands) (commandsOf (under New book) file .commands) (commandsOf (under Old book) file .fault) (commandsOf (under New book) file .fault) (begun book)
       (commands-go book file) h
 
   -- the same sheet
@@ -51,5 +51,5 @@ module _ (book : Book) (room : Room) (file : List ℕ) where
   accepted-kept e = reading-kept (λ place q. let z : _≡_ {A = ℕ} 0 1 = cc in omega arith) ∙ e
 
   pub reading-alike : ((i : ℕ) → getD file i 0 < 127) → reading (under Old book) room file ≡ reading (under New book) room file
-  unfolding reading
-  reading-alike low = rw (commands-alike book file low)
+  unfolding reading begun isOld
+  reading-alike low = rw (commands-alike book file low) refl

@@ -2,6 +2,7 @@
 -- and one that is accepted, of which reading knows the format and the unit and nothing else.
 -- Assumes nothing.
 use mathlib.Core.Path.{_≡_, refl}
+use mathlib.Core.Bool.{false}
 use mathlib.Core.List.{[], _∷_, map}
 use Rattle.base.specs.And.{_and_}
 use Rattle.base.specs.Or.{_or_}
@@ -17,7 +18,7 @@ use Rattle.base.specs.Trimmed.{dropLeading, keptBefore, dropTrailing}
 use Rattle.text.specs.First.{firstIn, beforeByte, afterByte}
 use Rattle.text.specs.Name.{letter, nameStart, nameByte, nameBytes, isName}
 use Rattle.text.specs.Text.{among}
-use Rattle.book.specs.Books.{ascii}
+use Rattle.book.specs.Books.{ascii, isOldEdition, isOld}
 use Rattle.scan.specs.Permitted.{fits, printable, breaksAfter, mayBreak, permitted, letterHere, badIn}
 use Rattle.scan.specs.Scan.{textFrom, endOf, cutBy, commandIn, nextCommand}
 use Rattle.scan.specs.Scan as scan-Scan
@@ -27,20 +28,23 @@ use Rattle.letters.specs.Table as letters-Table
 use Rattle.base.specs.Choose.{pick}
 use Rattle.command.specs.Flaws.{flawNumber}
 use Rattle.command.specs.Numbers.{judged, inRange, anySize, sizedAs}
-use Rattle.words.specs.Words.{commentOf, selectOf, wordOf}
-use Rattle.words.specs.Words as words-Words
-use Rattle.settings.specs.Header.{formatOf, unitOf}
-use Rattle.recognise.specs.Commands.{oneBlock, dataOf, extendedOf, commandOf}
+use Rattle.words.specs.Newer.{newerWord}
+use Rattle.words.specs.Newer as words-Newer
+use Rattle.words.specs.Words.{wordOf}
+use Rattle.settings.specs.Header.{formatted, formatOf, unitOf}
+use Rattle.formats.specs.Format.{newer, noFormat}
+use Rattle.formats.specs.Texts.{newerFormat}
+use Rattle.recognise.specs.Commands.{oneBlock, isUnread, dataOf, dataIn, extendedOf, commandOf}
 use Rattle.commands.specs.Commands.{commandsFrom, commandsOf}
 use Rattle.commands.specs.Leads.{leadOfFlaw, leadOfSetting, leadOf}
 use Rattle.commands.specs.Turns.{led, turnOf, tailFault}
 use Rattle.commands.specs.Turns as commands-Turns
-use Rattle.graphics.specs.Graphics.{origin, unset, noAperture, noRegion, withFormat, withPoint, withAperture, withMode, withQuadrants, withTransform, withRegion}
+use Rattle.graphics.specs.Graphics.{origin, unset, noAperture, noRegion, withHeader, withNotation, withPoint, withAperture, withMode, withQuadrants, withTransform, withRegion}
 use Rattle.graphics.specs.Graphics as graphics-Graphics
 use Rattle.graphics.specs.Orientation.{angleOf, angleAfter, orientation}
-use Rattle.changes.specs.After.{along, target, goingTo, emptyRegion, startsContour, drawing, ended, withDigits, withUnit, withClear, withMirror, withRotation, withScale, afterSetting, afterOperation, after}
-use Rattle.fits.specs.Fits.{isMissing, unready, placeless, brushless, circular, hasOffset, arcless, drawMisfits, flashMisfits, moveless, centreOf, badCentre, unclosed, askew, tooTall}
-use Rattle.fits.specs.Fits as fits-Fits
+use Rattle.changes.specs.After.{along, target, goingTo, emptyRegion, startsContour, drawing, ended, withFormat, withUnit, withCoded, withClear, withMirror, withRotation, withScale, afterSetting, afterOperation, after}
+use Rattle.reach.specs.Far.{isFormatted}
+use Rattle.fits.specs.Fits.{isMissing, unready, placeless, unclosed}
 use Rattle.drawing.specs.Faults.{drawItems, drawFault, moveFault, flashItems, flashFault, regionEndFault}
 use Rattle.decimal.specs.Amounts.{aboveZero}
 use Rattle.rules.specs.Bounds.{isCount, isRepeat}
@@ -62,6 +66,6 @@ pub small-files :
     map (λ s. reading-Reading.reading ascii room (text s))
     ("" ∷ "D9*M02*" ∷ "M02*" ∷ "D10*M02*" ∷ "%FSLAX26Y26*%%MOMM*%G36*M02*" ∷ "%FSLAX26Y26*%%MOMM*%M02*A" ∷ "%FSLAX26Y26*%%MOIN*%M02*" ∷ [])
     ≡ refused 3 0 ∷ refused 4 0 ∷ refused 6 0 ∷ refused 8 0 ∷ refused 7 24 ∷ refused 18 24
-    ∷ accepted (withGraphics (withFormat (record { digits = 2; unit = 2 }) graphics-Graphics.start) begun) ∷ []
-unfolding room _and_ sameBytes _or_ signed isNeg isDigit allDigits isNumber valueOf naturalOf hasMinus afterSign dropLeading keptBefore dropTrailing firstIn beforeByte afterByte letter nameStart nameByte nameBytes isName among fits printable breaksAfter mayBreak permitted badIn textFrom endOf cutBy commandIn nextCommand inField letterHere letters-Table.letterIn letters-Table.wholeOf letters-Table.leadOf letters-Table.leadIn letters-Table.table letters-Table.follows letters-Table.within tailOf pick flawNumber judged inRange anySize sizedAs commentOf selectOf wordOf formatOf unitOf oneBlock dataOf extendedOf commandOf commandsFrom commandsOf leadOfFlaw leadOfSetting leadOf led turnOf tailFault origin unset noAperture noRegion withFormat withPoint withAperture withMode withQuadrants withTransform withRegion angleOf angleAfter orientation along target goingTo emptyRegion startsContour drawing ended withDigits withUnit withClear withMirror withRotation withScale afterSetting afterOperation after isMissing unready placeless brushless circular hasOffset arcless drawMisfits flashMisfits moveless centreOf badCentre unclosed askew tooTall drawItems drawFault moveFault flashItems flashFault regionEndFault aboveZero isCount isRepeat settingRules settingFault regionFault formatFault unitFault scaleFault selectFault apertureFault macroFault blockStartFault closingFault repeatStartFault fileAttributeFault endFault drawMarks flashMarks operationMarks bracketMarks marksOf isTaken selected apertureFrom apertureWith isAmong namesOf blocksOf isStandard valuesOf outcomeOf defined opening closing readOn outermost begun passed withGraphics withLevel withOpened withApertures withMacros withNames withNumbers settingStep drawStep flashHeight flashStep moveStep selectStep apertureStep macroStep blockStartStep repeatStartStep blockEnds repeatEnds blockEndStep repeatEndStep fileAttributeStep operationStep definitionStep bracketStep deedStep stepOf scan-Scan.kindOf words-Words.codeOf commands-Turns.turned graphics-Graphics.start fits-Fits.offsetOf marks-Marks.repeatOf reading-Apertures.blockOf reading-Reading.reading
+    ∷ accepted (withGraphics (withHeader (record { format = newer 2; unit = 2; coded = 0 }) (graphics-Graphics.start false)) (begun ascii)) ∷ []
+unfolding room _and_ sameBytes _or_ signed isNeg isDigit allDigits isNumber valueOf naturalOf hasMinus afterSign dropLeading keptBefore dropTrailing firstIn beforeByte afterByte letter nameStart nameByte nameBytes isName among fits printable breaksAfter mayBreak permitted badIn textFrom endOf cutBy commandIn nextCommand inField letterHere letters-Table.letterIn letters-Table.wholeOf letters-Table.leadOf letters-Table.leadIn letters-Table.table letters-Table.follows letters-Table.within tailOf pick flawNumber judged inRange anySize sizedAs wordOf formatOf unitOf oneBlock dataOf extendedOf commandOf commandsFrom commandsOf leadOfFlaw leadOfSetting leadOf led turnOf tailFault origin unset noAperture noRegion withPoint withAperture withMode withQuadrants withTransform withRegion angleOf angleAfter orientation along target goingTo emptyRegion startsContour drawing ended withUnit withClear withMirror withRotation withScale afterSetting afterOperation after isMissing unready placeless unclosed drawItems drawFault moveFault flashItems flashFault regionEndFault aboveZero isCount isRepeat settingRules settingFault regionFault formatFault unitFault scaleFault selectFault apertureFault macroFault blockStartFault closingFault repeatStartFault fileAttributeFault endFault drawMarks flashMarks operationMarks bracketMarks marksOf isTaken selected apertureFrom apertureWith isAmong namesOf blocksOf isStandard valuesOf outcomeOf defined opening closing readOn outermost begun passed withGraphics withLevel withOpened withApertures withMacros withNames withNumbers settingStep drawStep flashHeight flashStep moveStep selectStep apertureStep macroStep blockStartStep repeatStartStep blockEnds repeatEnds blockEndStep repeatEndStep fileAttributeStep operationStep definitionStep bracketStep deedStep stepOf scan-Scan.kindOf commands-Turns.turned graphics-Graphics.start marks-Marks.repeatOf reading-Apertures.blockOf reading-Reading.reading newerWord words-Newer.codeOf words-Newer.selectOf formatted newerFormat newer noFormat isUnread dataIn isOldEdition isOld withHeader withNotation withFormat withCoded isFormatted
 small-files = refl

@@ -31,13 +31,14 @@ isTaken n [] = false
 isTaken n (a ∷ rest) = eqb n (a .number) or isTaken n rest
 
 -- the aperture of record i as Dn selects it: "An open block's number is taken, but selecting it is 8"; a brush is "a C aperture
--- without hole", of one parameter
+-- without hole", of one parameter, in the old edition also "a solid rectangle", an R of two
 unfoldable pub selected : ℕ → Aperture → Selected
 selected i a = record {
   set = not (eqb (a .kind) openBlock);
   number = a .number;
   slot = i;
   circle = eqb (a .kind) 1 and eqb (a .len) 1;
+  rectangle = eqb (a .kind) 2 and eqb (a .len) 2;
   block = eqb (a .kind) block;
   items = a .items;
   height = a .height;

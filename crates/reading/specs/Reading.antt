@@ -30,4 +30,4 @@ readOn room file (c ∷ cs) f s =
     ]
 
 unfoldable pub reading : Book → Room → List ℕ → Answer
-reading book room file = readOn room file (commandsOf book file .commands) (commandsOf book file .fault) begun
+reading book room file = readOn room file (commandsOf book file .commands) (commandsOf book file .fault) (begun book)

@@ -2,6 +2,8 @@
 use Prim.Native.Nat.{ℕ}
 use mathlib.Core.List.{List, []}
 use lib.IntN.{ℤ}
+use Rattle.book.specs.Books.{isOld}
+use Rattle.book.specs.declared.Book.{Book}
 use Rattle.place.specs.Mark.{Mark}
 use Rattle.graphics.specs.Graphics.{start}
 use Rattle.graphics.specs.Level.{topLevel}
@@ -50,9 +52,10 @@ pub record State : Type 0 where
 unfoldable pub outermost : Level
 outermost = record { inside = topLevel; items = 0; height = 0; depth = 0; copies = 1; sheet = 0 }
 
-unfoldable pub begun : State
-begun = record {
-  graphics = start;
+-- at the start of a file that is read by this book
+unfoldable pub begun : Book → State
+begun book = record {
+  graphics = start (isOld book);
   level = outermost;
   opened = [];
   apertures = [];

@@ -22,7 +22,7 @@ use Rattle.command.specs.declared.Bracket.the-variants as bracket
 use Rattle.command.specs.declared.Deed.{Deed}
 use Rattle.command.specs.declared.Deed.the-variants as deed
 use Rattle.command.specs.declared.Command.{Command}
-use Rattle.command.specs.declared.Command.the-variants.{Broken, Note, End, Set, Operate, Select, Define, Contain, Attribute}
+use Rattle.command.specs.declared.Command.the-variants.{Broken, Note, End, Set, Operate, Coded, Select, Define, Contain, Attribute}
 use Rattle.place.specs.Mark.{Mark}
 use Rattle.graphics.specs.Graphics.{withAperture}
 use Rattle.graphics.specs.Level.{block, repeat}
@@ -44,6 +44,7 @@ use Rattle.rules.specs.Rules.{
   fileAttributeFault,
   endFault,
 }
+use Rattle.faults.specs.Order.{sooner}
 use Rattle.marks.specs.Marks.{marksOf}
 use Rattle.reading.specs.State as opened
 use Rattle.reading.specs.State.{Room, Aperture, Template, Opened, State}
@@ -197,6 +198,13 @@ operationStep room p (operation.Draw x y o) s = drawStep room p x y o s
 operationStep room p (operation.Move x y) s = moveStep x y s
 operationStep room p (operation.Flash x y) s = flashStep room p x y s
 
+-- an operation behind a G code: "The code takes effect first, then the operation in the state behind it"; of their faults the one that
+-- is tested first (decision 516)
+unfoldable pub codedStep : Room → ℕ → Setting → Operation → State → Step
+codedStep room p code o s =
+    let behind : State = settingStep code s .next in
+    does (sooner (settingStep code s .fault) (operationStep room p o behind .fault)) (operationStep room p o behind .next)
+
 -- AD and AM, with the command's text
 unfoldable pub definitionStep : Room → List ℕ → Definition → State → Step
 definitionStep room t (definition.Aperture n name ps rounded) s = apertureStep room n (part t name) (part t ps) s
@@ -224,6 +232,7 @@ stepOf room t p Note s = does 0 s
 stepOf room t p End s = does (endFault (s .graphics) (s .level)) s
 stepOf room t p (Set x) s = settingStep x s
 stepOf room t p (Operate o) s = operationStep room p o s
+stepOf room t p (Coded code o) s = codedStep room p code o s
 stepOf room t p (Select n) s = selectStep n s
 stepOf room t p (Define d) s = definitionStep room t d s
 stepOf room t p (Contain b) s = bracketStep room p b s

@@ -51,10 +51,16 @@ unfolding settingRules risesFrom order rankIn _and_
 setting-rises g setting.Linear = refl
 setting-rises g setting.Clockwise = refl
 setting-rises g setting.Counterclockwise = refl
+setting-rises g setting.SingleQuadrant = refl
 setting-rises g setting.MultiQuadrant = refl
+setting-rises g setting.Absolute = refl
+setting-rises g setting.Incremental = refl
+setting-rises g setting.CodedMillimetres = refl
+setting-rises g setting.CodedInches = refl
+setting-rises g setting.Halt = refl
 setting-rises g setting.RegionStart = refl
 setting-rises g setting.RegionEnd = region-end-rises g
-setting-rises g (setting.Format n) = refl
+setting-rises g (setting.Format f) = refl
 setting-rises g setting.Millimetres = refl
 setting-rises g setting.Inches = refl
 setting-rises g setting.Dark = refl

@@ -11,24 +11,26 @@ use Rattle.decimal.specs.declared.answers.Amount.{Amount}
 use Rattle.graphics.specs.Level.{topLevel}
 use Rattle.graphics.specs.declared.Graphics.{Graphics}
 use Rattle.graphics.specs.declared.Level.{Level}
+use Rattle.reach.specs.Far.{isFormatted}
 use Rattle.fits.specs.Fits.{unready}
 
--- "In a region only G01, G02, G03, G75, G04, D01, D02, G37": G36, LP, LM, LR, TA, TO and TD have this rule alone
+-- "In a region only G01, G02, G03, G75, G04, D01, D02, G37", and G74 (decision 520): G36, LP, LM, LR, TA, TO and TD, and the old book's
+-- G70, G71, G90, G91, M00 and M01 have this rule alone
 abbrev pub regionRules : Graphics → Table
 regionRules g = (g .region .on, 7) ∷ []
 
 unfoldable pub regionFault : Graphics → ℕ
 regionFault g = firstFault (regionRules g)
 
--- FS and MO (decision 49)
+-- FS and MO (decision 49); MO after a G70 or G71 is no second MO
 abbrev pub formatRules : Graphics → Table
-formatRules g = (not (eqb (g .format .digits) 0), 6) ∷ (g .region .on, 7) ∷ []
+formatRules g = (isFormatted g, 6) ∷ (g .region .on, 7) ∷ []
 
 unfoldable pub formatFault : Graphics → ℕ
 formatFault g = firstFault (formatRules g)
 
 abbrev pub unitRules : Graphics → Table
-unitRules g = (not (eqb (g .format .unit) 0), 6) ∷ (g .region .on, 7) ∷ []
+unitRules g = (not (eqb (g .header .unit) 0), 6) ∷ (g .region .on, 7) ∷ []
 
 unfoldable pub unitFault : Graphics → ℕ
 unitFault g = firstFault (unitRules g)

@@ -12,10 +12,16 @@ unfoldable pub settingRules : Graphics → Setting → Table
 settingRules g setting.Linear = []
 settingRules g setting.Clockwise = []
 settingRules g setting.Counterclockwise = []
+settingRules g setting.SingleQuadrant = []
 settingRules g setting.MultiQuadrant = []
+settingRules g setting.Absolute = regionRules g
+settingRules g setting.Incremental = regionRules g
+settingRules g setting.CodedMillimetres = regionRules g
+settingRules g setting.CodedInches = regionRules g
+settingRules g setting.Halt = regionRules g
 settingRules g setting.RegionStart = regionRules g
 settingRules g setting.RegionEnd = regionEndRules g
-settingRules g (setting.Format n) = formatRules g
+settingRules g (setting.Format f) = formatRules g
 settingRules g setting.Millimetres = unitRules g
 settingRules g setting.Inches = unitRules g
 settingRules g setting.Dark = regionRules g

@@ -25,7 +25,7 @@ pub fn is_repeat(nx: u64, ny: u64, dx: Amount, dy: Amount) -> bool
     )
 }
 
-// G36, LP, LM, LR, TA, TO and TD.
+// G36, G70, G71, G90, G91, M00, M01, LP, LM, LR, TA, TO and TD.
 pub fn region_fault(g: Graphics) -> u64
     ensures { λ r. ⌜ r ≡ regionFault g ⌝ }
 {
@@ -36,14 +36,14 @@ pub fn region_fault(g: Graphics) -> u64
 pub fn format_fault(g: Graphics) -> u64
     ensures { λ r. ⌜ r ≡ formatFault g ⌝ }
 {
-    base::row(g.format.digits != 0, 6, base::row(g.region.on, 7, 0))
+    base::row(reach::is_formatted(g), 6, base::row(g.region.on, 7, 0))
 }
 
 // MO.
 pub fn unit_fault(g: Graphics) -> u64
     ensures { λ r. ⌜ r ≡ unitFault g ⌝ }
 {
-    base::row(g.format.unit != 0, 6, base::row(g.region.on, 7, 0))
+    base::row(g.header.unit != 0, 6, base::row(g.region.on, 7, 0))
 }
 
 // LS.
@@ -61,7 +61,13 @@ pub fn setting_fault(g: Graphics, s: Setting) -> u64
         Setting::Linear => 0,
         Setting::Clockwise => 0,
         Setting::Counterclockwise => 0,
+        Setting::SingleQuadrant => 0,
         Setting::MultiQuadrant => 0,
+        Setting::Absolute => region_fault(g),
+        Setting::Incremental => region_fault(g),
+        Setting::CodedMillimetres => region_fault(g),
+        Setting::CodedInches => region_fault(g),
+        Setting::Halt => region_fault(g),
         Setting::RegionStart => region_fault(g),
         Setting::RegionEnd => drawing::region_end_fault(g),
         Setting::Format(_) => format_fault(g),

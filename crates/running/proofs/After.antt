@@ -1,8 +1,11 @@
 -- What a step leaves of the unit and of the names that TF has set.
 -- Assumes nothing.
+use Rattle.running.specs.Units.{unitIn}
+use Rattle.base.specs.Choose.{pick}
+use lib.Dec.{eqb}
 use Prim.Native.Nat.{ℕ, _≤_}
 use mathlib.Core.Path.{_≡_, refl}
-use mathlib.Core.Bool.{false}
+use mathlib.Core.Bool.{Bool, true, false}
 use mathlib.Core.List.{List, [], _∷_}
 use native.Mathlib.Omega.{arith}
 use lib.Dec.{lit≤}
@@ -19,9 +22,9 @@ use Rattle.command.specs.declared.Deed.{Deed}
 use Rattle.command.specs.declared.Deed.the-variants as deed
 use Rattle.command.specs.declared.Command.{Command}
 use Rattle.command.specs.declared.Command.the-variants as cmd
-use Rattle.graphics.specs.Graphics.{withFormat, withPoint, withAperture, withMode, withQuadrants, withTransform, withRegion}
+use Rattle.graphics.specs.Graphics.{withHeader, withNotation, withPoint, withAperture, withMode, withQuadrants, withTransform, withRegion}
 use Rattle.graphics.specs.declared.Graphics.{Graphics}
-use Rattle.changes.specs.After.{afterSetting, afterOperation, after, goingTo, withDigits, withUnit}
+use Rattle.changes.specs.After.{afterSetting, afterOperation, after, goingTo, withFormat, withUnit, withCoded}
 use Rattle.rules.specs.Rules.{fileAttributeFault}
 use Rattle.names.specs.Sets.{setsBy, setsOf}
 use Rattle.names.specs.declared.Sets.{Sets}
@@ -54,6 +57,7 @@ use Rattle.reading.specs.Steps.{
   repeatEndStep,
   fileAttributeStep,
   operationStep,
+  codedStep,
   definitionStep,
   bracketStep,
   deedStep,
@@ -73,21 +77,43 @@ repeat-leaves [] s = (refl, refl)
 repeat-leaves (opened.block n l ∷ os) s = (refl, refl)
 repeat-leaves (opened.repeat l ∷ os) s = (refl, refl)
 
--- the unit is one of two, once it is given
+-- the unit is one of two, once it is given, by MO or by a code
 abbrev pub UnitGiven : Graphics → Type 0
-UnitGiven g = g .format .unit ≤ 2
+UnitGiven g = (g .header .unit ≤ 2) × (g .header .coded ≤ 2)
+
+pub unit-low : (g : Graphics) → UnitGiven g → unitIn (g .header) ≤ 2
+unfolding unitIn pick
+unit-low g h = go (eqb (g .header .unit) 0)
+  where
+    go : (t : Bool) → pick t (g .header .coded) (g .header .unit) ≤ 2
+    go true = h .1
+    go false = h .0
+
+coded-low : (u : ℕ) (g : Graphics) → u ≤ 2 → UnitGiven g → pick (eqb (g .header .coded) 0) u (g .header .coded) ≤ 2
+unfolding pick
+coded-low u g l h = go (eqb (g .header .coded) 0)
+  where
+    go : (t : Bool) → pick t u (g .header .coded) ≤ 2
+    go true = l
+    go false = h .1
 
 unit-set : (x : Setting) (g : Graphics) → UnitGiven g → UnitGiven (afterSetting x g)
-unfolding afterSetting withFormat withMode withQuadrants withTransform withRegion withDigits withUnit
+unfolding afterSetting withHeader withNotation withMode withQuadrants withTransform withRegion withFormat withUnit withCoded
 unit-set setting.Linear g h = h
 unit-set setting.Clockwise g h = h
 unit-set setting.Counterclockwise g h = h
+unit-set setting.SingleQuadrant g h = h
 unit-set setting.MultiQuadrant g h = h
+unit-set setting.Absolute g h = h
+unit-set setting.Incremental g h = h
+unit-set setting.CodedMillimetres g h = (h .0, coded-low 1 g (omega arith) h)
+unit-set setting.CodedInches g h = (h .0, coded-low 2 g (omega arith) h)
+unit-set setting.Halt g h = h
 unit-set setting.RegionStart g h = h
 unit-set setting.RegionEnd g h = h
-unit-set (setting.Format n) g h = h
-unit-set setting.Millimetres g h = omega arith
-unit-set setting.Inches g h = omega arith
+unit-set (setting.Format f) g h = h
+unit-set setting.Millimetres g h = (omega arith, h .1)
+unit-set setting.Inches g h = (omega arith, h .1)
 unit-set setting.Dark g h = h
 unit-set setting.Clear g h = h
 unit-set (setting.Mirror x y) g h = h
@@ -127,12 +153,13 @@ module _ (room : Room) (t : List ℕ) (p : ℕ) where
   unit-attributed deed.DeleteAll s h = h
 
   pub unit-after : (c : Command) (s : State) → UnitGiven (s .graphics) → UnitGiven (stepOf room t p c s .next .graphics)
-  unfolding stepOf settingStep selectStep withGraphics withAperture
+  unfolding stepOf settingStep codedStep selectStep withGraphics withAperture
   unit-after (cmd.Broken flaw) s h = h
   unit-after cmd.Note s h = h
   unit-after cmd.End s h = h
   unit-after (cmd.Set x) s h = unit-set x (s .graphics) h
   unit-after (cmd.Operate o) s h = unit-operated o s h
+  unit-after (cmd.Coded code o) s h = unit-operated o (settingStep code s .next) (unit-set code (s .graphics) h)
   unit-after (cmd.Select n) s h = h
   unit-after (cmd.Define d) s h = unit-defined d s h
   unit-after (cmd.Contain b) s h = unit-contained b s h
@@ -165,12 +192,13 @@ module _ (room : Room) (t : List ℕ) (p : ℕ) where
   names-attributed deed.DeleteAll s q = refl
 
   pub names-after : (c : Command) (s : State) → stepOf room t p c s .fault ≡ 0 → Named t (s .names) (stepOf room t p c s .next .names) (setsOf c)
-  unfolding Named setsOf stepOf settingStep selectStep withGraphics
+  unfolding Named setsOf stepOf settingStep codedStep selectStep withGraphics
   names-after (cmd.Broken flaw) s q = refl
   names-after cmd.Note s q = refl
   names-after cmd.End s q = refl
   names-after (cmd.Set x) s q = refl
   names-after (cmd.Operate o) s q = names-operated o s
+  names-after (cmd.Coded code o) s q = names-operated o (settingStep code s .next)
   names-after (cmd.Select n) s q = refl
   names-after (cmd.Define d) s q = names-defined d s
   names-after (cmd.Contain b) s q = names-contained b s

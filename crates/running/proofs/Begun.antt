@@ -1,5 +1,6 @@
 -- Over rooms of zeros, nothing is known before the first command.
 -- Assumes nothing.
+use Rattle.book.specs.declared.Book.{Book}
 use mathlib.Core.Path.{refl}
 use mathlib.Core.Bool.{false≢true}
 use native.Mathlib.Nat.{sub-zero}
@@ -20,9 +21,9 @@ use Rattle.progress.specs.Around.{Around}
 use Rattle.progress.specs.Knows.{Knows}
 use Rattle.running.specs.Ends.{start, Empty}
 
-pub knows-start : (w : Lent) → Empty w → Knows w start begun
+pub knows-start : (book : Book) (w : Lent) → Empty w → Knows w (start book) (begun book)
 unfolding start begun outermost graphics.start origin unset noAperture noRegion levelOf levelAt counted Around run written
-knows-start w z = record {
+knows-start book w z = record {
   graphics = refl;
   point = record { across = omega arith; up = omega arith };
   mode = omega arith;

@@ -1,6 +1,7 @@
 -- The names set so far, and what becomes of them with a command: it is told rightly whether it sets one again, and behind it the names are
 -- known that are set by then.
 -- Assumes nothing.
+use Rattle.formats.specs.declared.Format.{Format}
 use Prim.Native.Nat.{ℕ, _+_, _<_, _≤_}
 use mathlib.Core.Path.{_≡_, refl, sym, ap, _∙_}
 use mathlib.Core.Bool.{Bool}
@@ -40,7 +41,7 @@ pub record NamesAt (book : Book) (file : List ℕ) (at set : ℕ) (names : List 
 pub names-start : (book : Book) (file : List ℕ) → NamesAt book file 0 0 []
 names-start book file = record { known = known-start book file; count = refl; few = omega arith }
 
-module _ (book : Book) (n : ℕ) (file : List ℕ) (at set : ℕ) (names : List (List ℕ)) (h : at ≤ length file) (k : NamesAt book file at set names) {c : Placed} {m next : ℕ}
+module _ (book : Book) (n : Format) (file : List ℕ) (at set : ℕ) (names : List (List ℕ)) (h : at ≤ length file) (k : NamesAt book file at set names) {c : Placed} {m : Format} {next : ℕ}
     (e : turnOf book n file at ≡ turn.More c m next) where
   abbrev text : List ℕ
   text = slice (c .from) (c .end) file

@@ -1,5 +1,6 @@
 -- The reading of a file command by command: what is known at a place leads to the answer of the whole.
 -- Assumes nothing.
+use Rattle.formats.specs.declared.Format.{Format}
 use Prim.Native.Nat.{ℕ, _+_, _≤_}
 use mathlib.Core.Path.{_≡_, refl, sym, ap, _∙_, subst}
 use mathlib.Core.Bool.{Bool, true, false}
@@ -33,16 +34,16 @@ use Rattle.steps.specs.Steps.{Sound, Again}
 use Rattle.running.specs.declared.End.the-variants as end
 use Rattle.running.specs.Ends.{settled, Ends}
 use Rattle.running.proofs.Turns.{SoundTurn, turn-sound}
-use Rattle.running.proofs.After.{unit-after}
+use Rattle.running.proofs.After.{UnitGiven, unit-low, unit-after}
 use Rattle.running.proofs.Counting.{allOf, Counted, counted-last, counted-more}
 use Rattle.running.proofs.Naming.{NamesAt}
 
--- from `at` on, after FS with this n, 0 before it; s is what is known, so many names are set and so many decimals rounded, and what is left
+-- from `at` on, after this format of FS; s is what is known, so many names are set and so many decimals rounded, and what is left
 -- to read comes to the answer
-pub record Running (book : Book) (file : List ℕ) (room : Room) (answer : Answer) (w : Lent) (p : Progress) (n at set rounded : ℕ) (s : State) : Type 0 where
+pub record Running (book : Book) (file : List ℕ) (room : Room) (answer : Answer) (w : Lent) (p : Progress) (n : Format) (at set rounded : ℕ) (s : State) : Type 0 where
   pub within : at ≤ length file
   pub knows : Knows w p s
-  pub unit : s .graphics .format .unit ≤ 2
+  pub unit : UnitGiven (s .graphics)
   pub names : NamesAt book file at set (s .names)
   pub counted : Counted book file n at rounded
   pub leads : readOn room file (walk book n file at .commands) (walk book n file at .fault) s ≡ answer
@@ -67,7 +68,7 @@ read-goes : (room : Room) (file : List ℕ) (c : Placed) (cs : List Placed) (f :
 unfolding readOn
 read-goes room file c cs f s answer q e = rw (eq-eqb (stepAt room file c s .fault) 0 e, readOn) at q
 
-module _ (book : Book) (file : List ℕ) (room : Room) (answer : Answer) (w : Lent) (p : Progress) (n at set rounded : ℕ) (s : State)
+module _ (book : Book) (file : List ℕ) (room : Room) (answer : Answer) (w : Lent) (p : Progress) (n : Format) (at set rounded : ℕ) (s : State)
     (r : Running book file room answer w p n at set rounded s) where
   -- a fault of the bytes
   pub stops : {f : Refusal} → turnOf book n file at ≡ turn.Fault f → answer ≡ refused (f .number) (f .place)
@@ -115,13 +116,13 @@ module _ (book : Book) (file : List ℕ) (room : Room) (answer : Answer) (w : Le
           is = read-accepts room file (tailFault (tailOf file next)) s answer goes z;
           knows = rw same-state at k;
           kept = sym end-fault ∙ q;
-          unit = r .unit;
+          unit = unit-low (s .graphics) (r .unit);
           counted = counted-last book file n at rounded (r .counted) e (last-says .1) ∙ ap (allOf book) (sym same);
         }
         go false z = read-stops room file (tailFault (tailOf file next)) s answer goes z
 
   -- any other command
-  module _ {c : Placed} {m next : ℕ} (e : turnOf book n file at ≡ turn.More c m next) where
+  module _ {c : Placed} {m : Format} {next : ℕ} (e : turnOf book n file at ≡ turn.More c m next) where
     more-says : Sound file c × (at + roundedOf (c .command) ≤ next)
     unfolding SoundTurn
     more-says = subst (SoundTurn file at) e (turn-sound book n file at (r .within))

@@ -1,5 +1,7 @@
 -- The loop over the commands: what holds at each turn, and where each way out of it leads.
 -- Assumes nothing.
+use Rattle.formats.specs.Format.{noFormat}
+use Rattle.formats.specs.declared.Format.{Format}
 use Prim.Native.Nat.{ℕ, _+_, _<_, _≤_}
 use mathlib.Core.Path.{_≡_, refl, sym, _∙_, subst}
 use mathlib.Core.Bool.{Bool}
@@ -35,7 +37,7 @@ use Rattle.running.proofs.Counting.{counted-start}
 use Rattle.running.proofs.Naming.{NamesAt, names-start, names-few, asks, told-again, names-on}
 use Rattle.running.proofs.Running.{Running, stops, last-sound, last-again, ends, more-sound, counted-fits, refuses, goes}
 
-pub record Runs (book : Book) (file : List ℕ) (w₀ : Lent) (w : Lent) (p : Progress) (n at set rounded : ℕ) : Type 0 where
+pub record Runs (book : Book) (file : List ℕ) (w₀ : Lent) (w : Lent) (p : Progress) (n : Format) (at set rounded : ℕ) : Type 0 where
   pub state : State
   pub file-is : w .file ≡ file
   pub long : AsLong w₀ w
@@ -56,23 +58,23 @@ pub same-room : (w₀ w : Lent) → AsLong w₀ w → roomOf w ≡ roomOf w₀
 unfolding roomOf
 same-room w₀ w l = rw (l .entries-long, l .apertures-long, l .macros-long, l .numbers-long)
 
-pub runs-start : (book : Book) (w : Lent) → Empty w → Runs book (w .file) w w start 0 0 0 0
-unfolding begun graphics.start answerOf
+pub runs-start : (book : Book) (w : Lent) → Empty w → Runs book (w .file) w w (start book) noFormat 0 0 0
+unfolding begun graphics.start noFormat answerOf
 runs-start book w z = record {
-  state = begun;
+  state = begun book;
   file-is = refl;
   long = same-long w;
   running = record {
     within = omega arith;
-    knows = knows-start w z;
-    unit = omega arith;
+    knows = knows-start book w z;
+    unit = (omega arith, omega arith);
     names = names-start book (w .file);
     counted = counted-start book (w .file);
     leads = refl;
   };
 }
 
-module _ (book : Book) (file : List ℕ) (w₀ w : Lent) (p : Progress) (n at set rounded : ℕ) (r : Runs book file w₀ w p n at set rounded) where
+module _ (book : Book) (file : List ℕ) (w₀ w : Lent) (p : Progress) (n : Format) (at set rounded : ℕ) (r : Runs book file w₀ w p n at set rounded) where
   pub known : Known (λ x. x ≡ w) p
   known = record { lent = w; state = r .state; is = refl; knows = r .running .knows }
 
@@ -95,7 +97,7 @@ module _ (book : Book) (file : List ℕ) (w₀ w : Lent) (p : Progress) (n at se
         ends book file (roomOf w₀) (answerOf book w₀) w p n at set rounded (r .state) (r .running) e w′ x same
         (follows w′ c again x step (last-again book file (roomOf w₀) (answerOf book w₀) w p n at set rounded (r .state) (r .running) e again))
 
-  module _ {c : Placed} {m next : ℕ} (e : turnOf book n file at ≡ turn.More c m next) where
+  module _ {c : Placed} {m : Format} {next : ℕ} (e : turnOf book n file at ≡ turn.More c m next) where
     pub sound-more : Sound file c
     sound-more = more-sound book file (roomOf w₀) (answerOf book w₀) w p n at set rounded (r .state) (r .running) e
 

@@ -1,6 +1,8 @@
 -- What is known of a command that stands next: its text lies in the file, its numbers and spans keep their bounds, and no more of its
 -- decimals were rounded than it has bytes; M02 is the last; and a fault has a number.
 -- Assumes nothing.
+use Rattle.command.specs.Flaws.{flawNumber}
+use Rattle.formats.specs.declared.Format.{Format}
 use Prim.Native.Nat.{ℕ, _+_, _≤_}
 use mathlib.Core.Path.{_≡_, refl}
 use mathlib.Core.Bool.{false}
@@ -36,10 +38,11 @@ SoundTurn file at (Fault f) = eqb (f .number) 0 ≡ false
 SoundTurn file at (Last c next) = Sound file c × (c .command ≡ cmd.End)
 SoundTurn file at (More c m next) = Sound file c × (at + roundedOf (c .command) ≤ next)
 
-module _ (file : List ℕ) (at f : ℕ) (c : Placed) (next : ℕ) (s : Sound file c) (few : at + roundedOf (c .command) ≤ next) where
+module _ (file : List ℕ) (at : ℕ) (f : Format) (c : Placed) (next : ℕ) (s : Sound file c) (few : at + roundedOf (c .command) ≤ next) where
   led-flaw : (k : Flaw) → SoundTurn file at (led f c (leadOfFlaw k) next)
-  unfolding SoundTurn led leadOfFlaw
+  unfolding SoundTurn led leadOfFlaw flawNumber
   led-flaw flaw.NotForm = refl
+  led-flaw flaw.Unread = refl
   led-flaw flaw.TooLong = (s, few)
 
   led-setting : (x : Setting) → SoundTurn file at (led f c (leadOfSetting x) next)
@@ -47,10 +50,16 @@ module _ (file : List ℕ) (at f : ℕ) (c : Placed) (next : ℕ) (s : Sound fil
   led-setting setting.Linear = (s, few)
   led-setting setting.Clockwise = (s, few)
   led-setting setting.Counterclockwise = (s, few)
+  led-setting setting.SingleQuadrant = (s, few)
   led-setting setting.MultiQuadrant = (s, few)
+  led-setting setting.Absolute = (s, few)
+  led-setting setting.Incremental = (s, few)
+  led-setting setting.CodedMillimetres = (s, few)
+  led-setting setting.CodedInches = (s, few)
+  led-setting setting.Halt = (s, few)
   led-setting setting.RegionStart = (s, few)
   led-setting setting.RegionEnd = (s, few)
-  led-setting (setting.Format n) = (s, few)
+  led-setting (setting.Format g) = (s, few)
   led-setting setting.Millimetres = (s, few)
   led-setting setting.Inches = (s, few)
   led-setting setting.Dark = (s, few)
@@ -63,6 +72,7 @@ module _ (file : List ℕ) (at f : ℕ) (c : Placed) (next : ℕ) (s : Sound fil
   unfolding SoundTurn led leadOf
   led-sound (cmd.Broken k) q = led-flaw k
   led-sound cmd.Note q = (s, few)
+  led-sound (cmd.Coded code o) q = (s, few)
   led-sound cmd.End q = (s, q)
   led-sound (cmd.Set x) q = led-setting x
   led-sound (cmd.Operate o) q = (s, few)
@@ -71,16 +81,16 @@ module _ (file : List ℕ) (at f : ℕ) (c : Placed) (next : ℕ) (s : Sound fil
   led-sound (cmd.Contain b) q = (s, few)
   led-sound (cmd.Attribute d) q = (s, few)
 
-turned-sound : (n : ℕ) (file : List ℕ) (at : ℕ) (s : Scan) → Within (length file) at s → SoundTurn file at (turned n file s)
+turned-sound : (book : Book) (n : Format) (file : List ℕ) (at : ℕ) (s : Scan) → Within (length file) at s → SoundTurn file at (turned book n file s)
 unfolding turned SoundTurn
-turned-sound n file at (scan.Command kind place from end next) (h, k, l, e, m) =
+turned-sound book n file at (scan.Command kind place from end next) (h, k, l, e, m) =
     let t : List ℕ = slice from end file in
-    led-sound file at n _ next (record { ordered = l; inside = omega arith; bounded = bounded n kind t })
-    (omega (arith, rounded-within n kind t, length-slice from end file (omega arith)))
-    (commandOf n kind t) refl
-turned-sound n file at (scan.BadByte place) w = refl
-turned-sound n file at (scan.Ended place) w = refl
+    led-sound file at n _ next (record { ordered = l; inside = omega arith; bounded = bounded book n kind t })
+    (omega (arith, rounded-within book n kind t, length-slice from end file (omega arith)))
+    (commandOf book n kind t) refl
+turned-sound book n file at (scan.BadByte place) w = refl
+turned-sound book n file at (scan.Ended place) w = refl
 
-pub turn-sound : (book : Book) (n : ℕ) (file : List ℕ) (at : ℕ) → at ≤ length file → SoundTurn file at (turnOf book n file at)
+pub turn-sound : (book : Book) (n : Format) (file : List ℕ) (at : ℕ) → at ≤ length file → SoundTurn file at (turnOf book n file at)
 unfolding turnOf
-turn-sound book n file at h = turned-sound n file at (nextCommand book file at) (next-within book file at h)
+turn-sound book n file at h = turned-sound book n file at (nextCommand book file at) (next-within book file at h)

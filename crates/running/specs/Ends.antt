@@ -1,4 +1,7 @@
 -- How the commands of a file end: with a sheet to be finished, or at a fault; or the reading asks where a name is set twice.
+use Rattle.running.specs.Units.{unitIn}
+use Rattle.book.specs.Books.{isOld}
+use Rattle.formats.specs.Format.{noFormat}
 use Prim.Native.Nat.{ℕ, suc, _≤_}
 use mathlib.Core.Path.{_≡_}
 use mathlib.Core.Bool.{true, false}
@@ -28,9 +31,9 @@ use Rattle.running.specs.declared.Outcome.{Outcome}
 use Rattle.running.specs.declared.Outcome.the-variants as outcome
 
 -- nothing is read yet
-unfoldable pub start : Progress
-start = record {
-  graphics = graphics.start;
+unfoldable pub start : Book → Progress
+start book = record {
+  graphics = graphics.start (isOld book);
   builder = record { closed = 0; high = 0; start = 0; height = 10; items = 0 };
   contour = 0;
   depth = 0;
@@ -57,11 +60,11 @@ pub record AsLong (w w′ : Lent) : Type 0 where
 
 -- the commands of a file that is not too long
 abbrev pub walked : Book → List ℕ → Sequence
-walked book file = commandsFrom book (suc (length file)) 0 file 0
+walked book file = commandsFrom book (suc (length file)) noFormat file 0
 
 -- what it comes to in the rooms that are lent
 unfoldable pub answerOf : Book → Lent → Answer
-answerOf book w = readOn (roomOf w) (w .file) (walked book (w .file) .commands) (walked book (w .file) .fault) begun
+answerOf book w = readOn (roomOf w) (w .file) (walked book (w .file) .commands) (walked book (w .file) .fault) (begun book)
 
 -- at M02: what it came to, then what follows it; so many decimals were rounded
 unfoldable pub settled : Stepped → ℕ → Refusal → ℕ → End
@@ -74,7 +77,7 @@ pub record Sheeted (book : Book) (answer : Answer) (w : Lent) (p : Progress) (ro
   pub is : answer ≡ accepted state
   pub knows : Knows w p state
   pub kept : endFault (state .graphics) (state .level) ≡ 0
-  pub unit : state .graphics .format .unit ≤ 2
+  pub unit : unitIn (state .graphics .header) ≤ 2
   pub counted : rounded ≡ roundedAmong (walked book (w .file) .commands)
 
 unfoldable pub Ends : Book → Answer → Lent → End → Type 0

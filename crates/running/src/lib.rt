@@ -4,6 +4,7 @@ ghost use mathlib.Core.Path.{_≡_};
 ghost use Prim.Native.Nat.{_<_};
 ghost use lib.ListN.{length};
 ghost use Rattle.progress.specs.Lent.{lentOf};
+ghost use Rattle.running.specs.Units.{unitIn};
 ghost use Rattle.running.specs.Ends.{start, Empty, AsLong, answerOf, settled, Looked, Comes};
 ghost use Rattle.running.specs.Judged.{judgedName, judgedOf};
 use book::Book;
@@ -12,6 +13,7 @@ use commands::Placed;
 use commands::Refusal;
 use commands::Turn;
 use names::Sets;
+use graphics::Header;
 use progress::Progress;
 use progress::Stepped;
 
@@ -39,12 +41,12 @@ pub enum Outcome {
     Asks,
 }
 
-// Nothing is read yet.
-fn start() -> Progress
-    ensures { λ r. ⌜ r ≡ start ⌝ }
+// Nothing is read yet, by a book.
+fn start(book: Book) -> Progress
+    ensures { λ r. ⌜ r ≡ start book ⌝ }
 {
     Progress {
-        graphics: graphics::start(),
+        graphics: graphics::start(book::is_old(book)),
         builder: Builder {
             closed: 0,
             high: 0,
@@ -154,13 +156,13 @@ pub fn run(
         × Comes book (answerOf book (lentOf (now (file .entry)) (now (e .entry)) (now (a .entry)) (now (m .entry)) (now (numbers .entry))))
         (lentOf (now (file .entry)) (now (e .exit)) (now (a .exit)) (now (m .exit)) (now (numbers .exit))) repeat r ⌝ }
 {
-    let mut p = start();
-    let mut n: usize = 0;
+    let mut p = start(book);
+    let mut format = formats::no_format();
     let mut at: usize = 0;
     let mut set: usize = 0;
     let mut rounded: usize = 0;
     loop {
-        let t = commands::turn_at(book, n, file, at);
+        let t = commands::turn_at(book, format, file, at);
         match t {
             Turn::Fault(f) => {
                 return Outcome::Ends(End::Fault(f));
@@ -172,7 +174,7 @@ pub fn run(
             }
             Turn::More {
                 command,
-                n: digits,
+                format: carried,
                 next,
             } => {
                 let said = command.command;
@@ -191,7 +193,7 @@ pub fn run(
                     }
                     Stepped::Next(q) => {
                         p = q;
-                        n = digits;
+                        format = carried;
                         at = next;
                         set = more;
                         rounded = counted;
@@ -200,4 +202,11 @@ pub fn run(
             }
         }
     }
+}
+
+// The unit of a file: MO's, else that of the first G70 or G71.
+pub fn unit_in(h: Header) -> u64
+    ensures { λ r. ⌜ r ≡ unitIn h ⌝ }
+{
+    base::row(h.unit == 0, h.coded, h.unit)
 }

@@ -16,7 +16,7 @@ use Rattle.command.specs.declared.Span.{Span}
 use Rattle.command.specs.declared.Deed.{Deed}
 use Rattle.command.specs.declared.Deed.the-variants as deed
 use Rattle.command.specs.declared.Command.{Command}
-use Rattle.command.specs.declared.Command.the-variants.{Broken, Note, End, Set, Operate, Select, Define, Contain, Attribute}
+use Rattle.command.specs.declared.Command.the-variants.{Broken, Note, End, Set, Operate, Coded, Select, Define, Contain, Attribute}
 use Rattle.commands.specs.declared.Placed.{Placed}
 use Rattle.sayings.specs.declared.Kind.{Kind}
 use Rattle.sayings.specs.declared.Kind.the-variants.{Aperture, Object}
@@ -59,6 +59,7 @@ spoken kind name text value Note = Silent
 spoken kind name text value End = Silent
 spoken kind name text value (Set s) = Silent
 spoken kind name text value (Operate o) = Silent
+spoken kind name text value (Coded code o) = Silent
 spoken kind name text value (Select n) = Silent
 spoken kind name text value (Define d) = Silent
 spoken kind name text value (Contain b) = Silent

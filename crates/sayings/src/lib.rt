@@ -3,7 +3,6 @@ ghost use mathlib.Core.Path.{_≡_};
 ghost use lib.ListN.{take};
 ghost use lib.Seq.{slice};
 ghost use Rattle.base.specs.Choose.{pick};
-ghost use Rattle.sayings.specs.Regions.{isDraw, isMove, regionAfter, beginsContour};
 ghost use Rattle.sayings.specs.Sayings.{valueIn, named, asksTA, saying, sayingOf, takenAt};
 use command::Command;
 use command::Deed;
@@ -21,12 +20,6 @@ pub enum Saying {
     Silent,
     Deletes,
     Sets { place: usize, length: usize },
-}
-
-// Where a command stands: in a region or not, and whether a D01 came since the last G36 or D02.
-pub struct Region {
-    pub inside: bool,
-    pub drawn: bool,
 }
 
 // The first where the test holds, else the second.
@@ -106,6 +99,7 @@ pub fn saying_of(file: &[u8], kind: Kind, name: &[u8], c: Placed) -> Saying
         Command::End => Saying::Silent,
         Command::Set(_) => Saying::Silent,
         Command::Operate(_) => Saying::Silent,
+        Command::Coded { .. } => Saying::Silent,
         Command::Select(_) => Saying::Silent,
         Command::Define(_) => Saying::Silent,
         Command::Contain(_) => Saying::Silent,
@@ -120,40 +114,4 @@ pub fn taken_at(kind: Kind, t: &[u8]) -> bool
         Kind::Aperture => base::either(text::begins(t, b"AD"), text::begins(t, b"ABD")),
         Kind::Object => true,
     }
-}
-
-// A command's text is that of a D01.
-fn is_draw(t: &[u8]) -> bool
-    ensures { λ r. ⌜ r ≡ isDraw (now (t .entry)) ⌝ }
-{
-    base::both(!text::begins(t, b"G04"), text::ends(t, b"D01"))
-}
-
-// A command's text is that of a D02.
-fn is_move(t: &[u8]) -> bool
-    ensures { λ r. ⌜ r ≡ isMove (now (t .entry)) ⌝ }
-{
-    base::both(!text::begins(t, b"G04"), text::ends(t, b"D02"))
-}
-
-// Where the next command stands, behind one with this text.
-pub fn region_after(region: Region, t: &[u8]) -> Region
-    ensures { λ r. ⌜ r ≡ regionAfter region (now (t .entry)) ⌝ }
-{
-    let opens = text::is(t, b"G36");
-    let closes = text::is(t, b"G37");
-    Region {
-        inside: base::either(opens, base::both(!closes, region.inside)),
-        drawn: base::both(
-            !base::either(opens, is_move(t)),
-            base::either(is_draw(t), region.drawn),
-        ),
-    }
-}
-
-// A command that stands there, with this text, is a contour's first D01.
-pub fn begins_contour(region: Region, t: &[u8]) -> bool
-    ensures { λ r. ⌜ r ≡ beginsContour region (now (t .entry)) ⌝ }
-{
-    base::both(is_draw(t), base::both(region.inside, !region.drawn))
 }

@@ -30,7 +30,7 @@ neither false p q e f = f
 module _ (book : Book) (s : Stand) (b at : ℕ) where
   beyond-not : between (beyond book s b at) ≡ false
   unfolding between beyond
-  beyond-not = neither (isWhole (leadOf b)) _ _ refl (neither (isNew (book .letters) and isField (s .part)) _ _ refl refl)
+  beyond-not = neither (isWhole (leadOf b)) _ _ refl (neither (isNew (book .letters) and isField (s .part) b) _ _ refl refl)
 
   within-not : between (within book s b at) ≡ false
   unfolding between within

@@ -2,7 +2,7 @@
 -- Assumes nothing.
 use Prim.Native.Nat.{ℕ, zero, suc, _+_, _-_, _<_, _≤_}
 use mathlib.Core.Path.{_≡_, refl, ap, sym, _∙_}
-use mathlib.Core.Bool.{Bool, true, false, cond, not}
+use mathlib.Core.Bool.{Bool, true, false, cond}
 use mathlib.Core.List.{List, [], _∷_}
 use native.Mathlib.Omega.{arith}
 use lib.Dec.{leb, eqb}
@@ -10,12 +10,9 @@ use lib.ListN.{length}
 use borrow.Author.Tests.{eqb-true, lt-leb, eq-eqb, ne-eqb}
 use Rattle.base.specs.And.{_and_}
 use Rattle.base.specs.Or.{_or_}
-use Rattle.base.specs.Bytes.{sameBytes}
-use Rattle.base.proofs.And.{and-l, and-r}
 use Rattle.text.specs.First.{firstIn}
-use Rattle.text.specs.Text.{_begins_}
 use Rattle.text.proofs.First.{in-from}
-use Rattle.fields.specs.Parts.{isField, partAfter, opensMacro}
+use Rattle.fields.specs.Parts.{isField, partAfter}
 use Rattle.fields.specs.declared.Part.{Part}
 use Rattle.fields.proofs.Ahead.{reaches, reach-here, reach-next, first-here, first-later}
 use Rattle.fields.proofs.Macros.{noMacro, macro-none, macro-stays}
@@ -56,11 +53,6 @@ module _ (b : ℕ) (h : 0x80 ≤ b) where
 unfinished : (left : ℕ) → eqb (suc left) 0 ≡ false
 unfinished left = ne-eqb (suc left) 0 (λ e. omega arith)
 
--- three tests that hold
-yes : (true and (true and not false)) ≡ true
-unfolding _and_
-yes = refl
-
 kind-stays : (kind : Kind) (part : Part) (b : ℕ) (s : List ℕ) → noMacro part (b ∷ s) ≡ true → kindAfter kind part b ≡ kind
 unfolding kindAfter
 kind-stays kind part b s e = rw (macro-none part b s e)
@@ -71,12 +63,12 @@ module _ (book : Book) (n place : ℕ) (kind : Kind) (field : ℕ → Bool) wher
 
   -- the field ahead is where the walk sees it
   abbrev pub Sees : Part → List ℕ → ℕ → Type 0
-  Sees part s at = (i : ℕ) → at ≤ i → field i ≡ (isNew (book .letters) and reaches part s at i)
+  Sees part s at = (i : ℕ) → at ≤ i → field i ≡ (isNew (book .letters) and reaches book part s at i)
 
-  pub sees-on : (part : Part) (b : ℕ) (s : List ℕ) (at : ℕ) → Sees part (b ∷ s) at → Sees (partAfter part b) s (at + 1)
+  pub sees-on : (part : Part) (b : ℕ) (s : List ℕ) (at : ℕ) → Sees part (b ∷ s) at → Sees (partAfter book part b) s (at + 1)
   sees-on part b s at w i h =
       let ne : eqb i at ≡ false = ne-eqb i at (λ e. omega arith) in
-      w i (omega arith) ∙ ap (λ t. isNew (book .letters) and t) (reach-next part b s at i ne)
+      w i (omega arith) ∙ ap (λ t. isNew (book .letters) and t) (reach-next book part b s at i ne)
 
   -- what the walk comes to, a letter being begun where left is not 0
   abbrev pub Comes : Part → ℕ → ℕ → ℕ → ℕ → ℕ → List ℕ → ℕ → Type 0
@@ -101,17 +93,17 @@ module _ (book : Book) (n place : ℕ) (kind : Kind) (field : ℕ → Bool) wher
   -- one byte, and the walk from the next one on
   module _ (part : Part) (last b : ℕ) (s : List ℕ) (at : ℕ) where
     abbrev Rest : Type 0
-    Rest = (last low high left lead : ℕ) → Ready (partAfter part b) low left lead s (at + 1) → Comes (partAfter part b) last low high left lead s (at + 1)
+    Rest = (last low high left lead : ℕ) → Ready (partAfter book part b) low left lead s (at + 1) → Comes (partAfter book part b) last low high left lead s (at + 1)
 
     -- behind a byte
     module _ {low left lead : ℕ} (r : Ready part low left lead (b ∷ s) at) where
-      ready-on : (low left lead : ℕ) → (0 < left → 0x80 ≤ low) → (0 < left → lead < at + 1) → Ready (partAfter part b) low left lead s (at + 1)
+      ready-on : (low left lead : ℕ) → (0 < left → 0x80 ≤ low) → (0 < left → lead < at + 1) → Ready (partAfter book part b) low left lead s (at + 1)
       ready-on low left lead f g =
           record {
             long = omega (arith, r .long);
             high = f;
             behind = g;
-            plain = macro-stays part b s (r .plain);
+            plain = macro-stays book part b s (r .plain);
             sees = sees-on part b s at (r .sees);
           }
 
@@ -131,7 +123,7 @@ module _ (book : Book) (n place : ℕ) (kind : Kind) (field : ℕ → Bool) wher
           let k = within-low low high b e in
           let up : 0x80 ≤ b = omega arith in
           let less : suc left - 1 ≡ left = omega arith in
-          let goes : step book (Inside here) b at ≡ Inside (stand kind (partAfter part b) last (follow 0x80 0xBF left) lead) =
+          let goes : step book (Inside here) b at ≡ Inside (stand kind (partAfter book part b) last (follow 0x80 0xBF left) lead) =
           rw (unfinished left, e, kind-stays kind part b s (r .plain), high-unprintable b up, less) in
           run-inside book n place (Inside here) b s at goes
           ∙ rest last 0x80 0xBF left lead (ready-on r 0x80 left lead (λ _. omega arith) (λ _. omega (arith, r .behind (omega arith))))
@@ -170,7 +162,7 @@ module _ (book : Book) (n place : ℕ) (kind : Kind) (field : ℕ → Bool) wher
         goes-on : permitted kind last b ≡ true → Goal
         unfolding step inside within moved follows
         goes-on p =
-            let goes : step book (Inside idle) b at ≡ Inside (stand kind (partAfter part b) (cond (printable b) b last) nothing 0) =
+            let goes : step book (Inside idle) b at ≡ Inside (stand kind (partAfter book part b) (cond (printable b) b last) nothing 0) =
             rw (e, p, kind-stays kind part b s (r .plain)) in
             run-inside book n place (Inside idle) b s at goes
             ∙ rest (cond (printable b) b last) 0 0 0 0 (ready-on r 0 0 0 (λ z. absurd (omega arith)) (λ z. absurd (omega arith)))
@@ -193,29 +185,22 @@ module _ (book : Book) (n place : ℕ) (kind : Kind) (field : ℕ → Bool) wher
               nothing-here false = refl
 
           -- it stands in no field, or the rule lets none in
-          field-here : field at ≡ (isNew (book .letters) and (isField part and not (eqb b 42)))
-          field-here = r .sees at (omega arith) ∙ ap (λ t. isNew (book .letters) and t) (reach-here part b s at at (eq-eqb at at refl))
+          field-here : field at ≡ (isNew (book .letters) and isField part b)
+          field-here = r .sees at (omega arith) ∙ ap (λ t. isNew (book .letters) and t) (reach-here book part b s at at (eq-eqb at at refl))
 
-          shut : isWhole (leadOf b) ≡ false → (isNew (book .letters) and isField part) ≡ false → Goal
+          shut : isWhole (leadOf b) ≡ false → (isNew (book .letters) and isField part b) ≡ false → Goal
           unfolding step inside within beyond letterHere _and_
-          shut w f = stops (rw (e, p, w, f)) (rw (field-here ∙ no-more (isNew (book .letters)) (isField part) (not (eqb b 42)) f))
-            where
-              no-more : (t u v : Bool) → (t and u) ≡ false → (t and (u and v)) ≡ false
-              no-more true true v f = absurd (let y : _≡_ {A = ℕ} 0 1 = cc in omega arith)
-              no-more true false v f = refl
-              no-more false u v f = refl
+          shut w f = stops (rw (e, p, w, f)) (rw (field-here ∙ f))
 
           -- it begins a letter
-          opens : (left : ℕ) → leadOf b .left ≡ suc left → (isNew (book .letters) and isField part) ≡ true → Goal
+          opens : (left : ℕ) → leadOf b .left ≡ suc left → (isNew (book .letters) and isField part b) ≡ true → Goal
           unfolding step inside within beyond moved follows letterHere letterIn wholeOf
           opens left w f =
               let some : 0 < leadOf b .left = omega arith in
               let l = lead-sound b some in
               let plain : printable b ≡ false = high-unprintable b (l .high) in
-              let unstarred : eqb b 42 ≡ false = ne-eqb b 42 (λ q. let h = l .high in omega arith) in
-              let may : field at ≡ true =
-              rw (field-here, and-l (isNew (book .letters)) (isField part) f, and-r (isNew (book .letters)) (isField part) f, unstarred) yes in
-              let goes : step book (Inside idle) b at ≡ Inside (stand kind (partAfter part b) last (leadOf b) at) =
+              let may : field at ≡ true = field-here ∙ f in
+              let goes : step book (Inside idle) b at ≡ Inside (stand kind (partAfter book part b) last (leadOf b) at) =
               rw (e, p, w, unfinished left, f, kind-stays kind part b s (r .plain), plain) in
               run-inside book n place (Inside idle) b s at goes
               ∙ rest last (leadOf b .low) (leadOf b .high) (leadOf b .left) at (ready-on r (leadOf b .low) (leadOf b .left) at (λ _. l .low) (λ _. omega arith))
@@ -230,7 +215,7 @@ module _ (book : Book) (n place : ℕ) (kind : Kind) (field : ℕ → Bool) wher
                   bad-here kind field last b s at p (ap (λ (m : Bool). letterHere m (b ∷ s)) o ∙ (λ i. wholeOf (w i) (g i)))
                   ∙ sym (λ i. cond (g i) (badIn kind field last (w i) s (at + 1)) at)
 
-      quiet : (t : Bool) → ends kind b ≡ t → (u : Bool) → permitted kind last b ≡ u → (left : ℕ) → leadOf b .left ≡ left → (v : Bool) → (isNew (book .letters) and isField part) ≡ v → Goal
+      quiet : (t : Bool) → ends kind b ≡ t → (u : Bool) → permitted kind last b ≡ u → (left : ℕ) → leadOf b .left ≡ left → (v : Bool) → (isNew (book .letters) and isField part b) ≡ v → Goal
       quiet true e u p left w v f = complete e
       quiet false e true p left w v f = goes-on e p
       quiet false e false p zero w v f = none e p (eq-eqb (leadOf b .left) 0 w)
@@ -240,7 +225,7 @@ module _ (book : Book) (n place : ℕ) (kind : Kind) (field : ℕ → Bool) wher
   pub comes : (s : List ℕ) (at : ℕ) (part : Part) (last low high left lead : ℕ) → Ready part low left lead s at → Comes part last low high left lead s at
   comes [] at part last low high left lead r = at-end part last low high left lead at r
   comes (b ∷ s) at part last low high zero lead r =
-      quiet part last b s at low high lead r (comes s (at + 1) (partAfter part b))
-      (ends kind b) refl (permitted kind last b) refl (leadOf b .left) refl (isNew (book .letters) and isField part) refl
+      quiet part last b s at low high lead r (comes s (at + 1) (partAfter book part b))
+      (ends kind b) refl (permitted kind last b) refl (leadOf b .left) refl (isNew (book .letters) and isField part b) refl
   comes (b ∷ s) at part last low high (suc left) lead r =
-      begun part last b s at low high left lead r (comes s (at + 1) (partAfter part b)) (table.within low high b) refl
+      begun part last b s at low high left lead r (comes s (at + 1) (partAfter book part b)) (table.within low high b) refl

@@ -54,14 +54,14 @@ module _ (book : Book) (n at b : ℕ) (s : List ℕ) (long : n ≡ at + length (
             high = λ z. absurd (omega arith);
             behind = λ z. absurd (omega arith);
             plain = refl;
-            sees = λ i h. ap (λ (t : Bool). isNew (book .letters) and t) (sym (word-field b s at i f));
+            sees = λ i h. ap (λ (t : Bool). isNew (book .letters) and t) (sym (word-field book b s at i f));
           }
 
   -- behind the `%` of an extended command
   module _ (f : eqb b 37 ≡ true) where
     pub sees-mark : (kind : Kind) → Sees book n at kind field Mark s (at + 1)
     unfolding inField
-    sees-mark kind i h = ap (λ (t : Bool). isNew (book .letters) and t) (sym (mark-field b s at i f))
+    sees-mark kind i h = ap (λ (t : Bool). isNew (book .letters) and t) (sym (mark-field book b s at i f))
 
     extended : s begins "AM" ≡ false → run book n at (Inside (fresh Extended Mark)) s (at + 1) ≡ commandIn book n (b ∷ s) at
     unfolding idle commandIn textFrom follows kindOf sameBytes noMacro

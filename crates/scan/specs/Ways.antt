@@ -39,30 +39,30 @@ abbrev pub fresh : Kind → Part → Stand
 fresh kind part = idle kind part 0
 
 -- behind a byte, with what must follow it and the place of the lead
-unfoldable pub moved : Stand → ℕ → Follow → ℕ → Stand
-moved s b follow lead =
-    stand (kindAfter (s .kind) (s .part) b) (partAfter (s .part) b) (cond (printable b) b (s .last)) follow lead
+unfoldable pub moved : Book → Stand → ℕ → Follow → ℕ → Stand
+moved book s b follow lead =
+    stand (kindAfter (s .kind) (s .part) b) (partAfter book (s .part) b) (cond (printable b) b (s .last)) follow lead
 
 -- a byte that is not permitted under the old rule, at `at`
 unfoldable pub beyond : Book → Stand → ℕ → ℕ → Way
 beyond book s b at =
     cond (isWhole (leadOf b)) (Bad at)
-    (cond (isNew (book .letters) and isField (s .part)) (Inside (moved s b (leadOf b) at))
+    (cond (isNew (book .letters) and isField (s .part) b) (Inside (moved book s b (leadOf b) at))
     (Bad at))
 
 -- a byte of a command, no letter being begun
 unfoldable pub within : Book → Stand → ℕ → ℕ → Way
 within book s b at =
     cond (ends (s .kind) b) (Complete (s .kind))
-    (cond (permitted (s .kind) (s .last) b) (Inside (moved s b nothing 0))
+    (cond (permitted (s .kind) (s .last) b) (Inside (moved book s b nothing 0))
     (beyond book s b at))
 
 -- a byte behind a lead
-unfoldable pub following : Stand → ℕ → Way
-following s b = cond (takes (s .follow) b) (Inside (moved s b (fed (s .follow)) (s .lead))) (Bad (s .lead))
+unfoldable pub following : Book → Stand → ℕ → Way
+following book s b = cond (takes (s .follow) b) (Inside (moved book s b (fed (s .follow)) (s .lead))) (Bad (s .lead))
 
 unfoldable pub inside : Book → Stand → ℕ → ℕ → Way
-inside book s b at = cond (isWhole (s .follow)) (within book s b at) (following s b)
+inside book s b at = cond (isWhole (s .follow)) (within book s b at) (following book s b)
 
 -- the first byte of a command
 unfoldable pub opening : Book → ℕ → ℕ → Way

@@ -1,23 +1,27 @@
--- FS and MO (01, Form; decision 30).
-use Prim.Native.Nat.{ℕ, _-_}
-use Prim.Native.Char.{code}
-use mathlib.Core.List.{List, [], _∷_, _++_}
-use lib.ListN.{getD}
-use Rattle.base.specs.And.{_and_}
-use Rattle.base.specs.Bytes.{sameBytes}
-use Rattle.text.specs.Name.{range}
-use Rattle.text.specs.Text.{text, _is_}
+-- FS and MO (01, Form; 02, [9]; decisions 30 and 482).
+use Prim.Native.Nat.{ℕ}
+use mathlib.Core.List.{List, [], _∷_}
+use Rattle.text.specs.Text.{_is_}
 use Rattle.base.specs.Choose.{pick, choose}
+use Rattle.book.specs.Books.{isOld}
+use Rattle.book.specs.declared.Book.{Book}
+use Rattle.formats.specs.Texts.{newerFormat, oldFormat}
+use Rattle.formats.specs.declared.Said.{Said}
+use Rattle.formats.specs.declared.Said.the-variants as said
 use Rattle.command.specs.declared.Command.{Command}
 use Rattle.command.specs.declared.Command.the-variants.{Set}
 use Rattle.command.specs.declared.Setting.the-variants.{Format, Millimetres, Inches}
-use Rattle.command.specs.Flaws.{notForm}
+use Rattle.command.specs.Flaws.{notForm, unread}
 
--- `FSLAXn6Yn6`, both n equal, 1 to 6
-unfoldable pub formatOf : List ℕ → Command
-formatOf s =
-    let n : ℕ = getD s 5 0 in
-    pick (range "1" "6" n and sameBytes s (text "FSLAX" ++ n ∷ text "6Y" ++ n ∷ text "6")) (Set (Format (n - code "0"))) notForm
+-- not of its form is 4, seven places are 30
+unfoldable pub formatted : Said → Command
+formatted said.NotForm = notForm
+formatted said.SevenPlaces = unread
+formatted (said.Is f) = Set (Format f)
+
+-- FS, by the edition that the book names
+unfoldable pub formatOf : Book → List ℕ → Command
+formatOf book s = formatted (pick (isOld book) (oldFormat s) (newerFormat s))
 
 unfoldable pub unitOf : List ℕ → Command
 unitOf s =

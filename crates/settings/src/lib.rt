@@ -1,33 +1,36 @@
 // Commands that set something or repeat it: FS, MO, LP, LM, LR, LS and SR. A text is that of one data block, without its `*`.
 ghost use mathlib.Core.Path.{_≡_};
-ghost use Rattle.settings.specs.Header.{formatOf, unitOf};
+ghost use Rattle.settings.specs.Header.{formatted, formatOf, unitOf};
 ghost use Rattle.settings.specs.Transformations.{rotationOf, scaleOf, mirrorOf, transformationOf};
 ghost use Rattle.settings.specs.Repeats.{repeats, repeatStart, repeatOf};
+use book::Book;
 use command::Bracket;
 use command::Command;
 use command::Flaw;
 use command::Number;
 use command::Setting;
 use command::Size;
+use formats::Said;
 
-// FS.
-pub fn format_of(s: &[u8]) -> Command
-    ensures { λ r. ⌜ r ≡ formatOf (now (s .entry)) ⌝ }
+// What FS says, as a command.
+fn formatted(said: Said) -> Command
+    ensures { λ r. ⌜ r ≡ formatted said ⌝ }
 {
-    let n = base::byte_at(s, 5);
-    if n < b'1' {
-        return Command::Broken(Flaw::NotForm);
+    match said {
+        Said::NotForm => Command::Broken(Flaw::NotForm),
+        Said::SevenPlaces => Command::Broken(Flaw::Unread),
+        Said::Is(format) => Command::Set(Setting::Format(format)),
     }
-    if n > b'6' {
-        return Command::Broken(Flaw::NotForm);
+}
+
+// FS, by the edition of the book.
+pub fn format_of(book: Book, s: &[u8]) -> Command
+    ensures { λ r. ⌜ r ≡ formatOf book (now (s .entry)) ⌝ }
+{
+    if book::is_old(book) {
+        return formatted(formats::old_format(s));
     }
-    let form = [b'F', b'S', b'L', b'A', b'X', n, b'6', b'Y', n, b'6'];
-    let digits = (n - b'0') as usize;
-    command::pick(
-        text::is(s, &form),
-        Command::Set(Setting::Format(digits)),
-        Command::Broken(Flaw::NotForm),
-    )
+    formatted(formats::newer_format(s))
 }
 
 // MO.

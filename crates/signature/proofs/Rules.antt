@@ -6,7 +6,7 @@ use mathlib.Core.Path.{_≡_, refl, sym, _∙_}
 use mathlib.Core.Bool.{Bool, true, false}
 use mathlib.Core.List.{List}
 use lib.ListN.{length, getD}
-use Rattle.book.specs.Books.{under}
+use Rattle.book.specs.Books.{isOld, under}
 use Rattle.book.specs.declared.Book.{Book}
 use Rattle.book.specs.declared.Letters.the-variants.{Old, New}
 use Rattle.scan.specs.Scan.{nextCommand}
@@ -15,6 +15,11 @@ use Rattle.scan.specs.declared.Scan.the-variants.{Command, BadByte, Ended}
 use Rattle.scan.proofs.Rules.{kept, kept-end, alike}
 use Rattle.signature.specs.Form.{isEnd}
 use Rattle.signature.specs.Signature.{refused, bare, walked, signatureOf}
+
+-- M02 is the same under both
+end-same : (book : Book) (s : List ℕ) → isEnd (under New book) s ≡ isEnd (under Old book) s
+unfolding isEnd isOld
+end-same book s = refl
 
 module _ (book : Book) (file : List ℕ) where
   walked-kept : (n from at : ℕ) → (walked (under Old book) n file from at .number ≡ 2 → ⊥) → walked (under New book) n file from at ≡ walked (under Old book) n file from at
@@ -27,11 +32,11 @@ module _ (book : Book) (file : List ℕ) where
           walked (under New book) (suc n) file from at ≡ walked (under Old book) (suc n) file from at
       go (BadByte place) e rest = absurd (h (rw (walked, e)))
       go (Ended place) e rest = rw (walked, e, kept-end book file at e)
-      go (Command kind place text end next) e rest = by-end (isEnd (bare file place next)) refl
+      go (Command kind place text end next) e rest = by-end (isEnd (under Old book) (bare file place next)) refl
         where
-          by-end : (t : Bool) → isEnd (bare file place next) ≡ t → walked (under New book) (suc n) file from at ≡ walked (under Old book) (suc n) file from at
-          by-end true f = rw (walked, e, kept book file at e, f)
-          by-end false f = rw (walked, e, kept book file at e, f) (rest place next (λ q. h (rw (walked, e, f) q)))
+          by-end : (t : Bool) → isEnd (under Old book) (bare file place next) ≡ t → walked (under New book) (suc n) file from at ≡ walked (under Old book) (suc n) file from at
+          by-end true f = rw (walked, e, kept book file at e, end-same book (bare file place next), f)
+          by-end false f = rw (walked, e, kept book file at e, end-same book (bare file place next), f) (rest place next (λ q. h (rw (walked, e, f) q)))
 
   pub signature-kept : (signatureOf (under Old book) file .number ≡ 2 → ⊥) → signatureOf (under New book) file ≡ signatureOf (under Old book) file
   unfolding signatureOf
@@ -47,11 +52,11 @@ module _ (book : Book) (file : List ℕ) where
             walked (under Old book) (suc n) file from at ≡ walked (under New book) (suc n) file from at
         go (BadByte place) e rest = rw (walked, e, sym (alike book file at low) ∙ e)
         go (Ended place) e rest = rw (walked, e, sym (alike book file at low) ∙ e)
-        go (Command kind place text end next) e rest = by-end (isEnd (bare file place next)) refl
+        go (Command kind place text end next) e rest = by-end (isEnd (under Old book) (bare file place next)) refl
           where
-            by-end : (t : Bool) → isEnd (bare file place next) ≡ t → walked (under Old book) (suc n) file from at ≡ walked (under New book) (suc n) file from at
-            by-end true f = rw (walked, e, sym (alike book file at low) ∙ e, f)
-            by-end false f = rw (walked, e, sym (alike book file at low) ∙ e, f) (rest place next)
+            by-end : (t : Bool) → isEnd (under Old book) (bare file place next) ≡ t → walked (under Old book) (suc n) file from at ≡ walked (under New book) (suc n) file from at
+            by-end true f = rw (walked, e, sym (alike book file at low) ∙ e, end-same book (bare file place next), f)
+            by-end false f = rw (walked, e, sym (alike book file at low) ∙ e, end-same book (bare file place next), f) (rest place next)
 
     pub signature-alike : signatureOf (under Old book) file ≡ signatureOf (under New book) file
     unfolding signatureOf

@@ -9,17 +9,23 @@ use lib.Dec.{leb}
 use lib.ListN.{length, take, drop, length-take, length-drop}
 use lib.Seq.{take-all}
 use borrow.Author.Tests.{leb-true, leb-false}
+use Rattle.base.specs.Or.{_or_}
 use Rattle.base.proofs.And.{and-r}
 use Rattle.base.proofs.Lists.{same-is}
-use Rattle.text.specs.Text.{text}
+use Rattle.text.specs.Text.{text, _is_}
+use Rattle.book.specs.declared.Book.{Book}
 use Rattle.signature.specs.Form.{isEnd, isSignature}
 use Rattle.signature.specs.Held.{nothing, notedAll, textOf}
 use Rattle.signature.specs.Signature.{judged}
 use Rattle.signature.proofs.Notes.{text-held}
 
-end-short : (s : List ℕ) → isEnd s ≡ true → length s < 43
-unfolding isEnd
-end-short s e = let n : length s ≡ 4 = ap length (same-is s (text "M02*") e) in omega arith
+end-short : (book : Book) (s : List ℕ) → isEnd book s ≡ true → length s < 43
+unfolding isEnd _or_
+end-short book s e = go (s is "M02*") refl
+  where
+    go : (t : Bool) → s is "M02*" ≡ t → length s < 43
+    go true f = let n : length s ≡ 4 = ap length (same-is s (text "M02*") f) in omega arith
+    go false f = let n : length s ≡ 3 = ap length (same-is s (text "M2*") (and-r _ _ (rw f at e))) in omega arith
 
 signature-short : (s : List ℕ) → isSignature s ≡ true → length s < 43
 unfolding isSignature
@@ -40,8 +46,8 @@ by-first test short w = go (leb (length w) 43) refl
         let n : length (take 43 w) ≡ 43 = simp length-take (omega arith) in
         is-false _ (λ p. omega (arith, short (take 43 w) p)) ∙ sym (is-false _ (λ p. omega (arith, short w p)))
 
-pub end-held : (w : List ℕ) → isEnd (textOf (notedAll nothing w)) ≡ isEnd w
-end-held w = rw (text-held w) (by-first isEnd end-short w)
+pub end-held : (book : Book) (w : List ℕ) → isEnd book (textOf (notedAll nothing w)) ≡ isEnd book w
+end-held book w = rw (text-held w) (by-first (isEnd book) (end-short book) w)
 
 pub judged-held : (place : ℕ) (w d : List ℕ) → judged place (textOf (notedAll nothing w)) d ≡ judged place w d
 unfolding judged

@@ -40,7 +40,7 @@ module _ {book : Book} {file : List ℕ} {from at : ℕ} (w : Walking book file 
     pub moves : (at < next) × (next ≤ length file)
     moves = let k = within e in (omega (arith, k .0, k .1, k .2, k .3), k .4)
 
-    pub goes : isEnd (bare file place next) ≡ false → Walking book file place next
+    pub goes : isEnd book (bare file place next) ≡ false → Walking book file place next
     unfolding walked
     goes t =
         fuelled (Walking book file place next)
@@ -52,7 +52,7 @@ module _ {book : Book} {file : List ℕ} {from at : ℕ} (w : Walking book file 
           same = rw (k, walked, e, t) at (w .same);
         })
 
-    pub ends : isEnd (bare file place next) ≡ true → atEnd file from at place next ≡ signatureOf book file
+    pub ends : isEnd book (bare file place next) ≡ true → atEnd file from at place next ≡ signatureOf book file
     unfolding walked
     ends t = fuelled _ (λ m k. rw (k, walked, e, t) at (w .same))
 

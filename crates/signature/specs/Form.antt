@@ -1,4 +1,4 @@
--- The two commands that the signature call knows, by their bytes without CR and LF (02, request [2]; decisions 118 and 119). These stand
+-- The two commands that the signature call knows, by their bytes without CR and LF (02, requests [2] and [9]; decisions 118, 119 and 511). These stand
 -- in a command only where 01 lets them: in M02 nowhere, in an extended command after a `*`.
 use Prim.Native.Nat.{ℕ}
 use mathlib.Core.Bool.{Bool}
@@ -6,11 +6,15 @@ use mathlib.Core.List.{List}
 use lib.ListN.{drop}
 use lib.Seq.{slice}
 use Rattle.base.specs.And.{_and_}
+use Rattle.base.specs.Or.{_or_}
 use Rattle.text.specs.Text.{_is_, _begins_}
 use Rattle.hex.specs.Digits.{hexDigits}
+use Rattle.book.specs.Books.{isOld}
+use Rattle.book.specs.declared.Book.{Book}
 
-unfoldable pub isEnd : List ℕ → Bool
-isEnd s = s is "M02*"
+-- M02, which the old book may write `M2`
+unfoldable pub isEnd : Book → List ℕ → Bool
+isEnd book s = s is "M02*" or (isOld book and s is "M2*")
 
 -- the 32 digits of a signature
 unfoldable pub digitsOf : List ℕ → List ℕ

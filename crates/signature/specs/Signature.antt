@@ -1,4 +1,4 @@
--- The signature of a file: 02, request [2]; decisions 116 to 120.
+-- The signature of a file: 02, requests [2] and [9]; decisions 116 to 120 and 511.
 use Prim.Native.Nat.{ℕ, zero, suc}
 use mathlib.Core.Bool.{true, false, cond}
 use mathlib.Core.List.{List}
@@ -46,7 +46,7 @@ unfoldable pub walked : Book → ℕ → List ℕ → ℕ → ℕ → Answer
 walked book zero file from at = refused 3 (length file)
 walked book (suc n) file from at =
     elim (nextCommand book file at) [
-      | Command kind place text end next ↦ elim (isEnd (bare file place next)) [
+      | Command kind place text end next ↦ elim (isEnd book (bare file place next)) [
         | true ↦ atEnd file from at place next
         | false ↦ walked book n file place next
       ]

@@ -79,12 +79,14 @@ pub fn hold(h: Held, t: &[u8]) -> Held
     g
 }
 
-// What is held is M02.
-pub fn holds_end(h: Held) -> bool
-    ensures { λ r. ⌜ r ≡ isEnd (textOf h) ⌝ }
+// What is held is M02, as a book writes it.
+pub fn holds_end(book: Book, h: Held) -> bool
+    ensures { λ r. ⌜ r ≡ isEnd book (textOf h) ⌝ }
 {
     let bytes = h.bytes;
-    text::is(base::up_to(&bytes, h.count), b"M02*")
+    let t = base::up_to(&bytes, h.count);
+    let short = base::both(book::is_old(book), text::is(t, b"M2*"));
+    base::either(text::is(t, b"M02*"), short)
 }
 
 // A refusal.
@@ -119,10 +121,10 @@ pub fn judge(place: usize, h: Held, s: State) -> Answer
 }
 
 // The bytes from one place up to another are M02.
-fn is_last(file: &[u8], place: usize, next: usize) -> bool
-    ensures { λ r. ⌜ r ≡ isEnd (bare (now (file .entry)) place next) ⌝ }
+fn is_last(book: Book, file: &[u8], place: usize, next: usize) -> bool
+    ensures { λ r. ⌜ r ≡ isEnd book (bare (now (file .entry)) place next) ⌝ }
 {
-    holds_end(hold(none(), base::part(file, place, next)))
+    holds_end(book, hold(none(), base::part(file, place, next)))
 }
 
 // M02 stands at this place, and the command before it from `from` up to `to`.
@@ -162,7 +164,7 @@ pub fn check(book: Book, file: &[u8]) -> Answer
                 end,
                 next,
             } => {
-                if is_last(file, place, next) {
+                if is_last(book, file, place, next) {
                     return at_end(file, from, at, place, next);
                 }
                 from = place;

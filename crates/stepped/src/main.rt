@@ -1,6 +1,6 @@
 // One graphics state stepped through commands, accepted and refused, each by a state that is lent and handed back. A line is the
 // command as a file has it, without `%` and `*`, its number, and the state behind it. The file `stdout` was worked out by hand, from
-// document 01.
+// documents 01 and, for a film of the old edition, 02.
 use command::Axis;
 use command::Bracket;
 use command::Command;
@@ -12,6 +12,7 @@ use command::Operation;
 use command::Setting;
 use command::Span;
 use decimal::Amount;
+use formats::Format;
 use graphics::Graphics;
 use graphics::Level;
 use graphics::Selected;
@@ -58,13 +59,14 @@ fn level(inside: u64, items: u64) -> Level {
     }
 }
 
-// No aperture, a round one and a block of one item.
+// No aperture, a round one, a solid rectangle and a block of one item.
 fn no_aperture() -> Selected {
     Selected {
         set: false,
         number: 0,
         slot: 0,
         circle: false,
+        rectangle: false,
         block: false,
         items: 0,
         height: 0,
@@ -77,6 +79,20 @@ fn round() -> Selected {
         number: 10,
         slot: 0,
         circle: true,
+        rectangle: false,
+        block: false,
+        items: 0,
+        height: 0,
+    }
+}
+
+fn solid() -> Selected {
+    Selected {
+        set: true,
+        number: 12,
+        slot: 2,
+        circle: false,
+        rectangle: true,
         block: false,
         items: 0,
         height: 0,
@@ -89,6 +105,7 @@ fn block() -> Selected {
         number: 11,
         slot: 1,
         circle: false,
+        rectangle: false,
         block: true,
         items: 1,
         height: 1,
@@ -160,8 +177,21 @@ fn scale(factor: Amount) -> Command {
     set(Setting::Scale { factor, rounded: 0 })
 }
 
+fn format(integers: usize, incremental: bool) -> Command {
+    set(Setting::Format(Format {
+        integers,
+        decimals: 6,
+        trailing: false,
+        incremental,
+    }))
+}
+
+fn going(x: Axis, y: Axis) -> Operation {
+    Operation::Move { x, y }
+}
+
 fn go(x: Axis, y: Axis) -> Command {
-    Command::Operate(Operation::Move { x, y })
+    Command::Operate(going(x, y))
 }
 
 fn flash(x: Axis, y: Axis) -> Command {
@@ -169,15 +199,29 @@ fn flash(x: Axis, y: Axis) -> Command {
 }
 
 // A line.
-fn draw(x: Axis, y: Axis) -> Command {
+fn line(x: Axis, y: Axis) -> Operation {
     let centre = Offset::Missing;
-    Command::Operate(Operation::Draw { x, y, centre })
+    Operation::Draw { x, y, centre }
+}
+
+fn draw(x: Axis, y: Axis) -> Command {
+    Command::Operate(line(x, y))
 }
 
 // An arc.
-fn arc(x: Axis, y: Axis, i: i64, j: i64) -> Command {
-    let centre = Offset::By(Point { x: i, y: j });
-    Command::Operate(Operation::Draw { x, y, centre })
+fn round_line(x: Axis, y: Axis, i: i64, signed: bool) -> Operation {
+    let offset = Point { x: i, y: 0 };
+    let centre = Offset::By { offset, signed };
+    Operation::Draw { x, y, centre }
+}
+
+fn arc(x: Axis, y: Axis, i: i64, signed: bool) -> Command {
+    Command::Operate(round_line(x, y, i, signed))
+}
+
+// An operation behind a G code.
+fn coded(code: Setting, operation: Operation) -> Command {
+    Command::Coded { code, operation }
 }
 
 // AD and AM; what their text says the stores know.
@@ -225,8 +269,8 @@ fn settings(g: Graphics) -> Graphics {
     let g1 = plainly(g, b"X1000000Y1000000D02", go(x, y));
     let g2 = plainly(g1, b"G01", set(Setting::Linear));
     let g3 = plainly(g2, b"X1000000Y1000000D01", draw(x, y));
-    let g4 = plainly(g3, b"FSLAX46Y46", set(Setting::Format(4)));
-    let g5 = plainly(g4, b"FSLAX56Y56", set(Setting::Format(5)));
+    let g4 = plainly(g3, b"FSLAX46Y46", format(4, false));
+    let g5 = plainly(g4, b"FSLAX56Y56", format(5, false));
     let g6 = plainly(g5, b"MOMM", set(Setting::Millimetres));
     let g7 = plainly(g6, b"LS0.5", scale(half));
     let g8 = plainly(g7, b"LS0", scale(none));
@@ -267,13 +311,13 @@ fn places(g: Graphics) -> Graphics {
     let g5 = take(g4, b"X5D03", most, flash(Axis::At(5), kept), room());
     let g6 = plainly(g5, b"X5000000D01", draw(x, kept));
     let g7 = plainly(g6, b"G02", set(Setting::Clockwise));
-    let g8 = plainly(g7, b"X0I1J0D01", arc(Axis::At(0), kept, 1, 0));
+    let g8 = plainly(g7, b"X0I1J0D01", arc(Axis::At(0), kept, 1, false));
     let g9 = plainly(g8, b"G75", set(Setting::MultiQuadrant));
-    let g10 = plainly(g9, b"X0I0J0D01", arc(Axis::At(0), kept, 0, 0));
+    let g10 = plainly(g9, b"X0I0J0D01", arc(Axis::At(0), kept, 0, false));
     plainly(
         g10,
         b"X0I-2500000J0D01",
-        arc(Axis::At(0), kept, -2500000, 0),
+        arc(Axis::At(0), kept, -2500000, true),
     )
 }
 
@@ -316,12 +360,73 @@ fn region(g: Graphics) -> Graphics {
     plainly(g11, b"G37", set(Setting::RegionEnd))
 }
 
+// A film of the old edition: coordinates count from the point, and a code stands before an operation.
+fn film(g: Graphics) -> Graphics {
+    let one = Axis::At(1);
+    let top = level(0, 0);
+    let rectangle = stores(1, solid());
+    let g1 = plainly(g, b"FSLIX66Y66", format(6, true));
+    let g2 = plainly(g1, b"G1X1Y1D1", coded(Setting::Linear, line(one, one)));
+    let g3 = plainly(g2, b"G71", set(Setting::CodedMillimetres));
+    let g4 = take(g3, b"G54D12", top, Command::Select(12), rectangle);
+    let g5 = plainly(g4, b"G1X1Y1D1", coded(Setting::Linear, line(one, one)));
+    let g6 = plainly(g5, b"X1Y1D2", go(one, one));
+    let g7 = plainly(g6, b"G1X1Y1D1", coded(Setting::Linear, line(one, one)));
+    plainly(g7, b"M0", set(Setting::Halt))
+}
+
+// G74 as the default.
+fn quarters(g: Graphics) -> Graphics {
+    let one = Axis::At(1);
+    let back = Axis::At(-1);
+    let top = level(0, 0);
+    let round = stores(1, round());
+    let quarter = coded(Setting::Clockwise, round_line(back, back, 1, false));
+    let g1 = plainly(g, b"G2X-1Y-1I1D1", quarter);
+    let g2 = take(g1, b"G54D10", top, Command::Select(10), round);
+    let g3 = plainly(g2, b"G2X-1Y-1I1D1", quarter);
+    let g4 = plainly(g3, b"X1Y1I-1D1", arc(one, one, -1, true));
+    let g5 = plainly(g4, b"X1Y1I0D1", arc(one, one, 0, false));
+    plainly(g5, b"G37X1Y1D1", coded(Setting::RegionEnd, line(one, one)))
+}
+
+// G90 and G91 before an operation, and a point of 10^12; in a region, a contour without a D02 before it.
+fn notations(g: Graphics) -> Graphics {
+    let one = Axis::At(1);
+    let kept = Axis::Missing;
+    let far = Axis::At(999999999999);
+    let top = level(0, 0);
+    let two = stores(2, no_aperture());
+    let starts = coded(Setting::Linear, line(kept, Axis::At(0)));
+    let g1 = plainly(
+        g,
+        b"G90X999999999999D2",
+        coded(Setting::Absolute, going(far, kept)),
+    );
+    let g2 = plainly(
+        g1,
+        b"G91X1D2",
+        coded(Setting::Incremental, going(one, kept)),
+    );
+    let g3 = plainly(g2, b"G36", set(Setting::RegionStart));
+    let g4 = take(g3, b"G1Y0D1", top, starts, two);
+    let g5 = plainly(g4, b"G91Y1D1", coded(Setting::Incremental, line(kept, one)));
+    let g6 = plainly(g5, b"G37Y1D1", coded(Setting::RegionEnd, line(kept, one)));
+    let g7 = plainly(g6, b"G1Y1D1", coded(Setting::Linear, line(kept, one)));
+    plainly(g7, b"G37X1D2", coded(Setting::RegionEnd, going(one, kept)))
+}
+
 fn main() {
-    let g1 = settings(graphics::start());
+    let g1 = settings(graphics::start(false));
     let g2 = apertures(g1);
     let g3 = places(g2);
     let g4 = containers(g3);
     let g5 = region(g4);
     let g6 = plainly(g5, b"G05", Command::Broken(Flaw::NotForm));
     plainly(g6, b"M02", Command::End);
+    let f1 = film(graphics::start(true));
+    let f2 = quarters(f1);
+    let f3 = notations(f2);
+    let f4 = plainly(f3, b"G81", Command::Broken(Flaw::Unread));
+    plainly(f4, b"M2", Command::End);
 }

@@ -4,18 +4,20 @@ ghost use mathlib.Core.Path.{_≡_};
 ghost use mathlib.Core.List.{List};
 ghost use lib.ListN.{length};
 ghost use lib.Seq.{slice};
-ghost use Rattle.bounds.specs.Bounded.{OperationBounded, DefinitionBounded, BracketBounded, DeedBounded};
+ghost use Rattle.bounds.specs.Bounded.{DefinitionBounded, BracketBounded};
 ghost use Rattle.reading.specs.State.{State};
-ghost use Rattle.reading.specs.Steps.{operationStep, definitionStep, bracketStep, deedStep};
+ghost use Rattle.reading.specs.Steps.{operationStep, codedStep, definitionStep, bracketStep, deedStep};
 ghost use Rattle.progress.specs.Knows.{Knows, Known, Follows, StepsTo};
 ghost use Rattle.progress.specs.Lent.{Lent, lentOf, withEntries, withApertures, withMacros, withNumbers};
 ghost use Rattle.definitions.specs.Lends.{Lends};
 ghost use Rattle.steps.specs.Steps.{Sound, AgainBy, Reads};
+ghost use Rattle.steps.specs.Coded.{joined};
 use command::Bracket;
 use command::Command;
 use command::Deed;
 use command::Definition;
 use command::Operation;
+use command::Setting;
 use commands::Placed;
 use progress::Progress;
 use progress::Stepped;
@@ -23,7 +25,6 @@ use progress::Stepped;
 // D01, D02 and D03.
 fn operate(e: &mut [u64], p: Progress, place: u64, o: Operation) -> Stepped
     requires { ⌜ Known (λ w. w .entries ≡ now e) p ⌝ }
-    requires { ⌜ OperationBounded o ⌝ }
     ensures { λ r. ⌜ (length (now (e .exit)) ≡ length (now (e .entry)))
         × StepsTo (λ room s. operationStep room place o s) (λ w. w .entries ≡ now (e .entry)) (withEntries (now (e .exit))) p r ⌝ }
 {
@@ -32,6 +33,33 @@ fn operate(e: &mut [u64], p: Progress, place: u64, o: Operation) -> Stepped
         Operation::Move { .. } => plain::set(p, Command::Operate(o)),
         Operation::Flash { x, y } => draws::flash(e, p, place, x, y),
     }
+}
+
+// What a code and the operation behind it come to together: the fault tested first, or what is behind both.
+fn joined(fault: u64, r: Stepped) -> Stepped
+    ensures { λ t. ⌜ t ≡ joined fault r ⌝ }
+{
+    match r {
+        Stepped::Fault(n) => Stepped::Fault(faults::sooner(fault, n)),
+        Stepped::Next(p) => {
+            if fault == 0 {
+                return Stepped::Next(p);
+            }
+            Stepped::Fault(fault)
+        }
+    }
+}
+
+// An operation behind a G code, in the state behind the code. What a refused one leaves in the entries is cleared by whoever refuses.
+fn operate_coded(e: &mut [u64], p: Progress, place: u64, code: Setting, o: Operation) -> Stepped
+    requires { ⌜ Known (λ w. w .entries ≡ now e) p ⌝ }
+    ensures { λ r. ⌜ (length (now (e .exit)) ≡ length (now (e .entry)))
+        × StepsTo (λ room s. codedStep room place code o s) (λ w. w .entries ≡ now (e .entry)) (withEntries (now (e .exit))) p r ⌝ }
+{
+    let g = p.graphics;
+    let fault = rules::setting_fault(g, code);
+    let behind = progress::with_graphics(changes::after_setting(code, g), p);
+    joined(fault, operate(e, behind, place, o))
 }
 
 // AD and AM, whose text is file[from..end].
@@ -89,7 +117,7 @@ fn contain(e: &mut [u64], a: &mut [u64], p: Progress, place: u64, b: Bracket) ->
 
 // TF, TA, TO and TD; `again` says of a TF whether its name was set before.
 fn attribute(p: Progress, d: Deed, again: bool) -> Stepped
-    ensures { λ r. ⌜ ((text : List ℕ) (w : Lent) (s : State) → DeedBounded text d → AgainBy text d again s → Knows w p s → Follows (Knows w) (deedStep text d s) r) ⌝ }
+    ensures { λ r. ⌜ ((text : List ℕ) (w : Lent) (s : State) → AgainBy text d again s → Knows w p s → Follows (Knows w) (deedStep text d s) r) ⌝ }
 {
     match d {
         Deed::SetFile { .. } => plain::set_name(p, again),
@@ -134,5 +162,6 @@ pub fn step(
         Command::Note => plain::set(p, command),
         Command::End => plain::set(p, command),
         Command::Set(_) => plain::set(p, command),
+        Command::Coded { code, operation } => operate_coded(e, p, place, code, operation),
     }
 }

@@ -6,6 +6,7 @@ use mathlib.Core.Path.{_≡_, _∙_}
 use mathlib.Core.Bool.{true, false}
 use mathlib.Core.List.{List, [], _∷_, _++_}
 use native.Mathlib.Omega.{arith}
+use Rattle.base.specs.Or.{_or_}
 use Rattle.place.specs.Mark as mark
 use Rattle.place.specs.Mark.{Mark, Opening}
 use Rattle.place.specs.declared.Item.{Item}
@@ -42,7 +43,7 @@ marks-append (more m ms) w = more m (marks-append ms w)
 pub record Knowing (g : Graphics) (known : List Aperture) (os : List Opened) (ms : List Mark) : Type 0 where
   pub mode : g .mode ≤ 3
   pub chosen : g .aperture .set ≡ true → g .aperture .block ≡ false → tools (g .aperture .number) known ≡ 1
-  pub round : g .aperture .circle ≡ true → g .aperture .block ≡ false
+  pub solid : (g .aperture .circle or g .aperture .rectangle) ≡ true → g .aperture .block ≡ false
   pub distinct : (n : ℕ) → numbered n known ≤ 1
   pub around : AllOpen known os
   pub marks : AllMarked known ms

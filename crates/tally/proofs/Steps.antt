@@ -12,6 +12,9 @@ use Rattle.base.specs.Or.{_or_}
 use Rattle.base.proofs.And.{and-l, and-r, and-false}
 use Rattle.base.proofs.Faults.{unbroken}
 use Rattle.bounds.proofs.Tables.{neither}
+use Rattle.book.specs.declared.Book.{Book}
+use Rattle.points.specs.declared.Point.{Point}
+use Rattle.faults.proofs.Laws.{sooner-first}
 use Rattle.command.specs.declared.Axis.{Axis}
 use Rattle.command.specs.declared.Offset.{Offset}
 use Rattle.command.specs.declared.Setting.{Setting}
@@ -25,15 +28,16 @@ use Rattle.command.specs.declared.Bracket.the-variants as bracket
 use Rattle.command.specs.declared.Deed.{Deed}
 use Rattle.command.specs.declared.Deed.the-variants as deed
 use Rattle.command.specs.declared.Command.{Command}
-use Rattle.command.specs.declared.Command.the-variants.{Broken, Note, End, Set, Operate, Select, Define, Contain, Attribute}
+use Rattle.command.specs.declared.Command.the-variants.{Broken, Note, End, Set, Operate, Coded, Select, Define, Contain, Attribute}
 use Rattle.place.specs.Kind as kind
 use Rattle.place.specs.Item.{isOriented}
 use Rattle.place.specs.Mark as mark
-use Rattle.graphics.specs.Graphics.{start, noAperture, withFormat, withPoint, withAperture, withMode, withQuadrants, withTransform, withRegion}
+use Rattle.graphics.specs.Graphics.{start, noAperture, withHeader, withNotation, withPoint, withAperture, withMode, withQuadrants, withTransform, withRegion}
 use Rattle.graphics.specs.declared.Graphics.{Graphics}
 use Rattle.graphics.specs.declared.Level.{Level}
 use Rattle.changes.specs.After.{target, goingTo, startsContour, afterSetting, afterOperation, after}
-use Rattle.fits.specs.Fits.{brushless, drawMisfits, flashMisfits}
+use Rattle.fits.specs.Fits.{circular, hasBrush, brushless, drawMisfits, flashMisfits}
+use Rattle.arcs.specs.Arcs.{rests, kindDrawn}
 use Rattle.drawing.specs.Faults.{drawFault, flashFault}
 use Rattle.rules.specs.Rules.{apertureFault, blockStartFault}
 use Rattle.marks.specs.Items.{drawn, edge, contour, flashed, pose}
@@ -65,6 +69,7 @@ use Rattle.reading.specs.Steps.{
   settingStep,
   moveStep,
   operationStep,
+  codedStep,
   definitionStep,
   bracketStep,
   deedStep,
@@ -82,7 +87,7 @@ use Rattle.tally.proofs.Tools.{
   closed-numbered,
   closed-tools,
   selects,
-  selects-round,
+  selects-solid,
 }
 use Rattle.tally.proofs.Knowing.{
   AllOpen,
@@ -110,16 +115,22 @@ use Rattle.tally.proofs.Knowing.{
 -- ---- settings
 
 setting-aperture : (x : Setting) (g : Graphics) → afterSetting x g .aperture ≡ g .aperture
-unfolding afterSetting withFormat withMode withQuadrants withTransform withRegion
+unfolding afterSetting withHeader withNotation withMode withQuadrants withTransform withRegion
 setting-aperture setting.Linear g = refl
 setting-aperture setting.Clockwise g = refl
 setting-aperture setting.Counterclockwise g = refl
+setting-aperture setting.SingleQuadrant g = refl
 setting-aperture setting.MultiQuadrant g = refl
 setting-aperture setting.RegionStart g = refl
 setting-aperture setting.RegionEnd g = refl
-setting-aperture (setting.Format n) g = refl
+setting-aperture (setting.Format f) g = refl
+setting-aperture setting.Absolute g = refl
+setting-aperture setting.Incremental g = refl
 setting-aperture setting.Millimetres g = refl
 setting-aperture setting.Inches g = refl
+setting-aperture setting.CodedMillimetres g = refl
+setting-aperture setting.CodedInches g = refl
+setting-aperture setting.Halt g = refl
 setting-aperture setting.Dark g = refl
 setting-aperture setting.Clear g = refl
 setting-aperture (setting.Mirror x y) g = refl
@@ -127,16 +138,22 @@ setting-aperture (setting.Rotation a rounded) g = refl
 setting-aperture (setting.Scale a rounded) g = refl
 
 setting-mode : (x : Setting) (g : Graphics) → g .mode ≤ 3 → afterSetting x g .mode ≤ 3
-unfolding afterSetting withFormat withMode withQuadrants withTransform withRegion
+unfolding afterSetting withHeader withNotation withMode withQuadrants withTransform withRegion
 setting-mode setting.Linear g h = lit≤ tt
 setting-mode setting.Clockwise g h = lit≤ tt
 setting-mode setting.Counterclockwise g h = lit≤ tt
+setting-mode setting.SingleQuadrant g h = h
 setting-mode setting.MultiQuadrant g h = h
 setting-mode setting.RegionStart g h = h
 setting-mode setting.RegionEnd g h = h
-setting-mode (setting.Format n) g h = h
+setting-mode (setting.Format f) g h = h
+setting-mode setting.Absolute g h = h
+setting-mode setting.Incremental g h = h
 setting-mode setting.Millimetres g h = h
 setting-mode setting.Inches g h = h
+setting-mode setting.CodedMillimetres g h = h
+setting-mode setting.CodedInches g h = h
+setting-mode setting.Halt g h = h
 setting-mode setting.Dark g h = h
 setting-mode setting.Clear g h = h
 setting-mode (setting.Mirror x y) g h = h
@@ -148,7 +165,7 @@ pub graphics-knows : {g g′ : Graphics} {known : List Aperture} {os : List Open
 graphics-knows e m k = record {
   mode = m;
   chosen = rw e (k .chosen);
-  round = rw e (k .round);
+  solid = rw e (k .solid);
   distinct = k .distinct;
   around = k .around;
   marks = k .marks;
@@ -162,10 +179,19 @@ module _ (g : Graphics) (known : List Aperture) (mode-low : g .mode ≤ 3)
   unfolding contour isOriented
   contour-tooled place = record { drawn = λ o. absurd (false≢true o); region = λ o. refl }
 
+  -- the kind of what a D01 draws
+  kind-low : (end : Point) → kindDrawn g end ≤ 3
+  unfolding kindDrawn
+  kind-low end = go (rests g end)
+    where
+      go : (t : Bool) → cond t kind.line (g .mode) ≤ 3
+      go true = lit≤ tt
+      go false = mode-low
+
   edge-tooled : (x y : Axis) (o : Offset) (place : ℕ) → Tooled known (edge g (target g x y) o place)
   unfolding edge isOriented
   edge-tooled x y o place = record {
-    drawn = λ q. absurd (true≢false (sym q ∙ lt-leb (5 + g .mode) 4 (omega arith)));
+    drawn = λ q. absurd (true≢false (sym q ∙ lt-leb (5 + kindDrawn g (target g x y)) 4 (omega arith)));
     region = λ q. refl;
   }
 
@@ -173,7 +199,7 @@ module _ (g : Graphics) (known : List Aperture) (mode-low : g .mode ≤ 3)
   unfolding drawn isOriented
   draw-tooled x y o place s b = record {
     drawn = λ q. chosen s b;
-    region = λ q. absurd (true≢false (sym (le-leb (g .mode) 4 (omega arith)) ∙ q));
+    region = λ q. let low = kind-low (target g x y) in absurd (true≢false (sym (le-leb (kindDrawn g (target g x y)) 4 (omega arith)) ∙ q));
   }
 
   flash-tooled : (x y : Axis) (place : ℕ) → g .aperture .set ≡ true → g .aperture .block ≡ false → Tooled known (flashed g (target g x y) place)
@@ -181,17 +207,31 @@ module _ (g : Graphics) (known : List Aperture) (mode-low : g .mode ≤ 3)
   flash-tooled x y place s b = record { drawn = λ q. chosen s b; region = λ q. absurd (true≢false q) }
 
   -- outside a region a brush is selected
-  brush : (l : Level) (room : ℕ) (x y : Axis) (o : Offset) → drawFault g l room x y o ≡ 0 → g .region .on ≡ false → (g .aperture .set and g .aperture .circle) ≡ true
-  unfolding drawFault drawMisfits brushless _and_
+  brush : (l : Level) (room : ℕ) (x y : Axis) (o : Offset) → drawFault g l room x y o ≡ 0 → g .region .on ≡ false → hasBrush g ≡ true
+  unfolding drawFault drawMisfits brushless hasBrush circular _and_
   brush l room x y o f off =
-      let misfits = unbroken (lit≤ tt) (unbroken (lit≤ tt) f .1) .0 in
+      let misfits = unbroken (lit≤ tt) (unbroken (lit≤ tt) (unbroken (lit≤ tt) f .1) .1) .0 in
       let b = neither _ _ (neither _ _ misfits .0) .1 in
       not-false _ (rw off at b)
 
-  draw-marked : (l : Level) (room : ℕ) (x y : Axis) (o : Offset) (place : ℕ) → (g .aperture .circle ≡ true → g .aperture .block ≡ false) → drawFault g l room x y o ≡ 0 →
+  -- which is set, and solid
+  brush-set : hasBrush g ≡ true → g .aperture .set ≡ true
+  unfolding hasBrush
+  brush-set b = and-l _ _ b
+
+  brush-solid : hasBrush g ≡ true → (g .aperture .circle or g .aperture .rectangle) ≡ true
+  unfolding hasBrush _and_ _or_
+  brush-solid b = go (g .aperture .circle) (g .old) (g .aperture .rectangle) (and-r (g .aperture .set) _ b)
+    where
+      go : (c old r : Bool) → (c or (old and (r and not (circular g)))) ≡ true → (c or r) ≡ true
+      go true old r e = refl
+      go false true r e = and-l _ _ e
+      go false false r e = absurd (false≢true e)
+
+  draw-marked : (l : Level) (room : ℕ) (x y : Axis) (o : Offset) (place : ℕ) → ((g .aperture .circle or g .aperture .rectangle) ≡ true → g .aperture .block ≡ false) → drawFault g l room x y o ≡ 0 →
       AllMarked known (drawMarks g x y o place)
   unfolding drawMarks
-  draw-marked l room x y o place round f = go (g .region .on) refl
+  draw-marked l room x y o place solid f = go (g .region .on) refl
     where
       starts : (t : Bool) → AllMarked known (cond t (mark.contour (contour g place) ∷ mark.edge (edge g (target g x y) o place) ∷ []) (mark.edge (edge g (target g x y) o place) ∷ []))
       starts true = more (contours (contour-tooled place)) (more (edges (edge-tooled x y o place)) none)
@@ -202,14 +242,14 @@ module _ (g : Graphics) (known : List Aperture) (mode-low : g .mode ≤ 3)
           (cond (startsContour (g .region)) (mark.contour (contour g place) ∷ mark.edge (edge g (target g x y) o place) ∷ []) (mark.edge (edge g (target g x y) o place) ∷ []))
           (mark.draw (drawn g (target g x y) o place) ∷ []))
       go true e = starts (startsContour (g .region))
-      go false e = let b = brush l room x y o f e in more (draws (draw-tooled x y o place (and-l _ _ b) (round (and-r _ _ b)))) none
+      go false e = let b = brush l room x y o f e in more (draws (draw-tooled x y o place (brush-set b) (solid (brush-solid b)))) none
 
   flash-marked : (l : Level) (room : ℕ) (x y : Axis) (place : ℕ) → flashFault g l room x y ≡ 0 → AllMarked known (flashMarks g x y place)
   unfolding flashMarks flashFault flashMisfits
   flash-marked l room x y place f = go (g .aperture .block) refl
     where
       is-set : g .aperture .set ≡ true
-      is-set = not-false _ (neither _ _ (unbroken (lit≤ tt) (unbroken (lit≤ tt) (unbroken (lit≤ tt) f .1) .1) .0) .1)
+      is-set = not-false _ (neither _ _ (unbroken (lit≤ tt) (unbroken (lit≤ tt) (unbroken (lit≤ tt) (unbroken (lit≤ tt) f .1) .1) .1) .0) .1)
 
       go : (t : Bool) → g .aperture .block ≡ t → AllMarked known
           (cond t (mark.flash (g .aperture .number) (pose g (target g x y)) place ∷ []) (mark.draw (flashed g (target g x y) place) ∷ []))
@@ -227,7 +267,7 @@ aperture-knows {g} {known} a fresh k =
     record {
       mode = k .mode;
       chosen = λ s b. tool-stays w (g .aperture .number) (k .chosen s b);
-      round = k .round;
+      solid = k .solid;
       distinct = added-distinct known a fresh (k .distinct);
       around = open-stays w (k .around);
       marks = marks-stay w (k .marks);
@@ -269,7 +309,7 @@ block-ends (opened.block n l ∷ os) s e k = go (subst (AllOpen (s .apertures)) 
         record {
           mode = k .mode;
           chosen = λ s′ b. tool-stays grown (s .graphics .aperture .number) (k .chosen s′ b);
-          round = k .round;
+          solid = k .solid;
           distinct = λ m. rw (closed-numbered n (s .level .items) (s .level .height) m (s .apertures)) (k .distinct m);
           around = open-stays grown w;
           marks = marks-stay grown (k .marks);
@@ -283,7 +323,7 @@ repeat-ends (opened.block n l ∷ os) s e k = k
 repeat-ends (opened.repeat l ∷ os) s e k = go (subst (AllOpen (s .apertures)) e (k .around))
   where
     go : AllOpen (s .apertures) (opened.repeat l ∷ os) → Knowing (s .graphics) (s .apertures) os (s .marks)
-    go (repeat w) = record { mode = k .mode; chosen = k .chosen; round = k .round; distinct = k .distinct; around = w; marks = k .marks }
+    go (repeat w) = record { mode = k .mode; chosen = k .chosen; solid = k .solid; distinct = k .distinct; around = w; marks = k .marks }
 
 -- ---- each command
 
@@ -293,7 +333,7 @@ marks-knows : {g g′ : Graphics} {known : List Aperture} {os : List Opened} {ms
 marks-knows e m k w = record {
   mode = rw m (k .mode);
   chosen = rw e (k .chosen);
-  round = rw e (k .round);
+  solid = rw e (k .solid);
   distinct = k .distinct;
   around = k .around;
   marks = marks-append (k .marks) w;
@@ -302,7 +342,7 @@ marks-knows e m k w = record {
 module _ (room : Room) (t : List ℕ) (p : ℕ) where
   operation-knows : (o : Operation) (s : State) → operationStep room p o s .fault ≡ 0 → Knows s → Knows (operationStep room p o s .next)
   unfolding operationStep drawStep moveStep flashStep passed withGraphics withLevel after afterOperation goingTo withPoint withRegion marksOf operationMarks
-  operation-knows (operation.Draw x y o) s f k = marks-knows refl refl k (draw-marked (s .graphics) (s .apertures) (k .mode) (k .chosen) _ _ x y o p (k .round) f)
+  operation-knows (operation.Draw x y o) s f k = marks-knows refl refl k (draw-marked (s .graphics) (s .apertures) (k .mode) (k .chosen) _ _ x y o p (k .solid) f)
   operation-knows (operation.Move x y) s f k = graphics-knows refl (k .mode) k
   operation-knows (operation.Flash x y) s f k = marks-knows refl refl k (flash-marked (s .graphics) (s .apertures) (k .mode) (k .chosen) _ _ x y p f)
 
@@ -316,7 +356,7 @@ module _ (room : Room) (t : List ℕ) (p : ℕ) where
         let all = tools-blocks n (s .apertures) in
         let some = f .1 in
         rw (f .0) (omega arith);
-    round = selects-round 0 n (s .apertures);
+    solid = selects-solid 0 n (s .apertures);
     distinct = k .distinct;
     around = k .around;
     marks = k .marks;
@@ -337,7 +377,7 @@ module _ (room : Room) (t : List ℕ) (p : ℕ) where
       record {
         mode = k .mode;
         chosen = w .chosen;
-        round = w .round;
+        solid = w .solid;
         distinct = w .distinct;
         around = block (opening-one n (s .apertures) fresh) (opening-none n (s .apertures) fresh) (w .around);
         marks = marks-append (w .marks) (more opens none);
@@ -346,7 +386,7 @@ module _ (room : Room) (t : List ℕ) (p : ℕ) where
   bracket-knows (bracket.RepeatStart nx ny dx dy rounded) s f k = record {
     mode = k .mode;
     chosen = k .chosen;
-    round = k .round;
+    solid = k .solid;
     distinct = k .distinct;
     around = repeat (k .around);
     marks = marks-append (k .marks) (more opens none);
@@ -361,24 +401,34 @@ module _ (room : Room) (t : List ℕ) (p : ℕ) where
   deed-knows (deed.Delete name) s k = k
   deed-knows deed.DeleteAll s k = k
 
+  setting-knows : (x : Setting) (s : State) → Knows s → Knows (settingStep x s .next)
+  unfolding settingStep withGraphics
+  setting-knows x s k = graphics-knows (setting-aperture x (s .graphics)) (setting-mode x (s .graphics) (k .mode)) k
+
+  -- of a code and the operation behind it neither is at fault
+  coded-knows : (x : Setting) (o : Operation) (s : State) → codedStep room p x o s .fault ≡ 0 → Knows s → Knows (codedStep room p x o s .next)
+  unfolding codedStep
+  coded-knows x o s f k = operation-knows o (settingStep x s .next) (sooner-first _ _ .none f .1) (setting-knows x s k)
+
   pub step-knows : (c : Command) (s : State) → stepOf room t p c s .fault ≡ 0 → Knows s → Knows (stepOf room t p c s .next)
-  unfolding stepOf settingStep withGraphics
+  unfolding stepOf
   step-knows (Broken flaw) s f k = k
   step-knows Note s f k = k
   step-knows End s f k = k
-  step-knows (Set x) s f k = graphics-knows (setting-aperture x (s .graphics)) (setting-mode x (s .graphics) (k .mode)) k
+  step-knows (Set x) s f k = setting-knows x s k
   step-knows (Operate o) s f k = operation-knows o s f k
+  step-knows (Coded x o) s f k = coded-knows x o s f k
   step-knows (Select n) s f k = select-knows n s k
   step-knows (Define d) s f k = definition-knows d s f k
   step-knows (Contain b) s f k = bracket-knows b s f k
   step-knows (Attribute d) s f k = deed-knows d s k
 
-pub begun-knows : Knows begun
-unfolding begun start noAperture howMany
-begun-knows = record {
+pub begun-knows : (book : Book) → Knows (begun book)
+unfolding begun start noAperture howMany _or_
+begun-knows book = record {
   mode = lit≤ tt;
   chosen = λ s b. absurd (false≢true s);
-  round = λ s. absurd (false≢true s);
+  solid = λ s. absurd (false≢true s);
   distinct = λ n. lit≤ tt;
   around = none;
   marks = none;

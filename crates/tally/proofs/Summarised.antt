@@ -17,9 +17,9 @@ use Rattle.progress.specs.Lent.{Lent, roomOf}
 use Rattle.reader.specs.declared.Answer as code
 use Rattle.reader.specs.Leaves.{Leaves}
 use Rattle.reader.specs.Reads.{Reads}
-use Rattle.demands.specs.Kept.{Keeps, nothing, one}
+use Rattle.kept.specs.Kept.{Keeps, nothing, one}
 use Rattle.demands.specs.Demands.{Accepts}
-use Rattle.demands.proofs.Kept.{keeps-accepted}
+use Rattle.kept.proofs.Kept.{keeps-accepted}
 use Rattle.tally.specs.Summarised.{Summarised}
 use Rattle.tally.proofs.Knowing.{Knows}
 use Rattle.tally.proofs.Steps.{step-knows, begun-knows}
@@ -37,7 +37,7 @@ module _ (book : Book) (w w′ : Lent) (head : List ℕ) (r : code.Answer) (read
   left = subst (λ (a : Answer). Reads (roundedIn book (w .file)) a w w′ head r) (keeps-accepted book (roomOf w) (w .file) (k .keeps)) reads .2
 
   knows : Knows (k .state)
-  knows = kept-knows (k .keeps .commands) begun-knows
+  knows = kept-knows (k .keeps .commands) (begun-knows book)
 
   pub summarised : Summarised head (w′ .entries) (w′ .apertures) (k .state)
   unfolding outcomeOf summed

@@ -130,12 +130,23 @@ selects i n (a ∷ known) s b = go (eqb n (a .number)) refl s b (λ s b. selects
         (sym (eqb-true n (a .number) e), omega arith)
     go false e s b ih = let w = ih s b in (w .0, let h = w .1 in omega arith)
 
-pub selects-round : (i n : ℕ) (known : List Aperture) → apertureFrom i n known .circle ≡ true → apertureFrom i n known .block ≡ false
-unfolding apertureFrom noAperture selected
-selects-round i n [] s = refl
-selects-round i n (a ∷ known) s = go (eqb n (a .number)) s (selects-round (suc i) n known)
+-- a solid circle or rectangle is no block
+solid-kind : (k n : ℕ) → ((eqb k 1 and eqb n 1) or (eqb k 2 and eqb n 2)) ≡ true → eqb k block ≡ false
+unfolding _or_
+solid-kind k n s = go (eqb k 1 and eqb n 1) refl s
   where
-    go : (t : Bool) → cond t (selected i a) (apertureFrom (suc i) n known) .circle ≡ true → (apertureFrom (suc i) n known .circle ≡ true → apertureFrom (suc i) n known .block ≡ false) →
+    go : (t : Bool) → (eqb k 1 and eqb n 1) ≡ t → (t or (eqb k 2 and eqb n 2)) ≡ true → eqb k block ≡ false
+    go true e s = rw (eqb-true k 1 (and-l _ _ e))
+    go false e s = rw (eqb-true k 2 (and-l _ _ s))
+
+pub selects-solid : (i n : ℕ) (known : List Aperture) → (apertureFrom i n known .circle or apertureFrom i n known .rectangle) ≡ true →
+    apertureFrom i n known .block ≡ false
+unfolding apertureFrom noAperture selected
+selects-solid i n [] s = refl
+selects-solid i n (a ∷ known) s = go (eqb n (a .number)) s (selects-solid (suc i) n known)
+  where
+    go : (t : Bool) → (cond t (selected i a) (apertureFrom (suc i) n known) .circle or cond t (selected i a) (apertureFrom (suc i) n known) .rectangle) ≡ true →
+        ((apertureFrom (suc i) n known .circle or apertureFrom (suc i) n known .rectangle) ≡ true → apertureFrom (suc i) n known .block ≡ false) →
         cond t (selected i a) (apertureFrom (suc i) n known) .block ≡ false
-    go true s ih = rw (eqb-true (a .kind) 1 (and-l _ _ s))
+    go true s ih = solid-kind (a .kind) (a .len) s
     go false s ih = ih s

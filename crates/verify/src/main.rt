@@ -1,4 +1,5 @@
-// Whether the file on standard input is signed, by the old rule of letters: `signed` and the digest, or `refused`, the number and the place, tab-parted.
+// Whether the file on standard input is signed, by the newer edition and the old rule of letters: `signed` and the digest, or `refused`, the
+// number and the place, tab-parted.
 use intake::Intake;
 use libc::STDIN_FILENO;
 use libc::STDOUT_FILENO;

@@ -1,1 +1,3 @@
+pub mod Newer
+pub mod Old
 pub mod Words

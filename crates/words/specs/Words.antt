@@ -1,55 +1,14 @@
--- Word commands (01, What is read; decisions 18 to 28).
+-- Word commands, by the edition that the book names (02, [9]).
 use Prim.Native.Nat.{ℕ}
-use Prim.Native.Char.{code}
-use mathlib.Core.List.{List, [], _∷_}
-use lib.ListN.{drop}
-use Rattle.text.specs.Text.{_is_, _begins_, _ends_, among}
-use Rattle.base.specs.Choose.{pick, choose}
-use Rattle.command.specs.Numbers.{judged, apertureNumber}
-use Rattle.command.specs.declared.Number.{Number}
+use mathlib.Core.List.{List}
+use Rattle.base.specs.Choose.{pick}
+use Rattle.book.specs.Books.{isOld}
+use Rattle.book.specs.declared.Book.{Book}
+use Rattle.formats.specs.declared.Format.{Format}
 use Rattle.command.specs.declared.Command.{Command}
-use Rattle.command.specs.declared.Command.the-variants.{Note, End, Set, Select}
-use Rattle.command.specs.declared.Setting.the-variants.{
-  Linear,
-  Clockwise,
-  Counterclockwise,
-  MultiQuadrant,
-  RegionStart,
-  RegionEnd,
-}
-use Rattle.command.specs.Flaws.{notForm}
-use Rattle.operations.specs.Operations.{drawOf, moveOf, flashOf}
+use Rattle.words.specs.Newer.{newerWord}
+use Rattle.words.specs.Old.{oldWord}
 
--- G04 and a string, in which no `%` stands
-unfoldable pub commentOf : List ℕ → Command
-commentOf s = pick (among s (code "%")) notForm Note
-
--- Dn
-unfoldable pub selectOf : List ℕ → Command
-selectOf s = let n : Number = apertureNumber (drop 1 s) in judged (n .formless) (n .long) (Select (n .value))
-
--- the codes that stand alone
-unfoldable pub codeOf : List ℕ → Command
-codeOf s =
-    choose
-    ((s is "G01", Set Linear)
-    ∷ (s is "G02", Set Clockwise)
-    ∷ (s is "G03", Set Counterclockwise)
-    ∷ (s is "G75", Set MultiQuadrant)
-    ∷ (s is "G36", Set RegionStart)
-    ∷ (s is "G37", Set RegionEnd)
-    ∷ (s is "M02", End)
-    ∷ [])
-    notForm
-
--- a word command; n is that of FS, 0 before it
-unfoldable pub wordOf : ℕ → List ℕ → Command
-wordOf n s =
-    choose
-    ((s begins "G04", commentOf s)
-    ∷ (s ends "D01", drawOf n s)
-    ∷ (s ends "D02", moveOf n s)
-    ∷ (s ends "D03", flashOf n s)
-    ∷ (s begins "D", selectOf s)
-    ∷ [])
-    (codeOf s)
+-- the format is that of FS
+unfoldable pub wordOf : Book → Format → List ℕ → Command
+wordOf book f s = pick (isOld book) (oldWord f s) (newerWord f s)

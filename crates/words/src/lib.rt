@@ -1,11 +1,18 @@
-// Word commands: what the text up to `*` says.
+// Word commands: what the text up to `*` says, in each edition.
 ghost use mathlib.Core.Path.{_≡_};
+ghost use lib.ListN.{drop};
 ghost use Rattle.text.specs.Text.{_begins_};
 ghost use Rattle.base.specs.Choose.{pick};
-ghost use Rattle.words.specs.Words.{commentOf, selectOf, codeOf, wordOf};
+ghost use Rattle.words.specs.Newer.{commentOf, selectOf, codeOf, newerWord};
+ghost use Rattle.words.specs.Old.{settingOf, operated, said};
+ghost use Rattle.words.specs.Words.{wordOf};
+use book::Book;
 use command::Command;
 use command::Flaw;
 use command::Setting;
+use films::Word;
+use formats::Format;
+use operations::Written;
 
 // G04 and its string.
 fn comment_of(s: &[u8]) -> Command
@@ -18,11 +25,11 @@ fn comment_of(s: &[u8]) -> Command
     )
 }
 
-// Dn.
-fn select_of(s: &[u8]) -> Command
-    ensures { λ r. ⌜ r ≡ selectOf (now (s .entry)) ⌝ }
+// Dn, of what stands behind its D.
+fn select_of(t: &[u8]) -> Command
+    ensures { λ r. ⌜ r ≡ selectOf (now (t .entry)) ⌝ }
 {
-    let n = command::aperture_number(base::from_on(s, 1));
+    let n = command::aperture_number(t);
     command::judged(n.formless, n.long, Command::Select(n.value))
 }
 
@@ -41,24 +48,90 @@ fn code_of(s: &[u8]) -> Command
 
 // A word command that is no comment and no operation.
 fn other_of(s: &[u8]) -> Command
-    ensures { λ r. ⌜ r ≡ pick (now (s .entry) begins "D") (selectOf (now (s .entry))) (codeOf (now (s .entry))) ⌝ }
+    ensures { λ r. ⌜ r ≡ pick (now (s .entry) begins "D") (selectOf (drop 1 (now (s .entry)))) (codeOf (now (s .entry))) ⌝ }
 {
     if text::begins(s, b"D") {
-        return select_of(s);
+        return select_of(base::from_on(s, 1));
     }
     code_of(s)
 }
 
-// A word command; n is that of FS, 0 before it.
-pub fn word_of(n: usize, s: &[u8]) -> Command
-    ensures { λ r. ⌜ r ≡ wordOf n (now (s .entry)) ⌝ }
+// A word command of the newer edition; the format is that of FS.
+fn newer_word(format: Format, s: &[u8]) -> Command
+    ensures { λ r. ⌜ r ≡ newerWord format (now (s .entry)) ⌝ }
 {
     if text::begins(s, b"G04") {
         return comment_of(s);
     }
-    let code = operations::operation_code(s);
-    if code == 0 {
+    let number = operations::operation_code(s);
+    if number == 0 {
         return other_of(s);
     }
-    operations::operation_of(code, n, s)
+    operations::operation_of(number, format, s)
+}
+
+// The first where the test holds, else the second.
+fn pick(test: bool, yes: Setting, no: Setting) -> Setting
+    ensures { λ r. ⌜ r ≡ pick test yes no ⌝ }
+{
+    if test { yes } else { no }
+}
+
+// What a G code of the old book sets, by its number. Any but those of the list is 91.
+fn setting_of(code: u64) -> Setting
+    ensures { λ r. ⌜ r ≡ settingOf code ⌝ }
+{
+    let g90 = pick(code == 90, Setting::Absolute, Setting::Incremental);
+    let g75 = pick(code == 75, Setting::MultiQuadrant, g90);
+    let g74 = pick(code == 74, Setting::SingleQuadrant, g75);
+    let g71 = pick(code == 71, Setting::CodedMillimetres, g74);
+    let g70 = pick(code == 70, Setting::CodedInches, g71);
+    let g37 = pick(code == 37, Setting::RegionEnd, g70);
+    let g36 = pick(code == 36, Setting::RegionStart, g37);
+    let g03 = pick(code == 3, Setting::Counterclockwise, g36);
+    let g02 = pick(code == 2, Setting::Clockwise, g03);
+    pick(code == 1, Setting::Linear, g02)
+}
+
+// An operation, alone where the code is 0, else behind that G code.
+fn operated(code: u64, w: Written) -> Command
+    ensures { λ r. ⌜ r ≡ operated code w ⌝ }
+{
+    if code == 0 {
+        return operations::operates(w);
+    }
+    operations::coded(setting_of(code), w)
+}
+
+// What a word command of the old book says, of what it is cut into.
+fn said(format: Format, s: &[u8], word: Word) -> Command
+    ensures { λ r. ⌜ r ≡ said format (now (s .entry)) word ⌝ }
+{
+    match word {
+        Word::NotForm => Command::Broken(Flaw::NotForm),
+        Word::Note => Command::Note,
+        Word::Halt => Command::Set(Setting::Halt),
+        Word::End => Command::End,
+        Word::Code(code) => Command::Set(setting_of(code)),
+        Word::Select(at) => select_of(base::from_on(s, at)),
+        Word::Operate {
+            code,
+            operation,
+            from,
+            to,
+        } => operated(
+            code,
+            operations::operation_in(operation, format, base::part(s, from, to)),
+        ),
+    }
+}
+
+// A word command, by the edition of the book; the format is that of FS.
+pub fn word_of(book: Book, format: Format, s: &[u8]) -> Command
+    ensures { λ r. ⌜ r ≡ wordOf book format (now (s .entry)) ⌝ }
+{
+    if book::is_old(book) {
+        return said(format, s, films::word_of(s));
+    }
+    newer_word(format, s)
 }

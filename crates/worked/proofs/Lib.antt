@@ -1,3 +1,4 @@
 pub mod Cases
+pub mod Films
 pub mod Numbers
 pub mod Table

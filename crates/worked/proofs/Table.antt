@@ -30,12 +30,17 @@ use Rattle.base.specs.Choose.{pick}
 use Rattle.command.specs.Flaws.{flawNumber}
 use Rattle.command.specs.Rounded as command-Rounded
 use Rattle.command.specs.Numbers.{judged, inRange, anySize, sizedAs}
-use Rattle.operations.specs.Coordinates.{digitLimit, given, missing, fieldAt, fieldsIn, fieldsOf}
-use Rattle.operations.specs.Operations.{broken, tooLong, alone, axisOf, draw, drawOf, moveOf, flashOf}
+use Rattle.operations.specs.Coordinates.{given, missing, fieldAt, fieldsIn}
+use Rattle.operations.specs.Operations.{broken, tooLong, alone, axisOf, draw, move, flash, operationIn, operates, coded, uncoded, operationCode, operationOf}
 use Rattle.operations.specs.Operations as operations-Operations
-use Rattle.words.specs.Words.{commentOf, selectOf, wordOf}
-use Rattle.words.specs.Words as words-Words
-use Rattle.settings.specs.Header.{formatOf, unitOf}
+use Rattle.words.specs.Newer.{commentOf, selectOf, newerWord}
+use Rattle.words.specs.Newer as words-Newer
+use Rattle.words.specs.Words.{wordOf}
+use Rattle.settings.specs.Header.{formatted, formatOf, unitOf}
+use Rattle.formats.specs.Format.{isFormat, newer, noFormat, inForce, placesOf}
+use Rattle.formats.specs.Texts.{newerFormat}
+use Rattle.formats.specs.Values.{filled, valueIn, wholeIn, coordinateIn, takenIn}
+use Rattle.book.specs.Books.{isOldEdition, isOld}
 use Rattle.settings.specs.Repeats.{repeats, repeatStart}
 use Rattle.settings.specs.Repeats as settings-Repeats
 use Rattle.settings.specs.Transformations.{rotationOf, scaleOf, mirrorOf, transformationOf}
@@ -44,25 +49,27 @@ use Rattle.apertures.specs.Blocks as apertures-Blocks
 use Rattle.apertures.specs.Definitions.{definition, apertureOf}
 use Rattle.apertures.specs.Parameters.{more, gathered, parametersOf}
 use Rattle.text.specs.Pieces.{onto, parted, pieces}
-use Rattle.recognise.specs.Commands.{oneBlock, dataOf, extendedOf, commandOf}
+use Rattle.recognise.specs.Commands.{oneBlock, isUnread, dataOf, dataIn, extendedOf, commandOf}
 use Rattle.commands.specs.Commands.{commandsFrom, commandsOf}
 use Rattle.commands.specs.Leads.{leadOfFlaw, leadOfSetting, leadOf}
 use Rattle.commands.specs.Turns.{led, turnOf, tailFault}
 use Rattle.commands.specs.Turns as commands-Turns
 use Rattle.primitives.specs.Asked.{none, asked}
-use Rattle.graphics.specs.Graphics.{origin, unset, noAperture, noRegion, withFormat, withPoint, withAperture, withMode, withQuadrants, withTransform, withRegion}
+use Rattle.graphics.specs.Graphics.{origin, unset, noAperture, noRegion, withHeader, withNotation, withPoint, withAperture, withMode, withQuadrants, withTransform, withRegion}
 use Rattle.graphics.specs.Graphics as graphics-Graphics
 use Rattle.graphics.specs.Orientation.{angleOf, angleAfter, orientation}
-use Rattle.changes.specs.After.{along, target, goingTo, emptyRegion, startsContour, drawing, ended, withDigits, withUnit, withClear, withMirror, withRotation, withScale, afterSetting, afterOperation, after}
-use Rattle.fits.specs.Fits.{isMissing, unready, placeless, brushless, circular, hasOffset, arcless, drawMisfits, flashMisfits, moveless, centreOf, badCentre, unclosed, askew, tooTall}
+use Rattle.changes.specs.After.{along, target, goingTo, emptyRegion, startsContour, drawing, ended, withFormat, withUnit, withCoded, withClear, withMirror, withRotation, withScale, afterSetting, afterOperation, after}
+use Rattle.reach.specs.Far.{isFormatted, isFar, goesFar}
+use Rattle.fits.specs.Fits.{isMissing, unready, placeless, circular, hasBrush, brushless, hasOffset, isSigned, quadrantless, arcless, drawMisfits, flashMisfits, moveless, drawsFar, unclosed, askew, tooTall}
 use Rattle.fits.specs.Fits as fits-Fits
+use Rattle.arcs.specs.Arcs.{single, rests, centreOf, badCentre, centreless, kindDrawn, arcCentre}
 use Rattle.drawing.specs.Counts.{counted, tooMany}
 use Rattle.drawing.specs.Faults.{drawItems, drawFault, moveFault, flashItems, flashFault, regionEndFault}
 use Rattle.rules.specs.Bounds.{isCount, isRepeat}
 use Rattle.decimal.specs.Amounts.{aboveZero}
 use Rattle.rules.specs.Settings.{settingRules, settingFault}
 use Rattle.rules.specs.Rules.{regionFault, formatFault, unitFault, scaleFault, selectFault, apertureFault, macroFault, blockStartFault, closingFault, repeatStartFault, fileAttributeFault, endFault}
-use Rattle.marks.specs.Items.{arcCentre, drawn, edge, contour, flashed, pose}
+use Rattle.marks.specs.Items.{drawn, edge, contour, flashed, pose}
 use Rattle.marks.specs.Marks.{drawMarks, flashMarks, operationMarks, bracketMarks, marksOf}
 use Rattle.marks.specs.Marks as marks-Marks
 use Rattle.templates.specs.Templates.{withHole, rectangle, plainCircle}
@@ -123,12 +130,13 @@ unfolding answer answers said saidOf numbers table worth reading readingAt recko
     tailOf
     pick
     flawNumber judged inRange anySize sizedAs command-Rounded.counted
-    digitLimit given missing fieldAt fieldsIn fieldsOf
-    broken tooLong alone axisOf draw drawOf moveOf flashOf
+    given missing fieldAt fieldsIn
+    broken tooLong alone axisOf draw move flash operationIn operates coded uncoded operationCode operationOf
     operations-Operations.offsetOf operations-Operations.plain
-    commentOf selectOf wordOf
-    words-Words.codeOf
-    formatOf unitOf
+    commentOf selectOf newerWord wordOf
+    words-Newer.codeOf
+    formatted formatOf unitOf
+    isFormat newer noFormat inForce placesOf newerFormat filled valueIn wholeIn coordinateIn takenIn isOldEdition isOld
     repeats repeatStart
     settings-Repeats.repeatOf
     rotationOf scaleOf mirrorOf transformationOf
@@ -137,18 +145,20 @@ unfolding answer answers said saidOf numbers table worth reading readingAt recko
     definition apertureOf
     more gathered parametersOf
     onto parted pieces
-    oneBlock dataOf extendedOf commandOf
+    oneBlock isUnread dataOf dataIn extendedOf commandOf
     commandsFrom commandsOf
     leadOfFlaw leadOfSetting leadOf
     led turnOf tailFault
     commands-Turns.turned
     none asked
-    origin unset noAperture noRegion withFormat withPoint withAperture withMode withQuadrants withTransform withRegion
+    origin unset noAperture noRegion withHeader withNotation withPoint withAperture withMode withQuadrants withTransform withRegion
     graphics-Graphics.start
     angleOf angleAfter orientation
-    along target goingTo emptyRegion startsContour drawing ended withDigits withUnit withClear withMirror withRotation withScale afterSetting afterOperation after
-    isMissing unready placeless brushless circular hasOffset arcless drawMisfits flashMisfits moveless centreOf badCentre unclosed askew tooTall
+    along target goingTo emptyRegion startsContour drawing ended withFormat withUnit withCoded withClear withMirror withRotation withScale afterSetting afterOperation after
+    isFormatted isFar goesFar
+    isMissing unready placeless circular hasBrush brushless hasOffset isSigned quadrantless arcless drawMisfits flashMisfits moveless drawsFar unclosed askew tooTall
     fits-Fits.offsetOf
+    single rests centreOf badCentre centreless kindDrawn
     counted tooMany
     drawItems drawFault moveFault flashItems flashFault regionEndFault
     aboveZero isCount isRepeat

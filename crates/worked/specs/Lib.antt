@@ -1,3 +1,4 @@
+pub mod Films
 pub mod Questions
 pub mod Table
 pub mod Written

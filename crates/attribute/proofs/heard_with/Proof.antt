@@ -8,17 +8,14 @@ use Rattle.attribute.proofs.heard_with.Tie as tie
 part-requires : tie.Need-part-requires
 part-requires c κs = search needs
 
+outline-of-requires : tie.Need-outline-of-requires
+outline-of-requires c κs = search needs
+
 saying-of-requires : tie.Need-saying-of-requires
 saying-of-requires c κs = search needs
 
 later-requires : tie.Need-later-requires
 later-requires c κs = search needs
-
-slice-aggregate-is : tie.Need-slice-aggregate-is
-slice-aggregate-is c = search needs
-
-is-requires : tie.Need-is-requires
-is-requires c κs = search needs
 
 kept-requires : tie.Need-kept-requires
 kept-requires c κs = search needs
@@ -38,10 +35,9 @@ heard-with-spec =
     tie.close
     (tie.spec
     part-requires
+    outline-of-requires
     saying-of-requires
     later-requires
-    slice-aggregate-is
-    is-requires
     kept-requires
     pick-requires
     region-after-requires

@@ -1,6 +1,6 @@
 -- `changes::after_operation` meets its contract, case by case.
 -- Assumes nothing.
-use Rattle.changes.specs.After.{afterOperation}
+use Rattle.changes.specs.After.{goal, afterOperation}
 use mathlib.Core.Path.{sym, ap, _∙_}
 use borrow.Author.Needs.{needs}
 use Rattle.changes.proofs.after_operation.Statement.{statement}
@@ -10,19 +10,22 @@ enum-known-o : tie.Need-enum-known-o
 enum-known-o c = search needs
 
 drawn-requires : tie.Need-drawn-requires
-drawn-requires c κs = search needs
+unfolding goal
+drawn-requires c κs = rw (c .before .o .given .1) at (c .before .before .before .pre)
 
 enum-known-o-2 : tie.Need-enum-known-o-2
 enum-known-o-2 c = search needs
 
 moved-requires : tie.Need-moved-requires
-moved-requires c κs = search needs
+unfolding goal
+moved-requires c κs = rw (c .before .o2 .given .1) at (c .before .before .before .pre)
 
 enum-known-o-3 : tie.Need-enum-known-o-3
 enum-known-o-3 c = search needs
 
 flashed-requires : tie.Need-flashed-requires
-flashed-requires c κs = search needs
+unfolding goal
+flashed-requires c κs = rw (c .before .o3 .given .1) at (c .before .before .before .pre)
 
 returns : tie.Need-returns
 unfolding afterOperation

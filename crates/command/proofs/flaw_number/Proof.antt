@@ -11,6 +11,9 @@ enum-told c = search needs
 enum-told-2 : tie.Need-enum-told-2
 enum-told-2 c = search needs
 
+enum-told-3 : tie.Need-enum-told-3
+enum-told-3 c = search needs
+
 returns : tie.Need-returns
 unfolding flawNumber
 returns c = cc
@@ -19,5 +22,10 @@ returns-2 : tie.Need-returns-2
 unfolding flawNumber
 returns-2 c = cc
 
+returns-3 : tie.Need-returns-3
+unfolding flawNumber
+returns-3 c = cc
+
 pub flaw-number-spec : {M : Type 1} → statement M
-flaw-number-spec = tie.close (tie.spec enum-told enum-told-2 returns returns-2)
+flaw-number-spec =
+    tie.close (tie.spec enum-told enum-told-2 enum-told-3 returns returns-2 returns-3)

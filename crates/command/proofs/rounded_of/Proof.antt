@@ -5,6 +5,9 @@ use mathlib.Core.Path.{sym, ap, _∙_}
 use borrow.Author.Needs.{needs}
 use Rattle.command.proofs.rounded_of.Statement.{statement}
 use Rattle.command.proofs.rounded_of.Tie as tie
+use Rattle.command.proofs.rounded_in_bracket.Reads as rounded-in-bracket-reads
+use Rattle.command.proofs.rounded_in_definition.Reads as rounded-in-definition-reads
+use Rattle.command.proofs.rounded_in_setting.Reads as rounded-in-setting-reads
 
 enum-known-c : tie.Need-enum-known-c
 enum-known-c c = search needs
@@ -42,6 +45,9 @@ enum-told-5 c = search needs
 enum-told-6 : tie.Need-enum-told-6
 enum-told-6 c = search needs
 
+enum-told-7 : tie.Need-enum-told-7
+enum-told-7 c = search needs
+
 returns : tie.Need-returns
 unfolding roundedOf
 returns c = c .rounded-in-setting .ensures ∙ sym (ap roundedOf (c .before .before .c .given .1))
@@ -78,6 +84,10 @@ returns-9 : tie.Need-returns-9
 unfolding roundedOf
 returns-9 c = sym (ap roundedOf (c .enum-told6 .given .1))
 
+returns-10 : tie.Need-returns-10
+unfolding roundedOf
+returns-10 c = sym (ap roundedOf (c .enum-told7 .given .1))
+
 pub rounded-of-spec : {M : Type 1} → statement M
 rounded-of-spec =
     tie.close
@@ -94,6 +104,7 @@ rounded-of-spec =
     enum-told-4
     enum-told-5
     enum-told-6
+    enum-told-7
     returns
     returns-2
     returns-3
@@ -102,4 +113,5 @@ rounded-of-spec =
     returns-6
     returns-7
     returns-8
-    returns-9)
+    returns-9
+    returns-10)

@@ -5,6 +5,8 @@ use mathlib.Core.Path.{sym, ap, _∙_}
 use borrow.Author.Needs.{needs}
 use Rattle.commands.proofs.lead_of.Statement.{statement}
 use Rattle.commands.proofs.lead_of.Tie as tie
+use Rattle.commands.proofs.lead_of_flaw.Reads as lead-of-flaw-reads
+use Rattle.commands.proofs.lead_of_setting.Reads as lead-of-setting-reads
 
 enum-known-c : tie.Need-enum-known-c
 enum-known-c c = search needs
@@ -39,41 +41,48 @@ enum-told-6 c = search needs
 enum-told-7 : tie.Need-enum-told-7
 enum-told-7 c = search needs
 
+enum-told-8 : tie.Need-enum-told-8
+enum-told-8 c = search needs
+
 returns : tie.Need-returns
 unfolding leadOf
-returns c = c .lead-of-flaw .ensures ∙ sym (ap leadOf (c .before .before .c .given .1))
+returns c = c .lead-of-flaw .ensures ∙ sym (ap (leadOf) (c .before .before .c .given .1))
 
 returns-2 : tie.Need-returns-2
 unfolding leadOf
-returns-2 c = sym (ap leadOf (c .enum-told .given .1))
+returns-2 c = sym (ap (leadOf) (c .enum-told .given .1))
 
 returns-3 : tie.Need-returns-3
 unfolding leadOf
-returns-3 c = c .lead-of-setting .ensures ∙ sym (ap leadOf (c .before .before .c2 .given .1))
+returns-3 c = c .lead-of-setting .ensures ∙ sym (ap (leadOf) (c .before .before .c2 .given .1))
 
 returns-4 : tie.Need-returns-4
 unfolding leadOf
-returns-4 c = sym (ap leadOf (c .enum-told2 .given .1))
+returns-4 c = sym (ap (leadOf) (c .enum-told2 .given .1))
 
 returns-5 : tie.Need-returns-5
 unfolding leadOf
-returns-5 c = sym (ap leadOf (c .enum-told3 .given .1))
+returns-5 c = sym (ap (leadOf) (c .enum-told3 .given .1))
 
 returns-6 : tie.Need-returns-6
 unfolding leadOf
-returns-6 c = sym (ap leadOf (c .enum-told4 .given .1))
+returns-6 c = sym (ap (leadOf) (c .enum-told4 .given .1))
 
 returns-7 : tie.Need-returns-7
 unfolding leadOf
-returns-7 c = sym (ap leadOf (c .enum-told5 .given .1))
+returns-7 c = sym (ap (leadOf) (c .enum-told5 .given .1))
 
 returns-8 : tie.Need-returns-8
 unfolding leadOf
-returns-8 c = sym (ap leadOf (c .enum-told6 .given .1))
+returns-8 c = sym (ap (leadOf) (c .enum-told6 .given .1))
 
 returns-9 : tie.Need-returns-9
 unfolding leadOf
-returns-9 c = sym (ap leadOf (c .enum-told7 .given .1))
+returns-9 c = sym (ap (leadOf) (c .enum-told7 .given .1))
+
+returns-10 : tie.Need-returns-10
+unfolding leadOf
+returns-10 c = sym (ap (leadOf) (c .enum-told8 .given .1))
 
 pub lead-of-spec : {M : Type 1} → statement M
 lead-of-spec =
@@ -90,6 +99,7 @@ lead-of-spec =
     enum-told-5
     enum-told-6
     enum-told-7
+    enum-told-8
     returns
     returns-2
     returns-3
@@ -98,4 +108,5 @@ lead-of-spec =
     returns-6
     returns-7
     returns-8
-    returns-9)
+    returns-9
+    returns-10)

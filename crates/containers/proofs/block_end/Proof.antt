@@ -1,4 +1,5 @@
 -- `containers::block_end` meets its contract: its fault, and the block that closes.
+use Rattle.changes.specs.After.{Reached}
 use Rattle.containers.proofs.BlockEnds as ends
 use native.Mathlib.Omega.{arith}
 use mathlib.Core.Path.{refl}
@@ -19,7 +20,8 @@ close-block-requires : tie.Need-close-block-requires
 close-block-requires c κs = ends.block-end-closes _ _ (c .before .before .before .before .before .before .before .before .before .args .p) _ (c .before .before .before .before .level-of .ensures) _ (c .before .before .before .closing-fault .ensures) (c .before .before .before .before .before .before .before .before .before .pre) (omega (arith, c .before .before .if1 .left))
 
 after-requires : tie.Need-after-requires
-after-requires c κs = search needs
+unfolding Reached
+after-requires c κs = tt
 
 with-graphics-requires : tie.Need-with-graphics-requires
 with-graphics-requires c κs = search needs

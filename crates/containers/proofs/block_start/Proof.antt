@@ -1,4 +1,5 @@
 -- `containers::block_start` meets its contract: its faults, and the block that opens.
+use Rattle.changes.specs.After.{Reached}
 use Rattle.containers.proofs.Blocks as blocks
 use native.Mathlib.Omega.{arith}
 use mathlib.Core.Path.{refl}
@@ -55,7 +56,8 @@ open-block-requires : tie.Need-open-block-requires
 open-block-requires c κs = blocks.block-fits _ _ (c .before .before .before .before .before .before .before .before .before .before .before .before .before .before .before .before .before .before .before .before .args .p) (c .before .before .before .before .before .before .before .before .before .before .before .before .before .before .before .before .before .before .before .before .args .place) (c .before .before .before .before .before .before .before .before .before .before .before .before .before .before .before .before .before .before .before .before .args .n) (c .before .before .before .before .before .before .before .before .before .before .before .before .before .before .before .before .before .before .before .before .pre) _ (c .before .before .before .before .before .before .before .before .before .before .before .before .before .before .has-room .ensures) _ (c .before .before .before .before .before .before .before .before .before .before .before .before .before .either .ensures) _ (c .before .before .before .before .before .before .before .before .before .before .before .before .level-of .ensures) _ (c .before .before .before .before .before .before .before .before .before .before .search-number .ensures) _ (c .before .before .before .before .before .before .before .before .found .given .1) _ (c .before .before .before .before .before .before .block-start-fault2 .ensures) (omega (arith, c .before .before .before .before .before .if1 .left))
 
 after-requires : tie.Need-after-requires
-after-requires c κs = search needs
+unfolding Reached
+after-requires c κs = tt
 
 with-graphics-requires : tie.Need-with-graphics-requires
 with-graphics-requires c κs = search needs

@@ -1,4 +1,5 @@
 -- `containers::repeat_end` meets its contract: its fault, and the repeat that closes.
+use Rattle.changes.specs.After.{Reached}
 use Rattle.containers.proofs.RepeatEnds as ends
 use native.Mathlib.Omega.{arith}
 use mathlib.Core.Path.{refl}
@@ -19,7 +20,8 @@ close-repeat-requires : tie.Need-close-repeat-requires
 close-repeat-requires c κs = ends.repeat-end-closes _ (c .before .before .before .before .before .before .before .args .p) _ (c .before .before .before .level-of .ensures) _ (c .before .before .closing-fault .ensures) (c .before .before .before .before .before .before .before .pre) (omega (arith, c .before .if1 .left))
 
 after-requires : tie.Need-after-requires
-after-requires c κs = search needs
+unfolding Reached
+after-requires c κs = tt
 
 with-graphics-requires : tie.Need-with-graphics-requires
 with-graphics-requires c κs = search needs

@@ -1,4 +1,5 @@
 -- `containers::repeat_start` meets its contract: its faults, and the repeat that opens.
+use Rattle.changes.specs.After.{Reached}
 use Rattle.containers.proofs.Repeats as repeats
 use native.Mathlib.Omega.{arith}
 use mathlib.Core.Path.{refl}
@@ -31,7 +32,8 @@ open-repeat-requires : tie.Need-open-repeat-requires
 open-repeat-requires c κs = repeats.repeat-fits _ (c .before .before .before .before .before .before .before .before .before .before .before .args .p) (c .before .before .before .before .before .before .before .before .before .before .before .args .place) _ _ _ _ (c .before .before .before .before .before .before .before .before .before .before .before .pre .1) _ (c .before .before .before .before .before .before .has-room .ensures) _ (c .before .before .before .before .before .level-of .ensures) _ (c .before .before .before .before .is-repeat .ensures) _ (c .before .before .before .repeat-start-fault .ensures) (c .before .before .before .before .before .before .before .before .before .before .before .pre .0) (omega (arith, c .before .before .if1 .left))
 
 after-requires : tie.Need-after-requires
-after-requires c κs = search needs
+unfolding Reached
+after-requires c κs = tt
 
 with-graphics-requires : tie.Need-with-graphics-requires
 with-graphics-requires c κs = search needs

@@ -33,10 +33,13 @@ aperture-at-requires c κs =
 both-requires : tie.Need-both-requires
 both-requires c κs = search needs
 
+both-requires-2 : tie.Need-both-requires-2
+both-requires-2 c κs = search needs
+
 returns-2 : tie.Need-returns-2
 unfolding chosenBy asStored selected
 returns-2 c =
-    rw (← c .before .before .before .before .before .before .before .before .before .search-number .ensures, c .before .before .before .before .before .before .before .found .given .1, ← c .before .before .before .before .before .aperture-at .ensures, ← c .before .both .ensures)
+    rw (← c .before .before .before .before .before .before .before .before .before .before .before .before .search-number .ensures, c .before .before .before .before .before .before .before .before .before .before .found .given .1, ← c .before .before .before .before .before .before .before .before .aperture-at .ensures, ← c .before .before .before .before .both .ensures, ← c .before .both2 .ensures)
 
 pub aperture-with-spec : {M : Type 1} → statement M
 aperture-with-spec =
@@ -48,4 +51,5 @@ aperture-with-spec =
     returns
     aperture-at-requires
     both-requires
+    both-requires-2
     returns-2)

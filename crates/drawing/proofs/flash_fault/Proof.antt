@@ -1,4 +1,5 @@
 -- `drawing::flash_fault` meets its contract: each row is one of `flashFault`.
+-- Assumes nothing.
 use Rattle.drawing.specs.Faults.{flashFault}
 use borrow.Author.Needs.{needs}
 use Rattle.drawing.proofs.flash_fault.Statement.{statement}
@@ -43,23 +44,31 @@ row-requires-6 c κs = search needs
 row-requires-7 : tie.Need-row-requires-7
 row-requires-7 c κs = search needs
 
+goes-far-requires : tie.Need-goes-far-requires
+goes-far-requires c κs = search needs
+
+row-requires-8 : tie.Need-row-requires-8
+row-requires-8 c κs = search needs
+
 returns : tie.Need-returns
 unfolding flashFault
 returns c =
     simp (
-      c .row7 .ensures,
-      c .before .row6 .ensures,
-      c .before .before .is-unready .ensures,
-      c .before .before .before .row5 .ensures,
-      c .before .before .before .before .flash-misfits .ensures,
-      c .before .before .before .before .before .row4 .ensures,
-      c .before .before .before .before .before .before .row3 .ensures,
-      c .before .before .before .before .before .before .before .is-too-tall .ensures,
-      c .before .before .before .before .before .before .before .before .is-askew .ensures,
-      c .before .before .before .before .before .before .before .before .before .row2 .ensures,
-      c .before .before .before .before .before .before .before .before .before .before .too-many .ensures,
-      c .before .before .before .before .before .before .before .before .before .before .before .flash-items .ensures,
-      c .before .before .before .before .before .before .before .before .before .before .before .before .row .ensures,
+      c .row8 .ensures,
+      c .before .goes-far .ensures,
+      c .before .before .row7 .ensures,
+      c .before .before .before .row6 .ensures,
+      c .before .before .before .before .is-unready .ensures,
+      c .before .before .before .before .before .row5 .ensures,
+      c .before .before .before .before .before .before .flash-misfits .ensures,
+      c .before .before .before .before .before .before .before .row4 .ensures,
+      c .before .before .before .before .before .before .before .before .row3 .ensures,
+      c .before .before .before .before .before .before .before .before .before .is-too-tall .ensures,
+      c .before .before .before .before .before .before .before .before .before .before .is-askew .ensures,
+      c .before .before .before .before .before .before .before .before .before .before .before .row2 .ensures,
+      c .before .before .before .before .before .before .before .before .before .before .before .before .too-many .ensures,
+      c .before .before .before .before .before .before .before .before .before .before .before .before .before .flash-items .ensures,
+      c .before .before .before .before .before .before .before .before .before .before .before .before .before .before .row .ensures,
     )
 
 pub flash-fault-spec : {M : Type 1} → statement M
@@ -79,4 +88,6 @@ flash-fault-spec =
     is-unready-requires
     row-requires-6
     row-requires-7
+    goes-far-requires
+    row-requires-8
     returns)

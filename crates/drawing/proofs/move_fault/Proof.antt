@@ -1,4 +1,5 @@
 -- `drawing::move_fault` meets its contract: each row is one of `moveFault`.
+-- Assumes nothing.
 use Rattle.drawing.specs.Faults.{moveFault}
 use borrow.Author.Needs.{needs}
 use Rattle.drawing.proofs.move_fault.Statement.{statement}
@@ -22,9 +23,25 @@ is-unready-requires c κs = search needs
 row-requires-3 : tie.Need-row-requires-3
 row-requires-3 c κs = search needs
 
+goes-far-requires : tie.Need-goes-far-requires
+goes-far-requires c κs = search needs
+
+row-requires-4 : tie.Need-row-requires-4
+row-requires-4 c κs = search needs
+
 returns : tie.Need-returns
 unfolding moveFault
-returns c = cc
+returns c =
+    simp (
+      c .row4 .ensures,
+      c .before .goes-far .ensures,
+      c .before .before .row3 .ensures,
+      c .before .before .before .is-unready .ensures,
+      c .before .before .before .before .row2 .ensures,
+      c .before .before .before .before .before .is-placeless .ensures,
+      c .before .before .before .before .before .before .row .ensures,
+      c .before .before .before .before .before .before .before .is-unclosed .ensures,
+    )
 
 pub move-fault-spec : {M : Type 1} → statement M
 move-fault-spec =
@@ -36,4 +53,6 @@ move-fault-spec =
     row-requires-2
     is-unready-requires
     row-requires-3
+    goes-far-requires
+    row-requires-4
     returns)

@@ -7,7 +7,7 @@ use Rattle.draws.proofs.draw.Statement.{statement}
 use Rattle.draws.proofs.draw.Tie as tie
 
 entries-left-requires : tie.Need-entries-left-requires
-entries-left-requires c κs = known-fits _ _ (c .before .before .before .before .pre .0)
+entries-left-requires c κs = known-fits _ _ (c .before .before .before .before .pre)
 
 level-of-requires : tie.Need-level-of-requires
 level-of-requires c κs = search needs
@@ -25,7 +25,7 @@ starts-contour-requires : tie.Need-starts-contour-requires
 starts-contour-requires c κs = search needs
 
 draw-contour-requires : tie.Need-draw-contour-requires
-draw-contour-requires c κs = (may-draw _ _ (c .before .before .before .before .before .before .before .before .before .before .before .before .args .place) _ _ _ (c .before .before .before .before .before .before .level-of .ensures) (c .before .before .before .before .before .before .before .entries-left .ensures) (c .before .before .before .before .before .draw-fault .ensures) (c .before .before .before .before .before .before .before .before .before .before .before .before .pre .0) (c .before .before .before .before .before .before .before .before .before .before .before .before .pre .1) (c .before .before .before .before .if1 .left), sym (c .before .before .starts-contour .ensures) ∙ c .before .if2 .taken)
+draw-contour-requires c κs = (may-draw _ _ (c .before .before .before .before .before .before .before .before .before .before .before .before .args .place) _ _ _ (c .before .before .before .before .before .before .level-of .ensures) (c .before .before .before .before .before .before .before .entries-left .ensures) (c .before .before .before .before .before .draw-fault .ensures) (c .before .before .before .before .before .before .before .before .before .before .before .before .pre) (c .before .before .before .before .if1 .left), sym (c .before .before .starts-contour .ensures) ∙ c .before .if2 .taken)
 
 same-length-2 : tie.Need-same-length-2
 same-length-2 c = search needs
@@ -34,7 +34,7 @@ returns-2 : tie.Need-returns-2
 returns-2 c = (c .before .before .draw-contour .kept .0, draw-goes _ _ _ _ _ _ (c .before .before .before .before .before .before .before .before .before .level-of .ensures) (c .before .before .before .before .before .before .before .before .before .before .entries-left .ensures) (c .before .before .before .before .before .before .before .before .draw-fault .ensures) _ _ (c .before .before .before .before .before .before .before .if1 .left) (c .before .before .draw-contour .ensures))
 
 draw-edge-requires : tie.Need-draw-edge-requires
-draw-edge-requires c κs = (may-draw _ _ (c .before .before .before .before .before .before .before .before .before .before .before .before .before .args .place) _ _ _ (c .before .before .before .before .before .before .before .level-of .ensures) (c .before .before .before .before .before .before .before .before .entries-left .ensures) (c .before .before .before .before .before .before .draw-fault .ensures) (c .before .before .before .before .before .before .before .before .before .before .before .before .before .pre .0) (c .before .before .before .before .before .before .before .before .before .before .before .before .before .pre .1) (c .before .before .before .before .before .if1 .left), (c .before .if3 .taken, sym (c .before .before .before .starts-contour .ensures) ∙ c .before .before .if2 .left))
+draw-edge-requires c κs = (may-draw _ _ (c .before .before .before .before .before .before .before .before .before .before .before .before .before .args .place) _ _ _ (c .before .before .before .before .before .before .before .level-of .ensures) (c .before .before .before .before .before .before .before .before .entries-left .ensures) (c .before .before .before .before .before .before .draw-fault .ensures) (c .before .before .before .before .before .before .before .before .before .before .before .before .before .pre) (c .before .before .before .before .before .if1 .left), (c .before .if3 .taken, sym (c .before .before .before .starts-contour .ensures) ∙ c .before .before .if2 .left))
 
 same-length-3 : tie.Need-same-length-3
 same-length-3 c = search needs
@@ -43,7 +43,7 @@ returns-3 : tie.Need-returns-3
 returns-3 c = (c .before .before .draw-edge .kept .0, draw-goes _ _ _ _ _ _ (c .before .before .before .before .before .before .before .before .before .before .level-of .ensures) (c .before .before .before .before .before .before .before .before .before .before .before .entries-left .ensures) (c .before .before .before .before .before .before .before .before .before .draw-fault .ensures) _ _ (c .before .before .before .before .before .before .before .before .if1 .left) (c .before .before .draw-edge .ensures))
 
 draw-item-requires : tie.Need-draw-item-requires
-draw-item-requires c κs = (may-draw _ _ (c .before .before .before .before .before .before .before .before .before .before .before .before .before .args .place) _ _ _ (c .before .before .before .before .before .before .before .level-of .ensures) (c .before .before .before .before .before .before .before .before .entries-left .ensures) (c .before .before .before .before .before .before .draw-fault .ensures) (c .before .before .before .before .before .before .before .before .before .before .before .before .before .pre .0) (c .before .before .before .before .before .before .before .before .before .before .before .before .before .pre .1) (c .before .before .before .before .before .if1 .left), c .before .if3 .left)
+draw-item-requires c κs = (may-draw _ _ (c .before .before .before .before .before .before .before .before .before .before .before .before .before .args .place) _ _ _ (c .before .before .before .before .before .before .before .level-of .ensures) (c .before .before .before .before .before .before .before .before .entries-left .ensures) (c .before .before .before .before .before .before .draw-fault .ensures) (c .before .before .before .before .before .before .before .before .before .before .before .before .before .pre) (c .before .before .before .before .before .if1 .left), c .before .if3 .left)
 
 same-length-4 : tie.Need-same-length-4
 same-length-4 c = search needs

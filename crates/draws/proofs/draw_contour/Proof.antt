@@ -1,5 +1,7 @@
 -- `draws::draw_contour` meets its contract: the contour is put, and then its first edge.
-use Rattle.draws.proofs.Known.{known-point, known-mode, known-items}
+use Rattle.changes.specs.After.{Reached, goal}
+use Rattle.drawing.proofs.Reached.{draw-reached, draw-near}
+use Rattle.draws.proofs.Known.{known-mode, known-items}
 use Rattle.draws.proofs.Drawn.{draw-has-room, contour-asks, contour-drawn}
 use mathlib.Core.Path.{_∙_}
 use borrow.Author.Needs.{needs}
@@ -13,16 +15,17 @@ add-item-requires : tie.Need-add-item-requires
 add-item-requires c κs = (draw-has-room _ _ (c .before .before .before .before .before .args .place) _ _ _ (c .before .before .before .before .before .pre .0), known-items _ _ (c .before .before .before .before .before .pre .0 .known))
 
 target-requires : tie.Need-target-requires
-target-requires c κs = search needs
+target-requires c κs = draw-reached _ _ _ _ _ _ (c .before .before .before .before .before .before .before .before .pre .0 .none)
 
 edge-requires : tie.Need-edge-requires
-edge-requires c κs = (known-mode _ _ (c .before .before .before .before .before .before .before .before .before .pre .0 .known), (known-point _ _ (c .before .before .before .before .before .before .before .before .before .pre .0 .known), c .before .before .before .before .before .before .before .before .before .pre .0 .near .centre))
+edge-requires c κs = (known-mode _ _ (c .before .before .before .before .before .before .before .before .before .pre .0 .known), rw (c .target .ensures) (draw-near _ _ _ _ _ _ (c .before .before .before .before .before .before .before .before .before .pre .0 .none)))
 
 add-edge-requires : tie.Need-add-edge-requires
 add-edge-requires c κs = contour-asks _ _ _ _ _ _ (c .before .before .before .before .before .before .before .before .before .before .before .pre .0) (c .before .before .before .before .before .before .before .before .before .before .before .pre .1) (c .before .before .before .before .before .before .contour .ensures) (c .before .before .before .before .before .add-item .ensures)
 
 after-requires : tie.Need-after-requires
-after-requires c κs = search needs
+unfolding Reached goal
+after-requires c κs = draw-reached _ _ _ _ _ _ (c .before .before .before .before .before .before .before .before .before .before .before .before .before .before .pre .0 .none)
 
 with-graphics-requires : tie.Need-with-graphics-requires
 with-graphics-requires c κs = search needs

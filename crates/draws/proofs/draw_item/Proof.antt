@@ -1,21 +1,24 @@
 -- `draws::draw_item` meets its contract: one item is put.
-use Rattle.draws.proofs.Known.{known-point, known-items}
+use Rattle.changes.specs.After.{Reached, goal}
+use Rattle.drawing.proofs.Reached.{draw-reached, draw-near}
+use Rattle.draws.proofs.Known.{known-items}
 use Rattle.draws.proofs.Drawn.{draw-has-room, item-drawn}
 use borrow.Author.Needs.{needs}
 use Rattle.draws.proofs.draw_item.Statement.{statement}
 use Rattle.draws.proofs.draw_item.Tie as tie
 
 target-requires : tie.Need-target-requires
-target-requires c κs = search needs
+target-requires c κs = draw-reached _ _ _ _ _ _ (c .before .before .before .pre .0 .none)
 
 drawn-requires : tie.Need-drawn-requires
-drawn-requires c κs = (known-point _ _ (c .before .before .before .before .pre .0 .known), c .before .before .before .before .pre .0 .near .centre)
+drawn-requires c κs = rw (c .target .ensures) (draw-near _ _ _ _ _ _ (c .before .before .before .before .pre .0 .none))
 
 add-item-requires : tie.Need-add-item-requires
 add-item-requires c κs = (draw-has-room _ _ (c .before .before .before .before .before .before .args .place) _ _ _ (c .before .before .before .before .before .before .pre .0), known-items _ _ (c .before .before .before .before .before .before .pre .0 .known))
 
 after-requires : tie.Need-after-requires
-after-requires c κs = search needs
+unfolding Reached goal
+after-requires c κs = draw-reached _ _ _ _ _ _ (c .before .before .before .before .before .before .before .before .before .pre .0 .none)
 
 with-graphics-requires : tie.Need-with-graphics-requires
 with-graphics-requires c κs = search needs

@@ -7,7 +7,7 @@ use Rattle.draws.proofs.flash.Statement.{statement}
 use Rattle.draws.proofs.flash.Tie as tie
 
 entries-left-requires : tie.Need-entries-left-requires
-entries-left-requires c κs = known-fits _ _ (c .before .before .before .before .pre .0)
+entries-left-requires c κs = known-fits _ _ (c .before .before .before .before .pre)
 
 level-of-requires : tie.Need-level-of-requires
 level-of-requires c κs = search needs
@@ -22,7 +22,7 @@ returns : tie.Need-returns
 returns c = (refl, flash-refused _ _ _ _ _ (c .before .before .level-of .ensures) (c .before .before .before .entries-left .ensures) (c .before .flash-fault .ensures) _ (c .if1 .taken))
 
 flash-block-requires : tie.Need-flash-block-requires
-flash-block-requires c κs = (may-flash _ _ (c .before .before .before .before .before .before .before .before .before .before .args .place) _ _ (c .before .before .before .before .level-of .ensures) (c .before .before .before .before .before .entries-left .ensures) (c .before .before .before .flash-fault .ensures) (c .before .before .before .before .before .before .before .before .before .before .pre .0) (c .before .before .before .before .before .before .before .before .before .before .pre .1) (c .before .before .if1 .left), c .before .if2 .taken)
+flash-block-requires c κs = (may-flash _ _ (c .before .before .before .before .before .before .before .before .before .before .args .place) _ _ (c .before .before .before .before .level-of .ensures) (c .before .before .before .before .before .entries-left .ensures) (c .before .before .before .flash-fault .ensures) (c .before .before .before .before .before .before .before .before .before .before .pre) (c .before .before .if1 .left), c .before .if2 .taken)
 
 same-length-2 : tie.Need-same-length-2
 same-length-2 c = search needs
@@ -31,7 +31,7 @@ returns-2 : tie.Need-returns-2
 returns-2 c = (c .before .before .flash-block .kept .0, flash-goes _ _ _ _ _ (c .before .before .before .before .before .before .before .level-of .ensures) (c .before .before .before .before .before .before .before .before .entries-left .ensures) (c .before .before .before .before .before .before .flash-fault .ensures) _ _ (c .before .before .before .before .before .if1 .left) (c .before .before .flash-block .ensures))
 
 flash-item-requires : tie.Need-flash-item-requires
-flash-item-requires c κs = (may-flash _ _ (c .before .before .before .before .before .before .before .before .before .before .args .place) _ _ (c .before .before .before .before .level-of .ensures) (c .before .before .before .before .before .entries-left .ensures) (c .before .before .before .flash-fault .ensures) (c .before .before .before .before .before .before .before .before .before .before .pre .0) (c .before .before .before .before .before .before .before .before .before .before .pre .1) (c .before .before .if1 .left), c .before .if2 .left)
+flash-item-requires c κs = (may-flash _ _ (c .before .before .before .before .before .before .before .before .before .before .args .place) _ _ (c .before .before .before .before .level-of .ensures) (c .before .before .before .before .before .entries-left .ensures) (c .before .before .before .flash-fault .ensures) (c .before .before .before .before .before .before .before .before .before .before .pre) (c .before .before .if1 .left), c .before .if2 .left)
 
 same-length-3 : tie.Need-same-length-3
 same-length-3 c = search needs

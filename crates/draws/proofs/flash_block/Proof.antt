@@ -1,11 +1,13 @@
 -- `draws::flash_block` meets its contract: the flash of the block is put, and what it stands in is raised.
+use Rattle.changes.specs.After.{Reached, goal}
+use Rattle.drawing.proofs.Reached.{flash-reached}
 use Rattle.draws.proofs.Flashed.{use-asks, block-flashed}
 use borrow.Author.Needs.{needs}
 use Rattle.draws.proofs.flash_block.Statement.{statement}
 use Rattle.draws.proofs.flash_block.Tie as tie
 
 target-requires : tie.Need-target-requires
-target-requires c κs = search needs
+target-requires c κs = flash-reached _ _ _ _ _ (c .before .before .before .pre .0 .none)
 
 pose-requires : tie.Need-pose-requires
 pose-requires c κs = search needs
@@ -14,7 +16,8 @@ add-use-requires : tie.Need-add-use-requires
 add-use-requires c κs = use-asks _ _ (c .before .before .before .before .before .before .args .place) _ _ (c .before .before .before .before .before .before .pre .0) (c .before .before .before .before .before .before .pre .1)
 
 after-requires : tie.Need-after-requires
-after-requires c κs = search needs
+unfolding Reached goal
+after-requires c κs = flash-reached _ _ _ _ _ (c .before .before .before .before .before .before .before .before .before .pre .0 .none)
 
 with-graphics-requires : tie.Need-with-graphics-requires
 with-graphics-requires c κs = search needs

@@ -1,4 +1,6 @@
 -- `draws::flash_item` meets its contract: one item is put.
+use Rattle.changes.specs.After.{Reached, goal}
+use Rattle.drawing.proofs.Reached.{flash-reached}
 use Rattle.draws.proofs.Known.{known-items}
 use Rattle.draws.proofs.Flashed.{flash-has-room, item-flashed}
 use borrow.Author.Needs.{needs}
@@ -6,7 +8,7 @@ use Rattle.draws.proofs.flash_item.Statement.{statement}
 use Rattle.draws.proofs.flash_item.Tie as tie
 
 target-requires : tie.Need-target-requires
-target-requires c κs = search needs
+target-requires c κs = flash-reached _ _ _ _ _ (c .before .before .before .pre .0 .none)
 
 flashed-requires : tie.Need-flashed-requires
 flashed-requires c κs = search needs
@@ -15,7 +17,8 @@ add-item-requires : tie.Need-add-item-requires
 add-item-requires c κs = (flash-has-room _ _ (c .before .before .before .before .before .before .args .place) _ _ (c .before .before .before .before .before .before .pre .0), known-items _ _ (c .before .before .before .before .before .before .pre .0 .known))
 
 after-requires : tie.Need-after-requires
-after-requires c κs = search needs
+unfolding Reached goal
+after-requires c κs = flash-reached _ _ _ _ _ (c .before .before .before .before .before .before .before .before .before .pre .0 .none)
 
 with-graphics-requires : tie.Need-with-graphics-requires
 with-graphics-requires c κs = search needs

@@ -1,6 +1,7 @@
 -- `fields::in_field` meets its contract, part by part.
 -- Assumes nothing.
 use Rattle.fields.specs.Parts.{isField}
+use mathlib.Core.Path.{sym}
 use borrow.Author.Needs.{needs}
 use Rattle.fields.proofs.in_field.Statement.{statement}
 use Rattle.fields.proofs.in_field.Tie as tie
@@ -17,6 +18,9 @@ enum-told-3 c = search needs
 enum-told-4 : tie.Need-enum-told-4
 enum-told-4 c = search needs
 
+does-begin-text-requires : tie.Need-does-begin-text-requires
+does-begin-text-requires c κs = search needs
+
 enum-told-5 : tie.Need-enum-told-5
 enum-told-5 c = search needs
 
@@ -31,6 +35,9 @@ enum-told-8 c = search needs
 
 enum-told-9 : tie.Need-enum-told-9
 enum-told-9 c = search needs
+
+enum-told-10 : tie.Need-enum-told-10
+enum-told-10 c = search needs
 
 returns : tie.Need-returns
 unfolding isField
@@ -53,8 +60,9 @@ returns-3 c =
 returns-4 : tie.Need-returns-4
 unfolding isField
 returns-4 c =
-    let k2 = c .enum-told4 .given .1 in
-    simp k2
+    let k2 = c .before .enum-told4 .given .1 in
+    let e3 = sym (c .does-begin-text .ensures) in
+    simp (k2, e3)
 
 returns-5 : tie.Need-returns-5
 unfolding isField
@@ -86,6 +94,12 @@ returns-9 c =
     let k2 = c .enum-told9 .given .1 in
     simp k2
 
+returns-10 : tie.Need-returns-10
+unfolding isField
+returns-10 c =
+    let k2 = c .enum-told10 .given .1 in
+    simp k2
+
 pub in-field-spec : {M : Type 1} → statement M
 in-field-spec =
     tie.close
@@ -94,11 +108,13 @@ in-field-spec =
     enum-told-2
     enum-told-3
     enum-told-4
+    does-begin-text-requires
     enum-told-5
     enum-told-6
     enum-told-7
     enum-told-8
     enum-told-9
+    enum-told-10
     returns
     returns-2
     returns-3
@@ -107,4 +123,5 @@ in-field-spec =
     returns-6
     returns-7
     returns-8
-    returns-9)
+    returns-9
+    returns-10)

@@ -1,4 +1,5 @@
--- `fits::has_offset` meets its contract: each case is one of `hasOffset`.
+-- `fits::has_offset` meets its contract: case by case.
+-- Assumes nothing.
 use Rattle.fits.specs.Fits.{hasOffset}
 use borrow.Author.Needs.{needs}
 use Rattle.fits.proofs.has_offset.Statement.{statement}
@@ -7,8 +8,8 @@ use Rattle.fits.proofs.has_offset.Tie as tie
 enum-told : tie.Need-enum-told
 enum-told c = search needs
 
-enum-known-o : tie.Need-enum-known-o
-enum-known-o c = search needs
+enum-told-2 : tie.Need-enum-told-2
+enum-told-2 c = search needs
 
 returns : tie.Need-returns
 unfolding hasOffset
@@ -19,4 +20,4 @@ unfolding hasOffset
 returns-2 c = cc
 
 pub has-offset-spec : {M : Type 1} → statement M
-has-offset-spec = tie.close (tie.spec enum-told enum-known-o returns returns-2)
+has-offset-spec = tie.close (tie.spec enum-told enum-told-2 returns returns-2)

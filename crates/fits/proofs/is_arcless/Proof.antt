@@ -1,4 +1,5 @@
 -- `fits::is_arcless` meets its contract: its tests are those of `arcless`.
+-- Assumes nothing.
 use Rattle.fits.specs.Fits.{arcless}
 use borrow.Author.Needs.{needs}
 use Rattle.fits.proofs.is_arcless.Statement.{statement}
@@ -12,6 +13,9 @@ has-offset-requires c κs = search needs
 
 differ-requires : tie.Need-differ-requires
 differ-requires c κs = search needs
+
+is-quadrantless-requires : tie.Need-is-quadrantless-requires
+is-quadrantless-requires c κs = search needs
 
 both-requires : tie.Need-both-requires
 both-requires c κs = search needs
@@ -30,6 +34,7 @@ is-arcless-spec =
     is-circular-requires
     has-offset-requires
     differ-requires
+    is-quadrantless-requires
     both-requires
     either-requires
     returns)

@@ -1,4 +1,5 @@
 -- `fits::is_moveless` meets its contract: its tests are those of `moveless`.
+-- Assumes nothing.
 use Rattle.fits.specs.Fits.{moveless}
 use borrow.Author.Needs.{needs}
 use Rattle.fits.proofs.is_moveless.Statement.{statement}
@@ -10,9 +11,13 @@ starts-contour-requires c κs = search needs
 both-requires : tie.Need-both-requires
 both-requires c κs = search needs
 
+both-requires-2 : tie.Need-both-requires-2
+both-requires-2 c κs = search needs
+
 returns : tie.Need-returns
 unfolding moveless
 returns c = cc
 
 pub is-moveless-spec : {M : Type 1} → statement M
-is-moveless-spec = tie.close (tie.spec starts-contour-requires both-requires returns)
+is-moveless-spec =
+    tie.close (tie.spec starts-contour-requires both-requires both-requires-2 returns)

@@ -1,8 +1,15 @@
 -- `fits::is_unready` meets its contract: its tests are those of `unready`.
+-- Assumes nothing.
 use Rattle.fits.specs.Fits.{unready}
 use borrow.Author.Needs.{needs}
 use Rattle.fits.proofs.is_unready.Statement.{statement}
 use Rattle.fits.proofs.is_unready.Tie as tie
+
+is-formatted-requires : tie.Need-is-formatted-requires
+is-formatted-requires c κs = search needs
+
+both-requires : tie.Need-both-requires
+both-requires c κs = search needs
 
 either-requires : tie.Need-either-requires
 either-requires c κs = search needs
@@ -12,4 +19,4 @@ unfolding unready
 returns c = cc
 
 pub is-unready-spec : {M : Type 1} → statement M
-is-unready-spec = tie.close (tie.spec either-requires returns)
+is-unready-spec = tie.close (tie.spec is-formatted-requires both-requires either-requires returns)

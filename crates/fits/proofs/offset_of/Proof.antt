@@ -1,4 +1,5 @@
--- `fits::offset_of` meets its contract: each case is one of `offsetOf`.
+-- `fits::offset_of` meets its contract: case by case.
+-- Assumes nothing.
 use Rattle.fits.specs.Fits.{offsetOf}
 use Rattle.graphics.specs.Graphics.{origin}
 use borrow.Author.Needs.{needs}

@@ -17,22 +17,25 @@ enum-told-2 : tie.Need-enum-told-2
 enum-told-2 c = search needs
 
 after-requires : tie.Need-after-requires
-after-requires c κs = search needs
+after-requires c κs = c .before .before .pre
 
 enum-told-3 : tie.Need-enum-told-3
 enum-told-3 c = search needs
 
 after-requires-2 : tie.Need-after-requires-2
-after-requires-2 c κs = search needs
+after-requires-2 c κs = c .before .before .pre
 
 enum-told-4 : tie.Need-enum-told-4
 enum-told-4 c = search needs
 
 after-requires-3 : tie.Need-after-requires-3
-after-requires-3 c κs = search needs
+after-requires-3 c κs = c .before .before .pre
 
 enum-told-5 : tie.Need-enum-told-5
 enum-told-5 c = search needs
+
+after-requires-4 : tie.Need-after-requires-4
+after-requires-4 c κs = c .before .before .pre
 
 enum-told-6 : tie.Need-enum-told-6
 enum-told-6 c = search needs
@@ -45,6 +48,9 @@ enum-told-8 c = search needs
 
 enum-told-9 : tie.Need-enum-told-9
 enum-told-9 c = search needs
+
+enum-told-10 : tie.Need-enum-told-10
+enum-told-10 c = search needs
 
 returns : tie.Need-returns
 unfolding behind
@@ -63,8 +69,8 @@ unfolding behind
 returns-4 c = let a = c .before .before .before .args in c .after3 .ensures ∙ ap (λ c. after c (a .g)) (c .before .enum-told4 .given .1) ∙ sym (ap (λ c. behind (a .g) c (a .k)) (c .before .enum-told4 .given .1))
 
 returns-5 : tie.Need-returns-5
-unfolding behind after
-returns-5 c = let a = c .before .before .args in sym (ap (λ c. behind (a .g) c (a .k)) (c .enum-told5 .given .1))
+unfolding behind
+returns-5 c = let a = c .before .before .before .args in c .after4 .ensures ∙ ap (λ c. after c (a .g)) (c .before .enum-told5 .given .1) ∙ sym (ap (λ c. behind (a .g) c (a .k)) (c .before .enum-told5 .given .1))
 
 returns-6 : tie.Need-returns-6
 unfolding behind after
@@ -82,6 +88,10 @@ returns-9 : tie.Need-returns-9
 unfolding behind after
 returns-9 c = let a = c .before .before .args in sym (ap (λ c. behind (a .g) c (a .k)) (c .enum-told9 .given .1))
 
+returns-10 : tie.Need-returns-10
+unfolding behind after
+returns-10 c = let a = c .before .before .args in sym (ap (λ c. behind (a .g) c (a .k)) (c .enum-told10 .given .1))
+
 pub behind-spec : {M : Type 1} → statement M
 behind-spec =
     tie.close
@@ -95,10 +105,12 @@ behind-spec =
     enum-told-4
     after-requires-3
     enum-told-5
+    after-requires-4
     enum-told-6
     enum-told-7
     enum-told-8
     enum-told-9
+    enum-told-10
     returns
     returns-2
     returns-3
@@ -107,4 +119,5 @@ behind-spec =
     returns-6
     returns-7
     returns-8
-    returns-9)
+    returns-9
+    returns-10)

@@ -5,6 +5,7 @@ use borrow.Author.Tests.{eq-eqb, ne-eqb}
 use borrow.Author.Needs.{needs}
 use Rattle.graphics.specs.declared.Graphics.{Graphics}
 use Rattle.lent.specs.Stepped.{faultOf, steppedOf}
+use Rattle.lent.proofs.Reached.{reached}
 use Rattle.lent.proofs.next.Statement.{statement}
 use Rattle.lent.proofs.next.Tie as tie
 
@@ -21,7 +22,9 @@ returns c =
     λ i. record { number = e i; graphics = kept i }
 
 behind-requires : tie.Need-behind-requires
-behind-requires c κs = search needs
+behind-requires c κs =
+    let a = c .before .before .args in
+    reached (a .g) (a .l) (a .c) (a .k) (sym (c .before .fault-of .ensures) ∙ c .if1 .left)
 
 returns-2 : tie.Need-returns-2
 unfolding steppedOf

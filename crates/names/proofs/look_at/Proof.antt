@@ -7,6 +7,7 @@ use lib.ListN.{length}
 use lib.Seq.{slice}
 use Rattle.scan.specs.Scan.{nextCommand}
 use Rattle.scan.specs.declared.Scan.the-variants as scan
+use Rattle.formats.specs.Format.{noFormat}
 use Rattle.recognise.specs.Commands.{commandOf}
 use borrow.Author.Needs.{needs}
 use Rattle.names.specs.Sets.{setsOf}
@@ -37,7 +38,7 @@ abbrev command : tie.After-sets-in → tie.After-s
 command c = c .before .before .before
 
 sets : (c : tie.After-sets-in) → let t = command c in let v = t .s .given .0 in
-    setsOf (commandOf 0 (v .0) (slice (v .1 .1 .0) (v .1 .1 .1 .0) (t .before .before .before .before .args .file .now))) ≡ c .sets-in .result
+    setsOf (commandOf (t .before .before .before .before .args .book) noFormat (v .0) (slice (v .1 .1 .0) (v .1 .1 .1 .0) (t .before .before .before .before .args .file .now))) ≡ c .sets-in .result
 sets c = sym (rw (c .before .part .ensures) at (c .sets-in .ensures))
 
 enum-told : tie.Need-enum-told

@@ -1,10 +1,10 @@
 -- `names::sets_in` meets its contract: what does not begin with `TF` sets nothing.
 -- Assumes nothing.
 use mathlib.Core.Path.{sym, _∙_, ap}
-use borrow.Author.Needs.{needs}
 use Rattle.recognise.specs.Commands.{commandOf}
 use Rattle.names.specs.Sets.{setsOf}
 use Rattle.names.proofs.Nameless.{word-none, macro-none, extended-none}
+use borrow.Author.Needs.{needs}
 use Rattle.names.proofs.sets_in.Statement.{statement}
 use Rattle.names.proofs.sets_in.Tie as tie
 
@@ -23,6 +23,9 @@ slice-aggregate-begins c = search needs
 begins-requires : tie.Need-begins-requires
 begins-requires c κs = search needs
 
+no-format-requires : tie.Need-no-format-requires
+no-format-requires c κs = search needs
+
 command-of-requires : tie.Need-command-of-requires
 command-of-requires c κs = search needs
 
@@ -31,11 +34,11 @@ sets-of-requires c κs = search needs
 
 returns : tie.Need-returns
 unfolding commandOf
-returns c = rw (c .before .before .before .before .before .enum-told3 .given .1) (c .sets-of .ensures ∙ ap setsOf (c .before .command-of .ensures))
+returns c = rw (c .before .before .before .before .before .before .enum-told3 .given .1) (c .sets-of .ensures ∙ ap setsOf (c .before .command-of .ensures))
 
 returns-2 : tie.Need-returns-2
 unfolding commandOf
-returns-2 c = rw (c .enum-told .given .1) (sym (word-none 0 _))
+returns-2 c = rw (c .enum-told .given .1) (sym (word-none _ _ _))
 
 returns-3 : tie.Need-returns-3
 unfolding commandOf
@@ -43,7 +46,7 @@ returns-3 c = rw (c .enum-told2 .given .1) (sym (macro-none _))
 
 returns-4 : tie.Need-returns-4
 unfolding commandOf
-returns-4 c = rw (c .before .before .before .enum-told3 .given .1) (sym (extended-none _ (sym (c .before .begins .ensures) ∙ c .if1 .left)))
+returns-4 c = rw (c .before .before .before .enum-told3 .given .1) (sym (extended-none _ _ (sym (c .before .begins .ensures) ∙ c .if1 .left)))
 
 pub sets-in-spec : {M : Type 1} → statement M
 sets-in-spec =
@@ -54,6 +57,7 @@ sets-in-spec =
     enum-told-3
     slice-aggregate-begins
     begins-requires
+    no-format-requires
     command-of-requires
     sets-of-requires
     returns

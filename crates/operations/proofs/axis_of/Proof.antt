@@ -7,7 +7,7 @@ use Rattle.operations.proofs.axis_of.Tie as tie
 
 returns : tie.Need-returns
 unfolding axisOf
-returns c = let f = c .before .before .args .f in rw (in-bits (f .value) (c .struct-told .given .1 .1 .1 .0 .1), c .before .if1 .taken)
+returns c = let f = c .before .before .args .f in rw (in-bits (f .value) (c .struct-told .given .1 .1 .1 .1 .0 .1), c .before .if1 .taken)
 
 returns-2 : tie.Need-returns-2
 unfolding axisOf

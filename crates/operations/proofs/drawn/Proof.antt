@@ -1,4 +1,4 @@
--- `operations::drawn` meets its contract: it is judged as `draw` says.
+-- `operations::drawn` meets its contract: each part is that of `draw`.
 -- Assumes nothing.
 use Rattle.operations.specs.Operations.{draw}
 use borrow.Author.Needs.{needs}
@@ -26,9 +26,6 @@ either-requires c κs = search needs
 is-too-long-requires : tie.Need-is-too-long-requires
 is-too-long-requires c κs = search needs
 
-judged-requires : tie.Need-judged-requires
-judged-requires c κs = search needs
-
 returns : tie.Need-returns
 unfolding draw
 returns c = cc
@@ -44,5 +41,4 @@ drawn-spec =
     is-alone-requires
     either-requires
     is-too-long-requires
-    judged-requires
     returns)

@@ -18,11 +18,17 @@ stands c = inside (c .before .before .before .args .s .now) (c .before .before .
 byte-at-requires : tie.Need-byte-at-requires
 byte-at-requires c κs = search needs
 
-add-coordinate-at : tie.Need-add-coordinate-at
-add-coordinate-at c = omega (arith, stands c)
+add-coordinate-in : tie.Need-add-coordinate-in
+add-coordinate-in c = omega (arith, stands c)
 
-coordinate-at-requires : tie.Need-coordinate-at-requires
-coordinate-at-requires c κs = (omega (arith, stands c), c .before .before .before .pre .0)
+coordinate-in-requires : tie.Need-coordinate-in-requires
+coordinate-in-requires c κs = omega (arith, stands c)
+
+add-sign-at : tie.Need-add-sign-at
+add-sign-at c = omega (arith, stands (c .before))
+
+sign-at-requires : tie.Need-sign-at-requires
+sign-at-requires c κs = search needs
 
 as-given-requires : tie.Need-as-given-requires
 as-given-requires c κs = search needs
@@ -30,8 +36,8 @@ as-given-requires c κs = search needs
 returns : tie.Need-returns
 unfolding fieldAt
 returns c =
-    let e = sym (c .before .before .before .byte-at .ensures) in
-    let h = c .before .before .if1 .taken in
+    let e = sym (c .before .before .before .before .byte-at .ensures) in
+    let h = c .before .before .before .if1 .taken in
     simp (tests, e) (cc)
 
 returns-2 : tie.Need-returns-2
@@ -46,8 +52,10 @@ field-at-spec =
     tie.close
     (tie.spec
     byte-at-requires
-    add-coordinate-at
-    coordinate-at-requires
+    add-coordinate-in
+    coordinate-in-requires
+    add-sign-at
+    sign-at-requires
     as-given-requires
     returns
     returns-2)

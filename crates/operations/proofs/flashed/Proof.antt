@@ -1,6 +1,6 @@
 -- `operations::flashed` meets its contract: it is judged as `plain` says.
 -- Assumes nothing.
-
+use Rattle.operations.specs.Operations.{flash}
 use borrow.Author.Needs.{needs}
 use Rattle.operations.proofs.flashed.Statement.{statement}
 use Rattle.operations.proofs.flashed.Tie as tie
@@ -15,6 +15,7 @@ without-offset-requires : tie.Need-without-offset-requires
 without-offset-requires c κs = search needs
 
 returns : tie.Need-returns
+unfolding flash
 returns c = cc
 
 pub flashed-spec : {M : Type 1} → statement M

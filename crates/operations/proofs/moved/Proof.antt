@@ -1,6 +1,6 @@
 -- `operations::moved` meets its contract: it is judged as `plain` says.
 -- Assumes nothing.
-
+use Rattle.operations.specs.Operations.{move}
 use borrow.Author.Needs.{needs}
 use Rattle.operations.proofs.moved.Statement.{statement}
 use Rattle.operations.proofs.moved.Tie as tie
@@ -15,6 +15,7 @@ without-offset-requires : tie.Need-without-offset-requires
 without-offset-requires c κs = search needs
 
 returns : tie.Need-returns
+unfolding move
 returns c = cc
 
 pub moved-spec : {M : Type 1} → statement M

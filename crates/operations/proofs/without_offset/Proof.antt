@@ -1,4 +1,4 @@
--- `operations::without_offset` meets its contract: it is judged as `plain` says.
+-- `operations::without_offset` meets its contract: each part is that of `plain`.
 -- Assumes nothing.
 use Rattle.operations.specs.Operations.{plain}
 use borrow.Author.Needs.{needs}
@@ -17,9 +17,6 @@ either-requires-2 c κs = search needs
 is-too-long-requires : tie.Need-is-too-long-requires
 is-too-long-requires c κs = search needs
 
-judged-requires : tie.Need-judged-requires
-judged-requires c κs = search needs
-
 returns : tie.Need-returns
 unfolding plain
 returns c = cc
@@ -27,10 +24,4 @@ returns c = cc
 pub without-offset-spec : {M : Type 1} → statement M
 without-offset-spec =
     tie.close
-    (tie.spec
-    is-broken-requires
-    either-requires
-    either-requires-2
-    is-too-long-requires
-    judged-requires
-    returns)
+    (tie.spec is-broken-requires either-requires either-requires-2 is-too-long-requires returns)

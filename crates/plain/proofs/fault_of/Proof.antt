@@ -5,6 +5,11 @@ use mathlib.Core.Path.{sym, ap, _∙_}
 use borrow.Author.Needs.{needs}
 use Rattle.plain.proofs.fault_of.Statement.{statement}
 use Rattle.plain.proofs.fault_of.Tie as tie
+use Rattle.command.proofs.flaw_number.Reads as flaw-number-reads
+use Rattle.plain.proofs.deed_fault.Reads as deed-fault-reads
+use Rattle.plain.proofs.operation_fault.Reads as operation-fault-reads
+use Rattle.rules.proofs.end_fault.Reads as end-fault-reads
+use Rattle.rules.proofs.setting_fault.Reads as setting-fault-reads
 
 enum-known-c : tie.Need-enum-known-c
 enum-known-c c = search needs
@@ -33,20 +38,23 @@ enum-known-c-3 c = search needs
 operation-fault-requires : tie.Need-operation-fault-requires
 operation-fault-requires c κs = search needs
 
+enum-told-3 : tie.Need-enum-told-3
+enum-told-3 c = search needs
+
 enum-known-c-4 : tie.Need-enum-known-c-4
 enum-known-c-4 c = search needs
 
 deed-fault-requires : tie.Need-deed-fault-requires
 deed-fault-requires c κs = search needs
 
-enum-told-3 : tie.Need-enum-told-3
-enum-told-3 c = search needs
-
 enum-told-4 : tie.Need-enum-told-4
 enum-told-4 c = search needs
 
 enum-told-5 : tie.Need-enum-told-5
 enum-told-5 c = search needs
+
+enum-told-6 : tie.Need-enum-told-6
+enum-told-6 c = search needs
 
 returns : tie.Need-returns
 unfolding faultOf
@@ -70,11 +78,11 @@ returns-5 c = c .operation-fault .ensures ∙ sym (ap (faultOf (c .before .befor
 
 returns-6 : tie.Need-returns-6
 unfolding faultOf
-returns-6 c = c .deed-fault .ensures ∙ sym (ap (faultOf (c .before .before .before .before .args .g) (c .before .before .before .before .args .l)) (c .before .before .c4 .given .1))
+returns-6 c = sym (ap (faultOf (c .before .before .args .g) (c .before .before .args .l)) (c .enum-told3 .given .1))
 
 returns-7 : tie.Need-returns-7
 unfolding faultOf
-returns-7 c = sym (ap (faultOf (c .before .before .args .g) (c .before .before .args .l)) (c .enum-told3 .given .1))
+returns-7 c = c .deed-fault .ensures ∙ sym (ap (faultOf (c .before .before .before .before .args .g) (c .before .before .before .before .args .l)) (c .before .before .c4 .given .1))
 
 returns-8 : tie.Need-returns-8
 unfolding faultOf
@@ -83,6 +91,10 @@ returns-8 c = sym (ap (faultOf (c .before .before .args .g) (c .before .before .
 returns-9 : tie.Need-returns-9
 unfolding faultOf
 returns-9 c = sym (ap (faultOf (c .before .before .args .g) (c .before .before .args .l)) (c .enum-told5 .given .1))
+
+returns-10 : tie.Need-returns-10
+unfolding faultOf
+returns-10 c = sym (ap (faultOf (c .before .before .args .g) (c .before .before .args .l)) (c .enum-told6 .given .1))
 
 pub fault-of-spec : {M : Type 1} → statement M
 fault-of-spec =
@@ -97,11 +109,12 @@ fault-of-spec =
     setting-fault-requires
     enum-known-c-3
     operation-fault-requires
+    enum-told-3
     enum-known-c-4
     deed-fault-requires
-    enum-told-3
     enum-told-4
     enum-told-5
+    enum-told-6
     returns
     returns-2
     returns-3
@@ -110,4 +123,5 @@ fault-of-spec =
     returns-6
     returns-7
     returns-8
-    returns-9)
+    returns-9
+    returns-10)

@@ -66,6 +66,9 @@ returns c =
     reads-refused _ (lent r) (left r) _ _ (begins r .pre .1) (r .run-over .ensures .0) (r .run-over .ensures .1) (lentOf _ _ _ _ _) (f .r .given .1)
     (record { head-is = begins r .pre .0; entries-are = z .0; apertures-are = z .1; macros-are = z .2; numbers-are = z .3 })
 
+unit-in-requires : tie.Need-unit-in-requires
+unit-in-requires c κs = search needs
+
 same-length-5 : tie.Need-same-length-5
 same-length-5 c = search needs
 
@@ -81,10 +84,11 @@ same-length-8 c = search needs
 returns-2 : tie.Need-returns-2
 unfolding lentOf withEntries
 returns-2 c =
-    let f = c .before .before in
+    let f = c .before .before .before .before in
     let t = f .before .before .before in
     let r = ran (t .before .before) in
-    reads-accepted _ (lent r) (left r) _ _ (begins r .pre .1) (r .run-over .ensures .0) (r .run-over .ensures .1) (t .r2 .given .1) _ refl (f .finish .ensures .0) (f .finish .ensures .1)
+    rw (c .unit-in .ensures)
+    (reads-accepted _ (lent r) (left r) _ _ (begins r .pre .1) (r .run-over .ensures .0) (r .run-over .ensures .1) (t .r2 .given .1) _ refl (f .finish .ensures .0) (f .finish .ensures .1))
 
 pub read-file-spec : {M : Type 1} → statement M
 read-file-spec =
@@ -95,6 +99,7 @@ read-file-spec =
     clear-requires
     enum-known-r-2
     finish-requires
+    unit-in-requires
     same-length
     same-length-2
     same-length-3

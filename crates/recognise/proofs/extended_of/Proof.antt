@@ -2,7 +2,7 @@
 -- Assumes nothing.
 use mathlib.Core.Path.{refl, sym, _∙_, ap}
 use Rattle.base.proofs.Choose.{row-holds, row-fails}
-use Rattle.recognise.specs.Commands.{extendedOf, dataOf}
+use Rattle.recognise.specs.Commands.{extendedOf, dataIn}
 use borrow.Author.Needs.{needs}
 use Rattle.recognise.proofs.extended_of.Statement.{statement}
 use Rattle.recognise.proofs.extended_of.Tie as tie
@@ -16,14 +16,14 @@ is-one-block-requires c κs = search needs
 up-to-requires : tie.Need-up-to-requires
 up-to-requires c κs = search needs
 
-data-of-requires : tie.Need-data-of-requires
-data-of-requires c κs = search needs
+data-in-requires : tie.Need-data-in-requires
+data-in-requires c κs = search needs
 
 returns : tie.Need-returns
 unfolding extendedOf
 returns c =
     rw (sym (c .before .before .before .before .find .ensures))
-    (row-holds _ (sym (c .before .before .before .is-one-block .ensures) ∙ c .before .before .if1 .taken) (c .data-of .ensures ∙ ap dataOf (c .before .up-to .ensures)))
+    (row-holds _ (sym (c .before .before .before .is-one-block .ensures) ∙ c .before .before .if1 .taken) (c .data-in .ensures ∙ ap (dataIn _) (c .before .up-to .ensures)))
 
 returns-2 : tie.Need-returns-2
 unfolding extendedOf
@@ -38,6 +38,6 @@ extended-of-spec =
     find-requires
     is-one-block-requires
     up-to-requires
-    data-of-requires
+    data-in-requires
     returns
     returns-2)

@@ -1,8 +1,12 @@
--- `rules::format_fault` meets its contract: each row is one of `formatFault`.
+-- `rules::format_fault` meets its contract: its rows are those of `formatFault`.
+-- Assumes nothing.
 use Rattle.rules.specs.Rules.{formatFault}
 use borrow.Author.Needs.{needs}
 use Rattle.rules.proofs.format_fault.Statement.{statement}
 use Rattle.rules.proofs.format_fault.Tie as tie
+
+is-formatted-requires : tie.Need-is-formatted-requires
+is-formatted-requires c κs = search needs
 
 row-requires : tie.Need-row-requires
 row-requires c κs = search needs
@@ -15,4 +19,4 @@ unfolding formatFault
 returns c = cc
 
 pub format-fault-spec : {M : Type 1} → statement M
-format-fault-spec = tie.close (tie.spec row-requires row-requires-2 returns)
+format-fault-spec = tie.close (tie.spec is-formatted-requires row-requires row-requires-2 returns)

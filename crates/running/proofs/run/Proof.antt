@@ -26,13 +26,17 @@ abbrev μ-loop : tie.MeasureT-loop
 start-requires : tie.Need-start-requires Inv-loop μ-loop
 start-requires c κs = search needs
 
+no-format-requires : tie.Need-no-format-requires Inv-loop μ-loop
+no-format-requires c κs = search needs
+
 -- the call
 abbrev begins : tie.At-loop Inv-loop μ-loop → tie.Start Inv-loop μ-loop
-begins c = c .before .before .before .before .before .before
+begins c = c .before .before .before .before .before .before .before
 
 loop-holds : tie.Need-loop-holds Inv-loop μ-loop
 unfolding lentOf
-loop-holds c = rw (c .start .ensures) (runs-start _ (lentOf _ _ _ _ _) (c .before .before .before .before .before .pre .0))
+loop-holds c =
+    rw (c .no-format .ensures, c .before .start .ensures) (runs-start _ (lentOf _ _ _ _ _) (c .before .before .before .before .before .before .pre .0))
 
 turn-at-requires : tie.Need-turn-at-requires Inv-loop μ-loop
 turn-at-requires c κs = search needs
@@ -68,7 +72,7 @@ enum-known-t-2 : tie.Need-enum-known-t-2 Inv-loop μ-loop
 enum-known-t-2 c = search needs
 
 last : (c : tie.After-t2 Inv-loop μ-loop) → let l = c .before .before .before in
-    turnOf (begins l .args .book) (l .loop .n) (begins l .args .file .now) (l .loop .at) ≡ turn.Last (c .t2 .given .0 .0) (c .t2 .given .0 .1 .0)
+    turnOf (begins l .args .book) (l .loop .format) (begins l .args .file .now) (l .loop .at) ≡ turn.Last (c .t2 .given .0 .0) (c .t2 .given .0 .1 .0)
 last c = sym (c .before .before .turn-at .ensures) ∙ c .t2 .given .1
 
 step-requires : tie.Need-step-requires Inv-loop μ-loop
@@ -123,7 +127,7 @@ enum-known-t-3 : tie.Need-enum-known-t-3 Inv-loop μ-loop
 enum-known-t-3 c = search needs
 
 more : (c : tie.After-t3 Inv-loop μ-loop) → let l = c .before .before .before in let v = c .t3 .given .0 in
-    turnOf (begins l .args .book) (l .loop .n) (begins l .args .file .now) (l .loop .at) ≡ turn.More (v .0) (v .1 .0) (v .1 .1 .0)
+    turnOf (begins l .args .book) (l .loop .format) (begins l .args .file .now) (l .loop .at) ≡ turn.More (v .0) (v .1 .0) (v .1 .1 .0)
 more c = sym (c .before .before .turn-at .ensures) ∙ c .t3 .given .1
 
 rounded-of-requires : tie.Need-rounded-of-requires Inv-loop μ-loop
@@ -232,7 +236,7 @@ loop-less : tie.Need-loop-less Inv-loop μ-loop
 loop-less c =
     let t = told-turn (more-told (more-step (c .before .before .before))) in
     let l = t .before .before .before .loop in
-    let o = more-onward _ (l .n) _ (l .at) (l .inv .running .within) (more t) in
+    let o = more-onward _ (l .format) _ (l .at) (l .inv .running .within) (more t) in
     omega (arith, o .0, o .1)
 
 loop-again : tie.Need-loop-again Inv-loop μ-loop
@@ -251,6 +255,7 @@ run-spec =
     Inv-loop
     μ-loop
     start-requires
+    no-format-requires
     loop-holds
     turn-at-requires
     enum-known-t

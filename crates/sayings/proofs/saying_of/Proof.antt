@@ -35,6 +35,9 @@ enum-told-7 c = search needs
 enum-told-8 : tie.Need-enum-told-8
 enum-told-8 c = search needs
 
+enum-told-9 : tie.Need-enum-told-9
+enum-told-9 c = search needs
+
 returns : tie.Need-returns
 unfolding sayingOf spoken
 returns c = rw (c .before .before .command .given .1) (c .deed-says .ensures)
@@ -71,6 +74,10 @@ returns-9 : tie.Need-returns-9
 unfolding sayingOf spoken
 returns-9 c = rw (c .enum-told8 .given .1)
 
+returns-10 : tie.Need-returns-10
+unfolding sayingOf spoken
+returns-10 c = rw (c .enum-told9 .given .1)
+
 pub saying-of-spec : {M : Type 1} → statement M
 saying-of-spec =
     tie.close
@@ -85,6 +92,7 @@ saying-of-spec =
     enum-told-6
     enum-told-7
     enum-told-8
+    enum-told-9
     returns
     returns-2
     returns-3
@@ -93,4 +101,5 @@ saying-of-spec =
     returns-6
     returns-7
     returns-8
-    returns-9)
+    returns-9
+    returns-10)

@@ -1,65 +1,43 @@
--- `settings::format_of` meets its contract: n is out of its range, or the text is compared with the one that has n twice.
+-- `settings::format_of` meets its contract: the book's edition picks the case of `formatOf`.
 -- Assumes nothing.
-use Rattle.settings.specs.Header.{formatOf}
-use Rattle.base.specs.Choose.{pick}
-use Rattle.base.proofs.Tests.{tests}
-use Rattle.base.proofs.And.{ands}
-use mathlib.Core.Path.{sym}
+use mathlib.Core.Path.{sym, ap, _∙_}
+use Rattle.base.proofs.Choose.{row-holds, row-fails}
+use Rattle.settings.specs.Header.{formatted, formatOf}
 use borrow.Author.Needs.{needs}
 use Rattle.settings.proofs.format_of.Statement.{statement}
 use Rattle.settings.proofs.format_of.Tie as tie
 
-byte-at-requires : tie.Need-byte-at-requires
-byte-at-requires c κs = search needs
+is-old-requires : tie.Need-is-old-requires
+is-old-requires c κs = search needs
+
+old-format-requires : tie.Need-old-format-requires
+old-format-requires c κs = search needs
+
+formatted-requires : tie.Need-formatted-requires
+formatted-requires c κs = search needs
 
 returns : tie.Need-returns
-unfolding formatOf pick
-returns c =
-    let e = sym (c .before .byte-at .ensures) in
-    let h = c .if1 .taken in
-    simp (tests, ands, e)
+unfolding formatOf
+returns c = c .formatted .ensures ∙ ap formatted (row-holds _ (sym (c .before .before .before .is-old .ensures) ∙ c .before .before .if1 .taken) (c .before .old-format .ensures))
+
+newer-format-requires : tie.Need-newer-format-requires
+newer-format-requires c κs = search needs
+
+formatted-requires-2 : tie.Need-formatted-requires-2
+formatted-requires-2 c κs = search needs
 
 returns-2 : tie.Need-returns-2
-unfolding formatOf pick
-returns-2 c =
-    let e = sym (c .before .before .byte-at .ensures) in
-    let h = c .before .if1 .left in
-    let k = c .if2 .taken in
-    simp (tests, ands, e)
-
-sub-digits : tie.Need-sub-digits
-sub-digits c = search needs
-
-cast-digits : tie.Need-cast-digits
-cast-digits c = search needs
-
-slice-aggregate-is : tie.Need-slice-aggregate-is
-slice-aggregate-is c = search needs
-
-is-requires : tie.Need-is-requires
-is-requires c κs = search needs
-
-pick-requires : tie.Need-pick-requires
-pick-requires c κs = search needs
-
-returns-3 : tie.Need-returns-3
 unfolding formatOf
-returns-3 c =
-    let e = sym (c .before .before .before .before .before .byte-at .ensures) in
-    let h = c .before .before .before .before .if1 .left in
-    let k = c .before .before .before .if2 .left in
-    simp (tests, ands, e, c .pick .ensures, c .before .is .ensures)
+returns-2 c = c .formatted2 .ensures ∙ ap formatted (row-fails _ (sym (c .before .before .before .is-old .ensures) ∙ c .before .before .if1 .left) (c .before .newer-format .ensures))
 
 pub format-of-spec : {M : Type 1} → statement M
 format-of-spec =
     tie.close
     (tie.spec
-    byte-at-requires
+    is-old-requires
+    old-format-requires
+    formatted-requires
     returns
-    returns-2
-    sub-digits
-    cast-digits
-    slice-aggregate-is
-    is-requires
-    pick-requires
-    returns-3)
+    newer-format-requires
+    formatted-requires-2
+    returns-2)

@@ -19,7 +19,7 @@ holds-end-requires c κs = search needs
 
 returns : tie.Need-returns
 unfolding bare
-returns c = rw (c .holds-end .ensures, c .before .hold .ensures, c .before .before .part .ensures, c .before .before .before .none .ensures) (end-held _)
+returns c = rw (c .holds-end .ensures, c .before .hold .ensures, c .before .before .part .ensures, c .before .before .before .none .ensures) (end-held _ _)
 
 pub is-last-spec : {M : Type 1} → statement M
 is-last-spec =

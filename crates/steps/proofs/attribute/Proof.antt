@@ -2,7 +2,6 @@
 -- Assumes nothing.
 use mathlib.Core.Path.{ap}
 use Rattle.command.specs.declared.Command.the-variants.{Attribute}
-use Rattle.bounds.specs.Bounded.{DeedBounded, Bounded}
 use Rattle.reading.specs.Steps.{deedStep, stepOf}
 use Rattle.plain.specs.Plain.{isPlain, isPlainDeed}
 use Rattle.steps.specs.Steps.{AgainBy}
@@ -20,45 +19,49 @@ enum-told-2 : tie.Need-enum-told-2
 enum-told-2 c = search needs
 
 set-requires : tie.Need-set-requires
-set-requires c κs = search needs
+unfolding isPlain isPlainDeed
+set-requires c κs = ap (λ d. isPlain (Attribute d)) (c .enum-told2 .given .1)
 
 enum-told-3 : tie.Need-enum-told-3
 enum-told-3 c = search needs
 
 set-requires-2 : tie.Need-set-requires-2
-set-requires-2 c κs = search needs
+unfolding isPlain isPlainDeed
+set-requires-2 c κs = ap (λ d. isPlain (Attribute d)) (c .enum-told3 .given .1)
 
 enum-told-4 : tie.Need-enum-told-4
 enum-told-4 c = search needs
 
 set-requires-3 : tie.Need-set-requires-3
-set-requires-3 c κs = search needs
+unfolding isPlain isPlainDeed
+set-requires-3 c κs = ap (λ d. isPlain (Attribute d)) (c .enum-told4 .given .1)
 
 enum-told-5 : tie.Need-enum-told-5
 enum-told-5 c = search needs
 
 set-requires-4 : tie.Need-set-requires-4
-set-requires-4 c κs = search needs
+unfolding isPlain isPlainDeed
+set-requires-4 c κs = ap (λ d. isPlain (Attribute d)) (c .enum-told5 .given .1)
 
 returns : tie.Need-returns
 unfolding deedStep AgainBy
-returns c = λ text w s b again k. rw (c .before .enum-told .given .1) (c .set-name .ensures _ w s (again _ _ (c .before .enum-told .given .1)) k)
+returns c = λ text w s again k. rw (c .before .enum-told .given .1) (c .set-name .ensures _ w s (again _ _ (c .before .enum-told .given .1)) k)
 
 returns-2 : tie.Need-returns-2
-unfolding deedStep isPlain isPlainDeed Bounded DeedBounded stepOf
-returns-2 c = λ text w s b again k. rw (c .before .enum-told2 .given .1) (rw (c .before .enum-told2 .given .1) at (c .set .ensures text 0 (ap (λ d. isPlain (Attribute d)) (c .before .enum-told2 .given .1)) b w s tt k))
+unfolding deedStep stepOf
+returns-2 c = λ text w s again k. rw (c .before .enum-told2 .given .1) (rw (c .before .enum-told2 .given .1) at (c .set .ensures text 0 w s tt k))
 
 returns-3 : tie.Need-returns-3
-unfolding deedStep isPlain isPlainDeed Bounded DeedBounded stepOf
-returns-3 c = λ text w s b again k. rw (c .before .enum-told3 .given .1) (rw (c .before .enum-told3 .given .1) at (c .set2 .ensures text 0 (ap (λ d. isPlain (Attribute d)) (c .before .enum-told3 .given .1)) b w s tt k))
+unfolding deedStep stepOf
+returns-3 c = λ text w s again k. rw (c .before .enum-told3 .given .1) (rw (c .before .enum-told3 .given .1) at (c .set2 .ensures text 0 w s tt k))
 
 returns-4 : tie.Need-returns-4
-unfolding deedStep isPlain isPlainDeed Bounded DeedBounded stepOf
-returns-4 c = λ text w s b again k. rw (c .before .enum-told4 .given .1) (rw (c .before .enum-told4 .given .1) at (c .set3 .ensures text 0 (ap (λ d. isPlain (Attribute d)) (c .before .enum-told4 .given .1)) b w s tt k))
+unfolding deedStep stepOf
+returns-4 c = λ text w s again k. rw (c .before .enum-told4 .given .1) (rw (c .before .enum-told4 .given .1) at (c .set3 .ensures text 0 w s tt k))
 
 returns-5 : tie.Need-returns-5
-unfolding deedStep isPlain isPlainDeed Bounded DeedBounded stepOf
-returns-5 c = λ text w s b again k. rw (c .before .enum-told5 .given .1) (rw (c .before .enum-told5 .given .1) at (c .set4 .ensures text 0 (ap (λ d. isPlain (Attribute d)) (c .before .enum-told5 .given .1)) b w s tt k))
+unfolding deedStep stepOf
+returns-5 c = λ text w s again k. rw (c .before .enum-told5 .given .1) (rw (c .before .enum-told5 .given .1) at (c .set4 .ensures text 0 w s tt k))
 
 pub attribute-spec : {M : Type 1} → statement M
 attribute-spec =

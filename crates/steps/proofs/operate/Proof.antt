@@ -3,7 +3,6 @@
 use mathlib.Core.Path.{refl, sym, ap, subst}
 use mathlib.Core.List.{[]}
 use Rattle.command.specs.declared.Command.the-variants.{Operate}
-use Rattle.bounds.specs.Bounded.{OperationBounded, Bounded}
 use Rattle.reading.specs.Steps.{operationStep, stepOf}
 use Rattle.plain.specs.Plain.{isPlain, isPlainOperation}
 use Rattle.steps.proofs.Arms.{same-entries}
@@ -15,21 +14,20 @@ enum-known-o : tie.Need-enum-known-o
 enum-known-o c = search needs
 
 draw-requires : tie.Need-draw-requires
-unfolding OperationBounded
-draw-requires c κs = (c .before .before .before .before .before .pre .0, subst OperationBounded (c .before .before .o .given .1) (c .before .before .before .before .before .pre .1))
+draw-requires c κs = c .before .before .before .before .before .pre
 
 enum-told : tie.Need-enum-told
 enum-told c = search needs
 
 set-requires : tie.Need-set-requires
-set-requires c κs = search needs
+unfolding isPlain isPlainOperation
+set-requires c κs = ap (λ o. isPlain (Operate o)) (c .enum-told .given .1)
 
 enum-known-o-2 : tie.Need-enum-known-o-2
 enum-known-o-2 c = search needs
 
 flash-requires : tie.Need-flash-requires
-unfolding OperationBounded
-flash-requires c κs = (c .before .before .before .before .before .pre .0, subst OperationBounded (c .before .before .o2 .given .1) (c .before .before .before .before .before .pre .1))
+flash-requires c κs = c .before .before .before .before .before .pre
 
 same-length : tie.Need-same-length
 same-length c = search needs
@@ -39,8 +37,8 @@ unfolding operationStep
 returns c = (c .before .before .draw .ensures .0, rw (c .before .before .before .before .before .o .given .1) (c .before .before .draw .ensures .1))
 
 returns-2 : tie.Need-returns-2
-unfolding operationStep isPlain isPlainOperation Bounded stepOf
-returns-2 c = (refl, λ w s q k. rw (sym (same-entries w q), c .before .enum-told .given .1) (rw (c .before .enum-told .given .1) at (c .set .ensures [] 0 (ap (λ o. isPlain (Operate o)) (c .before .enum-told .given .1)) (c .before .before .before .before .pre .1) w s tt k)))
+unfolding operationStep stepOf
+returns-2 c = (refl, λ w s q k. rw (sym (same-entries w q), c .before .enum-told .given .1) (rw (c .before .enum-told .given .1) at (c .set .ensures [] 0 w s tt k)))
 
 same-length-2 : tie.Need-same-length-2
 same-length-2 c = search needs

@@ -16,8 +16,8 @@ enum-known-command : tie.Need-enum-known-command
 enum-known-command c = search needs
 
 operate-requires : tie.Need-operate-requires
-unfolding lentOf Bounded
-operate-requires c κs = (known-of (λ w. w ≡ lentOf _ _ _ _ _) (λ w. w .entries ≡ _) _ (λ w q. ap (λ (x : Lent). x .entries) q) (c .before .before .before .before .before .before .before .before .pre .0), subst (Bounded _) (c .before .before .command .given .1) (c .before .before .before .before .before .before .before .before .pre .1 .bounded))
+unfolding lentOf
+operate-requires c κs = known-of (λ w. w ≡ lentOf _ _ _ _ _) (λ w. w .entries ≡ _) _ (λ w q. ap (λ (x : Lent). x .entries) q) (c .before .before .before .before .before .before .before .before .pre .0)
 
 enum-known-command-2 : tie.Need-enum-known-command-2
 enum-known-command-2 c = search needs
@@ -50,25 +50,29 @@ enum-told : tie.Need-enum-told
 enum-told c = search needs
 
 set-requires : tie.Need-set-requires
-set-requires c κs = search needs
+unfolding isPlain
+set-requires c κs = ap isPlain (c .enum-told .given .1)
 
 enum-told-2 : tie.Need-enum-told-2
 enum-told-2 c = search needs
 
 set-requires-2 : tie.Need-set-requires-2
-set-requires-2 c κs = search needs
+unfolding isPlain
+set-requires-2 c κs = ap isPlain (c .enum-told2 .given .1)
 
 enum-told-3 : tie.Need-enum-told-3
 enum-told-3 c = search needs
 
 set-requires-3 : tie.Need-set-requires-3
-set-requires-3 c κs = search needs
+unfolding isPlain
+set-requires-3 c κs = ap isPlain (c .enum-told3 .given .1)
 
 enum-told-4 : tie.Need-enum-told-4
 enum-told-4 c = search needs
 
 set-requires-4 : tie.Need-set-requires-4
-set-requires-4 c κs = search needs
+unfolding isPlain
+set-requires-4 c κs = ap isPlain (c .enum-told4 .given .1)
 
 same-length : tie.Need-same-length
 same-length c = search needs
@@ -108,24 +112,38 @@ unfolding lentOf withEntries withApertures stepOf
 returns-4 c = (c .before .before .before .before .contain .ensures .0, c .before .before .before .before .contain .ensures .1, refl, refl, λ s k told. rw (c .before .before .before .before .before .before .before .before .command4 .given .1) (c .before .before .before .before .contain .ensures .2 (lentOf _ _ _ _ _) s (refl, refl) k))
 
 returns-5 : tie.Need-returns-5
-unfolding lentOf Again Bounded stepOf
-returns-5 c = (refl, refl, refl, refl, λ s k again. rw (c .before .before .command5 .given .1) (c .attribute .ensures _ (lentOf _ _ _ _ _) s (subst (Bounded _) (c .before .before .command5 .given .1) (c .before .before .before .before .before .before .before .before .pre .1 .bounded)) (again _ (c .before .before .command5 .given .1)) k))
+unfolding lentOf Again stepOf
+returns-5 c = (refl, refl, refl, refl, λ s k again. rw (c .before .before .command5 .given .1) (c .attribute .ensures _ (lentOf _ _ _ _ _) s (again _ (c .before .before .command5 .given .1)) k))
 
 returns-6 : tie.Need-returns-6
-unfolding lentOf isPlain
-returns-6 c = (refl, refl, refl, refl, λ s k again. c .set .ensures _ _ (ap isPlain (c .before .enum-told .given .1)) (c .before .before .before .before .before .before .before .pre .1 .bounded) (lentOf _ _ _ _ _) s tt k)
+unfolding lentOf
+returns-6 c = (refl, refl, refl, refl, λ s k again. c .set .ensures _ _ (lentOf _ _ _ _ _) s tt k)
 
 returns-7 : tie.Need-returns-7
-unfolding lentOf isPlain
-returns-7 c = (refl, refl, refl, refl, λ s k again. c .set2 .ensures _ _ (ap isPlain (c .before .enum-told2 .given .1)) (c .before .before .before .before .before .before .before .pre .1 .bounded) (lentOf _ _ _ _ _) s tt k)
+unfolding lentOf
+returns-7 c = (refl, refl, refl, refl, λ s k again. c .set2 .ensures _ _ (lentOf _ _ _ _ _) s tt k)
 
 returns-8 : tie.Need-returns-8
-unfolding lentOf isPlain
-returns-8 c = (refl, refl, refl, refl, λ s k again. c .set3 .ensures _ _ (ap isPlain (c .before .enum-told3 .given .1)) (c .before .before .before .before .before .before .before .pre .1 .bounded) (lentOf _ _ _ _ _) s tt k)
+unfolding lentOf
+returns-8 c = (refl, refl, refl, refl, λ s k again. c .set3 .ensures _ _ (lentOf _ _ _ _ _) s tt k)
 
 returns-9 : tie.Need-returns-9
-unfolding lentOf isPlain
-returns-9 c = (refl, refl, refl, refl, λ s k again. c .set4 .ensures _ _ (ap isPlain (c .before .enum-told4 .given .1)) (c .before .before .before .before .before .before .before .pre .1 .bounded) (lentOf _ _ _ _ _) s tt k)
+unfolding lentOf
+returns-9 c = (refl, refl, refl, refl, λ s k again. c .set4 .ensures _ _ (lentOf _ _ _ _ _) s tt k)
+
+enum-known-command-6 : tie.Need-enum-known-command-6
+enum-known-command-6 c = search needs
+
+operate-coded-requires : tie.Need-operate-coded-requires
+unfolding lentOf
+operate-coded-requires c κs = known-of (λ w. w ≡ lentOf _ _ _ _ _) (λ w. w .entries ≡ _) _ (λ w q. ap (λ (x : Lent). x .entries) q) (c .before .before .before .before .before .before .before .before .pre .0)
+
+same-length-8 : tie.Need-same-length-8
+same-length-8 c = search needs
+
+returns-10 : tie.Need-returns-10
+unfolding lentOf withEntries stepOf
+returns-10 c = (c .before .before .operate-coded .ensures .0, refl, refl, refl, λ s k told. rw (c .before .before .before .before .before .command6 .given .1) (c .before .before .operate-coded .ensures .1 (lentOf _ _ _ _ _) s refl k))
 
 pub step-spec : {M : Type 1} → statement M
 step-spec =
@@ -149,6 +167,8 @@ step-spec =
     set-requires-3
     enum-told-4
     set-requires-4
+    enum-known-command-6
+    operate-coded-requires
     same-length
     returns
     same-length-2
@@ -164,4 +184,6 @@ step-spec =
     returns-6
     returns-7
     returns-8
-    returns-9)
+    returns-9
+    same-length-8
+    returns-10)

@@ -1,6 +1,6 @@
 -- `words::code_of` meets its contract: each row is one of `codeOf`.
 -- Assumes nothing.
-use Rattle.words.specs.Words.{codeOf}
+use Rattle.words.specs.Newer.{codeOf}
 use borrow.Author.Needs.{needs}
 use Rattle.words.proofs.code_of.Statement.{statement}
 use Rattle.words.proofs.code_of.Tie as tie

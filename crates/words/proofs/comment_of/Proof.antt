@@ -1,6 +1,6 @@
 -- `words::comment_of` meets its contract: a `%` picks the case of `commentOf`.
 -- Assumes nothing.
-use Rattle.words.specs.Words.{commentOf}
+use Rattle.words.specs.Newer.{commentOf}
 use borrow.Author.Needs.{needs}
 use Rattle.words.proofs.comment_of.Statement.{statement}
 use Rattle.words.proofs.comment_of.Tie as tie

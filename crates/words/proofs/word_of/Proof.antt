@@ -1,59 +1,34 @@
--- `words::word_of` meets its contract: the first row of `wordOf` by its test, the rows of operations by their number.
+-- `words::word_of` meets its contract: the book's edition picks the case of `wordOf`.
 -- Assumes nothing.
 use mathlib.Core.Path.{sym, ap, _∙_}
 use Rattle.base.proofs.Choose.{row-holds, row-fails}
-use Rattle.operations.specs.Operations.{operationOf}
-use Rattle.operations.proofs.Codes.{is-operation, no-operation}
+use Rattle.words.specs.Old.{said, oldWord}
 use Rattle.words.specs.Words.{wordOf}
 use borrow.Author.Needs.{needs}
 use Rattle.words.proofs.word_of.Statement.{statement}
 use Rattle.words.proofs.word_of.Tie as tie
 
-slice-aggregate-begins : tie.Need-slice-aggregate-begins
-slice-aggregate-begins c = search needs
+is-old-requires : tie.Need-is-old-requires
+is-old-requires c κs = search needs
 
-begins-requires : tie.Need-begins-requires
-begins-requires c κs = search needs
+word-of-requires : tie.Need-word-of-requires
+word-of-requires c κs = search needs
 
-comment-of-requires : tie.Need-comment-of-requires
-comment-of-requires c κs = search needs
+said-requires : tie.Need-said-requires
+said-requires c κs = search needs
 
 returns : tie.Need-returns
-unfolding wordOf
-returns c = row-holds _ (sym (c .before .before .begins .ensures) ∙ c .before .if1 .taken) (c .comment-of .ensures)
+unfolding wordOf oldWord
+returns c = row-holds _ (sym (c .before .before .before .is-old .ensures) ∙ c .before .before .if1 .taken) (c .said .ensures ∙ ap (said _ _) (c .before .word-of .ensures))
 
-operation-code-requires : tie.Need-operation-code-requires
-operation-code-requires c κs = search needs
-
-other-of-requires : tie.Need-other-of-requires
-other-of-requires c κs = search needs
+newer-word-requires : tie.Need-newer-word-requires
+newer-word-requires c κs = search needs
 
 returns-2 : tie.Need-returns-2
 unfolding wordOf
-returns-2 c =
-    row-fails _ (sym (c .before .before .before .before .begins .ensures) ∙ c .before .before .before .if1 .left)
-    (c .other-of .ensures ∙ no-operation _ _ _ (sym (c .before .before .operation-code .ensures) ∙ c .before .if2 .taken))
-
-operation-of-requires : tie.Need-operation-of-requires
-operation-of-requires c κs = search needs
-
-returns-3 : tie.Need-returns-3
-unfolding wordOf
-returns-3 c =
-    let code = c .before .before .operation-code in
-    row-fails _ (sym (c .before .before .before .before .begins .ensures) ∙ c .before .before .before .if1 .left)
-    (c .operation-of .ensures ∙ ap (λ k. operationOf k (c .before .before .before .before .before .before .before .args .n) (c .before .before .before .before .before .before .before .args .s .now)) (code .ensures) ∙ is-operation _ _ _ (λ z. c .before .if2 .left (code .ensures ∙ z)))
+returns-2 c = row-fails _ (sym (c .before .before .is-old .ensures) ∙ c .before .if1 .left) (c .newer-word .ensures)
 
 pub word-of-spec : {M : Type 1} → statement M
 word-of-spec =
     tie.close
-    (tie.spec
-    slice-aggregate-begins
-    begins-requires
-    comment-of-requires
-    returns
-    operation-code-requires
-    other-of-requires
-    returns-2
-    operation-of-requires
-    returns-3)
+    (tie.spec is-old-requires word-of-requires said-requires returns newer-word-requires returns-2)

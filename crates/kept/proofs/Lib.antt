@@ -1,0 +1,15 @@
+pub mod Kept
+pub mod Places
+pub mod Store
+pub mod Order
+pub mod Sooner
+pub mod Tables
+pub mod Entries
+pub mod Sizes
+pub mod Found
+pub mod Counted
+pub mod Rooms
+pub mod Cut
+pub mod Coordinates
+pub mod Stands
+pub mod Macros

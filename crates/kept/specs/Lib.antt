@@ -1,0 +1,9 @@
+pub mod Kept
+pub mod Order
+pub mod Tables
+pub mod Entries
+pub mod Counted
+pub mod Rooms
+pub mod Places
+pub mod Coordinates
+pub mod Macros
