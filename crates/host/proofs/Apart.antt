@@ -1,7 +1,7 @@
 -- The reader's answer taken apart.
 -- Assumes nothing.
 use Prim.Native.Nat.{ℕ}
-use mathlib.Core.Path.{_≡_}
+use mathlib.Core.Path.{_≡_, refl}
 use mathlib.Core.List.{List}
 use Rattle.reading.specs.Reading as definition
 use Rattle.progress.specs.Lent.{Lent}
@@ -10,10 +10,17 @@ use Rattle.reader.specs.declared.Answer.{Answer}
 use Rattle.reader.specs.declared.Answer.the-variants.{Accepted, Refused}
 use Rattle.host.specs.Reads.{ReadsInto}
 
-pub reads-accepted : (d : ℕ) (a : definition.Answer) (w w′ : Lent) (head : List ℕ) (r : Answer) (u n : ℕ) → Reads d a w w′ head r → r ≡ Accepted u n → ReadsInto d a w w′ head 0 0 u n
-unfolding numberOf placeOf unitOf roundedOf
-reads-accepted d a w w′ head r u n h k = record { r = r; reads = h; number-is = rw k; place-is = rw k; unit-is = rw k; rounded-is = rw k }
+abbrev Told : Answer → ℕ → ℕ → ℕ → ℕ → Type 0
+Told r number place unit rounded = (number ≡ numberOf r) × (place ≡ placeOf r) × (unit ≡ unitOf r) × (rounded ≡ roundedOf r)
 
-pub reads-refused : (d : ℕ) (a : definition.Answer) (w w′ : Lent) (head : List ℕ) (r : Answer) (n p : ℕ) → Reads d a w w′ head r → r ≡ Refused n p → ReadsInto d a w w′ head n p 0 0
+pub told-accepted : (r : Answer) (u n : ℕ) → r ≡ Accepted u n → Told r 0 0 u n
 unfolding numberOf placeOf unitOf roundedOf
-reads-refused d a w w′ head r n p h k = record { r = r; reads = h; number-is = rw k; place-is = rw k; unit-is = rw k; rounded-is = rw k }
+told-accepted r u n k = rw k (refl, refl, refl, refl)
+
+pub told-refused : (r : Answer) (n p : ℕ) → r ≡ Refused n p → Told r n p 0 0
+unfolding numberOf placeOf unitOf roundedOf
+told-refused r n p k = rw k (refl, refl, refl, refl)
+
+pub reads-into : {d : ℕ} {a : definition.Answer} {w w′ : Lent} {head : List ℕ} {r : Answer} {number place unit rounded : ℕ} →
+    Reads d a w w′ head r → Told r number place unit rounded → ReadsInto d a w w′ head number place unit rounded
+reads-into {r = r} h t = record { r = r; reads = h; number-is = t .0; place-is = t .1 .0; unit-is = t .1 .1 .0; rounded-is = t .1 .1 .1 }

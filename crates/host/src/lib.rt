@@ -9,7 +9,8 @@ ghost use mathlib.Core.Path.{_≡_};
 ghost use lib.ListN.{length};
 ghost use Rattle.sayings.specs.declared.Kind.the-variants.{Aperture, Object};
 ghost use Rattle.progress.specs.Lent.{lentOf, roomOf};
-ghost use Rattle.numbered.specs.Choice.{choiceOf};
+ghost use Rattle.reader.specs.Reads.{numberOf, placeOf, unitOf, roundedOf};
+ghost use Rattle.numbered.specs.Choice.{choiceOf, shortChoice};
 ghost use Rattle.numbered.specs.Calls.{attributeBy, signatureBy, readingBy, roundedBy};
 ghost use Rattle.descend.specs.Answers.{totalOf, totalNumber, totalValue, answerOf, answerNumber, answerItem};
 ghost use Rattle.descend.specs.Slots.{itemWords, fetchOf, fetchNumber, fetched};
@@ -21,27 +22,10 @@ ghost use Rattle.host.specs.Mends.{MendsInto};
 ghost use Rattle.host.specs.Reads.{ReadsInto};
 ghost use Rattle.host.specs.Widths.{ItemsAre, EntriesAre, AperturesAre, MacrosAre, RowsAre, ScratchIs};
 
-// Reads a file by the rule of letters that the number names into the lent words: a sheet, with its unit and how many decimals were rounded;
-// or document 01's number and the place, or 101, and zeros in every word.
-#[no_mangle]
-pub extern "C" fn sheet_read(
-    letters: u64,
-    file: &[u8],
-    head: &mut [u64; 8],
-    entries: &mut [u64],
-    apertures: &mut [u64],
-    macros: &mut [u64],
-    numbers: &mut [i64],
-    place: &mut u64,
-    unit: &mut u64,
-    rounded: &mut u64,
-) -> u64
-    ensures { λ r. ⌜ ReadsInto (roundedBy (choiceOf letters) (now (file .entry)))
-        (readingBy (choiceOf letters) (roomOf (lentOf (now (file .entry)) (now (entries .entry)) (now (apertures .entry)) (now (macros .entry)) (now (numbers .entry)))) (now (file .entry)))
-        (lentOf (now (file .entry)) (now (entries .entry)) (now (apertures .entry)) (now (macros .entry)) (now (numbers .entry)))
-        (lentOf (now (file .entry)) (now (entries .exit)) (now (apertures .exit)) (now (macros .exit)) (now (numbers .exit))) (now (head .exit)) r (now (place .exit)) (now (unit .exit)) (now (rounded .exit)) ⌝ }
+// The number of a reading's answer, and its place, unit and rounded decimals.
+fn told(a: Answer, place: &mut u64, unit: &mut u64, rounded: &mut u64) -> u64
+    ensures { λ r. ⌜ (r ≡ numberOf a) × (now (place .exit) ≡ placeOf a) × (now (unit .exit) ≡ unitOf a) × (now (rounded .exit) ≡ roundedOf a) ⌝ }
 {
-    let a = numbered::read(letters, file, head, entries, apertures, macros, numbers);
     match a {
         Answer::Accepted {
             unit: u,
@@ -59,6 +43,54 @@ pub extern "C" fn sheet_read(
             number
         }
     }
+}
+
+// Reads a file by the edition and the rule of letters that the numbers name into the lent words: a sheet, with its unit and how many
+// decimals were rounded; or document 01's number and the place, or 101, and zeros in every word.
+#[no_mangle]
+pub extern "C" fn sheet_read_as(
+    edition: u64,
+    letters: u64,
+    file: &[u8],
+    head: &mut [u64; 8],
+    entries: &mut [u64],
+    apertures: &mut [u64],
+    macros: &mut [u64],
+    numbers: &mut [i64],
+    place: &mut u64,
+    unit: &mut u64,
+    rounded: &mut u64,
+) -> u64
+    ensures { λ r. ⌜ ReadsInto (roundedBy (choiceOf edition letters) (now (file .entry)))
+        (readingBy (choiceOf edition letters) (roomOf (lentOf (now (file .entry)) (now (entries .entry)) (now (apertures .entry)) (now (macros .entry)) (now (numbers .entry)))) (now (file .entry)))
+        (lentOf (now (file .entry)) (now (entries .entry)) (now (apertures .entry)) (now (macros .entry)) (now (numbers .entry)))
+        (lentOf (now (file .entry)) (now (entries .exit)) (now (apertures .exit)) (now (macros .exit)) (now (numbers .exit))) (now (head .exit)) r (now (place .exit)) (now (unit .exit)) (now (rounded .exit)) ⌝ }
+{
+    let a = numbered::read_as(edition, letters, file, head, entries, apertures, macros, numbers);
+    told(a, place, unit, rounded)
+}
+
+// The short call, which names no edition, likewise.
+#[no_mangle]
+pub extern "C" fn sheet_read(
+    letters: u64,
+    file: &[u8],
+    head: &mut [u64; 8],
+    entries: &mut [u64],
+    apertures: &mut [u64],
+    macros: &mut [u64],
+    numbers: &mut [i64],
+    place: &mut u64,
+    unit: &mut u64,
+    rounded: &mut u64,
+) -> u64
+    ensures { λ r. ⌜ ReadsInto (roundedBy (shortChoice letters) (now (file .entry)))
+        (readingBy (shortChoice letters) (roomOf (lentOf (now (file .entry)) (now (entries .entry)) (now (apertures .entry)) (now (macros .entry)) (now (numbers .entry)))) (now (file .entry)))
+        (lentOf (now (file .entry)) (now (entries .entry)) (now (apertures .entry)) (now (macros .entry)) (now (numbers .entry)))
+        (lentOf (now (file .entry)) (now (entries .exit)) (now (apertures .exit)) (now (macros .exit)) (now (numbers .exit))) (now (head .exit)) r (now (place .exit)) (now (unit .exit)) (now (rounded .exit)) ⌝ }
+{
+    let a = numbered::read(letters, file, head, entries, apertures, macros, numbers);
+    told(a, place, unit, rounded)
 }
 
 // The number of items of a sheet, 0 where the store is none.
@@ -190,6 +222,7 @@ pub extern "C" fn sheet_item(
 // The aperture attribute of this name at the command that begins at the place: where its value stands in the file, and its length.
 #[no_mangle]
 pub extern "C" fn sheet_aperture_attribute(
+    edition: u64,
     letters: u64,
     file: &[u8],
     place: usize,
@@ -197,11 +230,11 @@ pub extern "C" fn sheet_aperture_attribute(
     at: &mut u64,
     size: &mut u64,
 ) -> u64
-    ensures { λ r. ⌜ (r ≡ attributeBy (choiceOf letters) (now (file .entry)) Aperture place (now (name .entry)) .number)
-        × (now (at .exit) ≡ attributeBy (choiceOf letters) (now (file .entry)) Aperture place (now (name .entry)) .place)
-        × (now (size .exit) ≡ attributeBy (choiceOf letters) (now (file .entry)) Aperture place (now (name .entry)) .length) ⌝ }
+    ensures { λ r. ⌜ (r ≡ attributeBy (choiceOf edition letters) (now (file .entry)) Aperture place (now (name .entry)) .number)
+        × (now (at .exit) ≡ attributeBy (choiceOf edition letters) (now (file .entry)) Aperture place (now (name .entry)) .place)
+        × (now (size .exit) ≡ attributeBy (choiceOf edition letters) (now (file .entry)) Aperture place (now (name .entry)) .length) ⌝ }
 {
-    let a = numbered::attribute(letters, file, Kind::Aperture, place, name);
+    let a = numbered::attribute(edition, letters, file, Kind::Aperture, place, name);
     *at = a.place as u64;
     *size = a.length as u64;
     a.number
@@ -210,6 +243,7 @@ pub extern "C" fn sheet_aperture_attribute(
 // The object attribute of this name there.
 #[no_mangle]
 pub extern "C" fn sheet_object_attribute(
+    edition: u64,
     letters: u64,
     file: &[u8],
     place: usize,
@@ -217,11 +251,11 @@ pub extern "C" fn sheet_object_attribute(
     at: &mut u64,
     size: &mut u64,
 ) -> u64
-    ensures { λ r. ⌜ (r ≡ attributeBy (choiceOf letters) (now (file .entry)) Object place (now (name .entry)) .number)
-        × (now (at .exit) ≡ attributeBy (choiceOf letters) (now (file .entry)) Object place (now (name .entry)) .place)
-        × (now (size .exit) ≡ attributeBy (choiceOf letters) (now (file .entry)) Object place (now (name .entry)) .length) ⌝ }
+    ensures { λ r. ⌜ (r ≡ attributeBy (choiceOf edition letters) (now (file .entry)) Object place (now (name .entry)) .number)
+        × (now (at .exit) ≡ attributeBy (choiceOf edition letters) (now (file .entry)) Object place (now (name .entry)) .place)
+        × (now (size .exit) ≡ attributeBy (choiceOf edition letters) (now (file .entry)) Object place (now (name .entry)) .length) ⌝ }
 {
-    let a = numbered::attribute(letters, file, Kind::Object, place, name);
+    let a = numbered::attribute(edition, letters, file, Kind::Object, place, name);
     *at = a.place as u64;
     *size = a.length as u64;
     a.number
@@ -230,16 +264,17 @@ pub extern "C" fn sheet_object_attribute(
 // Whether a file is signed: its digest, or document 01's number with the place, or 101, and a digest of zeros.
 #[no_mangle]
 pub extern "C" fn sheet_signature(
+    edition: u64,
     letters: u64,
     file: &[u8],
     place: &mut u64,
     digest: &mut [u8; 16],
 ) -> u64
-    ensures { λ r. ⌜ (r ≡ signatureBy (choiceOf letters) (now (file .entry)) .number)
-        × (now (place .exit) ≡ signatureBy (choiceOf letters) (now (file .entry)) .place)
-        × (now (digest .exit) ≡ signatureBy (choiceOf letters) (now (file .entry)) .digest) ⌝ }
+    ensures { λ r. ⌜ (r ≡ signatureBy (choiceOf edition letters) (now (file .entry)) .number)
+        × (now (place .exit) ≡ signatureBy (choiceOf edition letters) (now (file .entry)) .place)
+        × (now (digest .exit) ≡ signatureBy (choiceOf edition letters) (now (file .entry)) .digest) ⌝ }
 {
-    let s = numbered::signature(letters, file);
+    let s = numbered::signature(edition, letters, file);
     let d = s.digest;
     *place = s.place as u64;
     *digest = d;
@@ -294,11 +329,12 @@ pub extern "C" fn sheet_scratch_words() -> usize
     summary::SCRATCH_WORDS
 }
 
-// Mends a file by the rule of letters that the number names: the mended file in out, its changes in report, two words each, kind and
+// Mends a file by the edition and the rule of letters that the numbers name: the mended file in out, its changes in report, two words each, kind and
 // place, and its sheet in the stores, with the bytes and changes, the unit and how many decimals were rounded; or 1, 17, 33 or 101, and
 // zeros in everything that is lent.
 #[no_mangle]
 pub extern "C" fn sheet_mend(
+    edition: u64,
     letters: u64,
     file: &[u8],
     out: &mut [u8],
@@ -313,12 +349,13 @@ pub extern "C" fn sheet_mend(
     unit: &mut u64,
     rounded: &mut u64,
 ) -> u64
-    ensures { λ r. ⌜ MendsInto (choiceOf letters)
+    ensures { λ r. ⌜ MendsInto (choiceOf edition letters)
         (lentOf (now (file .entry)) (now (entries .entry)) (now (apertures .entry)) (now (macros .entry)) (now (numbers .entry)))
         (lentOf (now (file .entry)) (now (entries .exit)) (now (apertures .exit)) (now (macros .exit)) (now (numbers .exit)))
         (length (now (out .entry))) (now (out .exit)) (length (now (report .entry))) (now (report .exit)) (now (head .exit)) r (now (bytes .exit)) (now (changes .exit)) (now (unit .exit)) (now (rounded .exit)) ⌝ }
 {
     let a = numbered::mend(
+        edition,
         letters,
         file,
         out,

@@ -78,7 +78,7 @@ fn read(file: &[u8]) {
     let mut apertures = [0u64; 65536];
     let mut macros = [0u64; 65536];
     let mut numbers = [0i64; 131072];
-    let a = reader::read(
+    let a = reader::read_as(
         book::ascii(),
         file,
         &mut head,

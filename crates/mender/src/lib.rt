@@ -98,7 +98,7 @@ fn read_bytes(
         (lentOf (take bytes (now (out .entry))) (now (e .entry)) (now (a .entry)) (now (m .entry)) (now (numbers .entry)))
         (lentOf (take bytes (now (out .entry))) (now (e .exit)) (now (a .exit)) (now (m .exit)) (now (numbers .exit))) (now (head .exit)) r ⌝ }
 {
-    reader::read(book, base::up_to(out, bytes), head, e, a, m, numbers)
+    reader::read_as(book, base::up_to(out, bytes), head, e, a, m, numbers)
 }
 
 // Whether the mended file has room.

@@ -7,6 +7,7 @@ use Rattle.book.specs.declared.Edition.{Edition}
 use Rattle.book.specs.declared.Edition.the-variants as edition
 use Rattle.book.specs.declared.Letters.{Letters}
 use Rattle.book.specs.declared.Letters.the-variants as letters
+use Rattle.reader.specs.Short.{shortOf}
 use Rattle.numbered.specs.declared.Choice as declared
 use Rattle.numbered.specs.declared.Choice.the-variants.{By, Unknown}
 
@@ -20,3 +21,7 @@ withLetters e n = cond (eqb n 1) (By (bookOf e letters.Old)) (cond (eqb n 2) (By
 -- 1 is the newer edition, 2 the old one
 unfoldable pub choiceOf : ℕ → ℕ → declared.Choice
 choiceOf m n = cond (eqb m 1) (withLetters edition.New n) (cond (eqb m 2) (withLetters edition.Old n) Unknown)
+
+-- of a reading that names no edition
+unfoldable pub shortChoice : ℕ → declared.Choice
+shortChoice n = cond (eqb n 1) (By (shortOf letters.Old)) (cond (eqb n 2) (By (shortOf letters.New)) Unknown)

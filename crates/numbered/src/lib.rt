@@ -7,7 +7,7 @@ use sayings::Kind;
 ghost use mathlib.Core.Path.{_≡_};
 ghost use Rattle.progress.specs.Lent.{lentOf, roomOf};
 ghost use Rattle.reader.specs.Reads.{Reads};
-ghost use Rattle.numbered.specs.Choice.{withLetters, choiceOf};
+ghost use Rattle.numbered.specs.Choice.{withLetters, choiceOf, shortChoice};
 ghost use lib.ListN.{length};
 ghost use Rattle.numbered.specs.Mending.{MendsBy};
 ghost use Rattle.numbered.specs.Calls.{attributeBy, signatureBy, readingBy, roundedBy};
@@ -83,8 +83,49 @@ pub fn signature(edition: u64, letters: u64, file: &[u8]) -> signature::Answer
     }
 }
 
-// Reads a file into the lent words, likewise; numbers that name no book leave zeros in every word.
-pub fn read(
+// The book of a reading that names its letters by a number, and no edition.
+fn short_choice(letters: u64) -> Choice
+    ensures { λ r. ⌜ r ≡ shortChoice letters ⌝ }
+{
+    if letters == 1 {
+        return Choice::By(reader::short_of(Letters::Old));
+    }
+    if letters == 2 {
+        return Choice::By(reader::short_of(Letters::New));
+    }
+    Choice::Unknown
+}
+
+// Reads a file into the lent words by the book that is named; where none is, every word is zero.
+fn read_chosen(
+    c: Choice,
+    file: &[u8],
+    head: &mut [u64; 8],
+    e: &mut [u64],
+    a: &mut [u64],
+    m: &mut [u64],
+    numbers: &mut [i64],
+) -> reader::Answer
+    ensures { λ r. ⌜ Reads (roundedBy c (now (file .entry)))
+        (readingBy c (roomOf (lentOf (now (file .entry)) (now (e .entry)) (now (a .entry)) (now (m .entry)) (now (numbers .entry)))) (now (file .entry)))
+        (lentOf (now (file .entry)) (now (e .entry)) (now (a .entry)) (now (m .entry)) (now (numbers .entry)))
+        (lentOf (now (file .entry)) (now (e .exit)) (now (a .exit)) (now (m .exit)) (now (numbers .exit))) (now (head .exit)) r ⌝ }
+{
+    match c {
+        Choice::By(book) => reader::read_as(book, file, head, e, a, m, numbers),
+        Choice::Unknown => {
+            *head = [0u64; 8];
+            reader::clear(e, a, m, numbers);
+            reader::Answer::Refused {
+                number: 101,
+                place: 0,
+            }
+        }
+    }
+}
+
+// Reads a file by the book of two numbers; 101, and zeros in every word, where one of them names nothing.
+pub fn read_as(
     edition: u64,
     letters: u64,
     file: &[u8],
@@ -100,21 +141,31 @@ pub fn read(
         (lentOf (now (file .entry)) (now (e .exit)) (now (a .exit)) (now (m .exit)) (now (numbers .exit))) (now (head .exit)) r ⌝ }
 {
     let c = choice_of(edition, letters);
-    match c {
-        Choice::By(book) => reader::read(book, file, head, e, a, m, numbers),
-        Choice::Unknown => {
-            *head = [0u64; 8];
-            reader::clear(e, a, m, numbers);
-            reader::Answer::Refused {
-                number: 101,
-                place: 0,
-            }
-        }
-    }
+    read_chosen(c, file, head, e, a, m, numbers)
 }
 
-// Mends a file into what is lent, likewise; a number that names no book leaves zeros in all of it.
+// The short call, which names no edition, likewise.
+pub fn read(
+    letters: u64,
+    file: &[u8],
+    head: &mut [u64; 8],
+    e: &mut [u64],
+    a: &mut [u64],
+    m: &mut [u64],
+    numbers: &mut [i64],
+) -> reader::Answer
+    ensures { λ r. ⌜ Reads (roundedBy (shortChoice letters) (now (file .entry)))
+        (readingBy (shortChoice letters) (roomOf (lentOf (now (file .entry)) (now (e .entry)) (now (a .entry)) (now (m .entry)) (now (numbers .entry)))) (now (file .entry)))
+        (lentOf (now (file .entry)) (now (e .entry)) (now (a .entry)) (now (m .entry)) (now (numbers .entry)))
+        (lentOf (now (file .entry)) (now (e .exit)) (now (a .exit)) (now (m .exit)) (now (numbers .exit))) (now (head .exit)) r ⌝ }
+{
+    let c = short_choice(letters);
+    read_chosen(c, file, head, e, a, m, numbers)
+}
+
+// Mends a file into what is lent, likewise; numbers that name no book leave zeros in all of it.
 pub fn mend(
+    edition: u64,
     letters: u64,
     file: &[u8],
     out: &mut [u8],
@@ -125,12 +176,12 @@ pub fn mend(
     m: &mut [u64],
     numbers: &mut [i64],
 ) -> mender::Answer
-    ensures { λ r. ⌜ MendsBy (choiceOf letters)
+    ensures { λ r. ⌜ MendsBy (choiceOf edition letters)
         (lentOf (now (file .entry)) (now (e .entry)) (now (a .entry)) (now (m .entry)) (now (numbers .entry)))
         (lentOf (now (file .entry)) (now (e .exit)) (now (a .exit)) (now (m .exit)) (now (numbers .exit)))
         (length (now (out .entry))) (now (out .exit)) (length (now (report .entry))) (now (report .exit)) (now (head .exit)) r ⌝ }
 {
-    let c = choice_of(letters);
+    let c = choice_of(edition, letters);
     match c {
         Choice::By(book) => mender::mend(book, file, out, report, head, e, a, m, numbers),
         Choice::Unknown => {

@@ -1,2 +1,3 @@
 pub mod Sheeting
 pub mod Outcome
+pub mod Short

@@ -13,7 +13,10 @@ ghost use Rattle.reading.specs.Reading.{reading};
 ghost use Rattle.progress.specs.Lent.{lentOf, roomOf};
 ghost use Rattle.running.specs.Ends.{AsLong, answerOf, Ends};
 ghost use Rattle.reader.specs.Reads.{Reads};
+ghost use Rattle.reader.specs.Short.{shortOf};
 use book::Book;
+use book::Edition;
+use book::Letters;
 use progress::Progress;
 use running::End;
 use running::Outcome;
@@ -136,7 +139,7 @@ fn read_file(
 
 // Reads a file by a book into the lent words: a sheet with its unit and how many decimals were rounded, or the number and the place of the
 // first rule broken and zeros in every word.
-pub fn read(
+pub fn read_as(
     book: Book,
     file: &[u8],
     head: &mut [u64; 8],
@@ -158,4 +161,32 @@ pub fn read(
         number: 1,
         place: 0,
     }
+}
+
+// The book of a reading that names no edition.
+pub fn short_of(letters: Letters) -> Book
+    ensures { λ r. ⌜ r ≡ shortOf letters ⌝ }
+{
+    Book {
+        edition: Edition::New,
+        letters: letters,
+    }
+}
+
+// The short call: a reading that names its rule of letters and no edition.
+pub fn read(
+    letters: Letters,
+    file: &[u8],
+    head: &mut [u64; 8],
+    e: &mut [u64],
+    a: &mut [u64],
+    m: &mut [u64],
+    numbers: &mut [i64],
+) -> Answer
+    ensures { λ r. ⌜ Reads (roundedIn (shortOf letters) (now (file .entry))) (reading (shortOf letters) (roomOf (lentOf (now (file .entry)) (now (e .entry)) (now (a .entry)) (now (m .entry)) (now (numbers .entry)))) (now (file .entry)))
+        (lentOf (now (file .entry)) (now (e .entry)) (now (a .entry)) (now (m .entry)) (now (numbers .entry)))
+        (lentOf (now (file .entry)) (now (e .exit)) (now (a .exit)) (now (m .exit)) (now (numbers .exit))) (now (head .exit)) r ⌝ }
+{
+    let book = short_of(letters);
+    read_as(book, file, head, e, a, m, numbers)
 }

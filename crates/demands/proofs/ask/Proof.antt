@@ -6,8 +6,8 @@ use Rattle.demands.proofs.Demands.{demands}
 use Rattle.demands.proofs.ask.Statement.{statement}
 use Rattle.demands.proofs.ask.Tie as tie
 
-read-requires : tie.Need-read-requires
-read-requires c κs = search needs
+read-as-requires : tie.Need-read-as-requires
+read-as-requires c κs = search needs
 
 sheet-total-requires : tie.Need-sheet-total-requires
 sheet-total-requires c κs = search needs
@@ -76,7 +76,7 @@ answered c = c .before .before .before .before .before
 abbrev totalled : tie.After-sheet-item → tie.After-sheet-total
 totalled c = c .before .before .before .before
 
-abbrev was-read : tie.After-sheet-total → tie.After-read
+abbrev was-read : tie.After-sheet-total → tie.After-read-as
 was-read c = c .before .before .before .before .before .before .before .before .before .before .before
 
 -- the runs, and what was read before them
@@ -89,20 +89,20 @@ to-second c = second-run (to-whole c)
 abbrev to-first : tie.After-item-of → tie.After-sheet-run
 to-first c = first-run (to-second c)
 
-abbrev to-read : tie.After-item-of → tie.After-read
+abbrev to-read : tie.After-item-of → tie.After-read-as
 to-read c = was-read (totalled (answered (to-first c)))
 
 same-length : tie.Need-same-length
-same-length c = to-read c .read .kept .1 .1 .1 .0
+same-length c = to-read c .read-as .kept .1 .1 .1 .0
 
 same-length-2 : tie.Need-same-length-2
-same-length-2 c = to-read c .read .kept .1 .1 .1 .1 .0
+same-length-2 c = to-read c .read-as .kept .1 .1 .1 .1 .0
 
 same-length-3 : tie.Need-same-length-3
-same-length-3 c = to-read c .read .kept .1 .1 .1 .1 .1 .0
+same-length-3 c = to-read c .read-as .kept .1 .1 .1 .1 .1 .0
 
 same-length-4 : tie.Need-same-length-4
-same-length-4 c = to-read c .read .kept .1 .1 .1 .1 .1 .1 .0
+same-length-4 c = to-read c .read-as .kept .1 .1 .1 .1 .1 .1 .0
 
 same-length-5 : tie.Need-same-length-5
 same-length-5 c = to-first c .sheet-run .kept .1 .1 .1 .1 .0
@@ -121,7 +121,7 @@ returns c =
     let rest = rest-listed all in
     let list = listed rest in
     let few = counted list in
-    demands (to-read c .read .ensures) (few .at-most-eight .ensures .0) (few .at-most-eight .ensures .1) (record {
+    demands (to-read c .read-as .ensures) (few .at-most-eight .ensures .0) (few .at-most-eight .ensures .1) (record {
       total = totalled (answered (to-first c)) .sheet-total .ensures;
       item = answered (to-first c) .sheet-item .ensures;
       first-room = _;
@@ -141,7 +141,7 @@ pub ask-spec : {M : Type 1} → statement M
 ask-spec =
     tie.close
     (tie.spec
-    read-requires
+    read-as-requires
     sheet-total-requires
     sheet-item-requires
     sheet-run-requires

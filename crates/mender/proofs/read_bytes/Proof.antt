@@ -7,8 +7,8 @@ use Rattle.mender.proofs.read_bytes.Tie as tie
 up-to-requires : tie.Need-up-to-requires
 up-to-requires c κs = search needs
 
-read-requires : tie.Need-read-requires
-read-requires c κs = search needs
+read-as-requires : tie.Need-read-as-requires
+read-as-requires c κs = search needs
 
 same-length : tie.Need-same-length
 same-length c = search needs
@@ -23,14 +23,14 @@ same-length-4 : tie.Need-same-length-4
 same-length-4 c = search needs
 
 returns : tie.Need-returns
-returns c = rw (c .before .before .before .before .before .before .before .before .before .before .before .before .before .up-to .ensures) at (c .before .before .before .before .before .before .before .read .ensures)
+returns c = rw (c .before .before .before .before .before .before .before .before .before .before .before .before .before .up-to .ensures) at (c .before .before .before .before .before .before .before .read-as .ensures)
 
 pub read-bytes-spec : {M : Type 1} → statement M
 read-bytes-spec =
     tie.close
     (tie.spec
     up-to-requires
-    read-requires
+    read-as-requires
     same-length
     same-length-2
     same-length-3

@@ -1,17 +1,15 @@
--- `reader::read` meets its contract: a file that is not too long is read, one that is is refused with 1.
+-- `reader::read` meets its contract: the reading by the edition that it reads and the letters that are named.
 -- Assumes nothing.
 use borrow.Author.Needs.{needs}
-use mathlib.Core.Path.{refl, sym, _∙_}
-use Rattle.progress.specs.Lent.{lentOf}
-use Rattle.reader.proofs.Outcome.{reads-long}
+use Rattle.reader.proofs.Short.{reads-same}
 use Rattle.reader.proofs.read.Statement.{statement}
 use Rattle.reader.proofs.read.Tie as tie
 
-file-fits-requires : tie.Need-file-fits-requires
-file-fits-requires c κs = search needs
+short-of-requires : tie.Need-short-of-requires
+short-of-requires c κs = search needs
 
-read-file-requires : tie.Need-read-file-requires
-read-file-requires c κs = let t = c .before .before .before .before .before in (refl, sym (t .before .file-fits .ensures) ∙ t .if1 .taken)
+read-as-requires : tie.Need-read-as-requires
+read-as-requires c κs = search needs
 
 same-length : tie.Need-same-length
 same-length c = search needs
@@ -25,50 +23,22 @@ same-length-3 c = search needs
 same-length-4 : tie.Need-same-length-4
 same-length-4 c = search needs
 
+abbrev was-read : tie.After-numbers → tie.After-read-as
+was-read c = c .before .before .before .before .before .before .before
+
 returns : tie.Need-returns
-returns c = c .before .before .before .before .before .before .before .read-file .ensures
-
-clear-requires : tie.Need-clear-requires
-clear-requires c κs = search needs
-
-abbrev was-cleared : tie.After-numbers2 → tie.After-clear
-was-cleared c = c .before .before .before .before .before .before .before
-
-same-length-5 : tie.Need-same-length-5
-same-length-5 c = search needs
-
-same-length-6 : tie.Need-same-length-6
-same-length-6 c = search needs
-
-same-length-7 : tie.Need-same-length-7
-same-length-7 c = search needs
-
-same-length-8 : tie.Need-same-length-8
-same-length-8 c = search needs
-
-returns-2 : tie.Need-returns-2
-unfolding lentOf
-returns-2 c =
-    let k = was-cleared c in
-    let t = k .before .before .before .before .before in
-    let z = k .clear .ensures in
-    reads-long _ (lentOf _ _ _ _ _) (lentOf _ _ _ _ _) _ (sym (t .before .file-fits .ensures) ∙ t .if1 .left)
-    (record { head-is = refl; entries-are = z .0; apertures-are = z .1; macros-are = z .2; numbers-are = z .3 })
+returns c =
+    let r = was-read c in
+    reads-same (r .before .before .before .before .before .before .short-of .ensures) _ _ _ _ _ _ (r .read-as .ensures)
 
 pub read-spec : {M : Type 1} → statement M
 read-spec =
     tie.close
     (tie.spec
-    file-fits-requires
-    read-file-requires
+    short-of-requires
+    read-as-requires
     same-length
     same-length-2
     same-length-3
     same-length-4
-    returns
-    clear-requires
-    same-length-5
-    same-length-6
-    same-length-7
-    same-length-8
-    returns-2)
+    returns)

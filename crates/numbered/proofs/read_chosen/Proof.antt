@@ -1,11 +1,11 @@
--- `numbered::read` meets its contract: the book that is named reads, or none does and every word is cleared.
+-- `numbered::read_chosen` meets its contract: the book that is named reads, or none does and every word is cleared.
 -- Assumes nothing.
 use mathlib.Core.Path.{refl, sym, _∙_}
 use borrow.Author.Needs.{needs}
 use Rattle.progress.specs.Lent.{lentOf}
 use Rattle.numbered.proofs.Choices.{reads-by, reads-none}
-use Rattle.numbered.proofs.read.Statement.{statement}
-use Rattle.numbered.proofs.read.Tie as tie
+use Rattle.numbered.proofs.read_chosen.Statement.{statement}
+use Rattle.numbered.proofs.read_chosen.Tie as tie
 
 choice-of-requires : tie.Need-choice-of-requires
 choice-of-requires c κs = search needs
@@ -13,8 +13,8 @@ choice-of-requires c κs = search needs
 enum-known-c : tie.Need-enum-known-c
 enum-known-c c = search needs
 
-read-requires : tie.Need-read-requires
-read-requires c κs = search needs
+read-as-requires : tie.Need-read-as-requires
+read-as-requires c κs = search needs
 
 enum-told : tie.Need-enum-told
 enum-told c = search needs
@@ -34,14 +34,14 @@ same-length-3 c = search needs
 same-length-4 : tie.Need-same-length-4
 same-length-4 c = search needs
 
-abbrev was-read : tie.After-numbers → tie.After-read
+abbrev was-read : tie.After-numbers → tie.After-read-as
 was-read c = c .before .before .before .before .before .before .before
 
 returns : tie.Need-returns
 returns c =
     let r = was-read c in
     let t = r .before .before .before .before .before .before .before in
-    reads-by (sym (t .before .before .choice-of .ensures) ∙ t .c .given .1) _ _ _ _ _ _ (r .read .ensures)
+    reads-by (sym (t .before .before .choice-of .ensures) ∙ t .c .given .1) _ _ _ _ _ _ (r .read-as .ensures)
 
 same-length-5 : tie.Need-same-length-5
 same-length-5 c = search needs
@@ -67,13 +67,13 @@ returns-2 c =
     reads-none (sym (t .before .before .choice-of .ensures) ∙ t .enum-told .given .1) _ _ (lentOf _ _ _ _ _) (lentOf _ _ _ _ _) _
     (record { head-is = refl; entries-are = z .0; apertures-are = z .1; macros-are = z .2; numbers-are = z .3 })
 
-pub read-spec : {M : Type 1} → statement M
-read-spec =
+pub read-chosen-spec : {M : Type 1} → statement M
+read-chosen-spec =
     tie.close
     (tie.spec
     choice-of-requires
     enum-known-c
-    read-requires
+    read-as-requires
     enum-told
     clear-requires
     same-length
