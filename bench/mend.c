@@ -7,6 +7,7 @@
 #include "texts.h"
 
 enum { ROUNDS = 5 };
+static const struct book newer = {SHEET_NEW_EDITION, SHEET_OLD_LETTERS};
 
 static double now(void)
 {
@@ -33,22 +34,22 @@ static double measure(const char *name, const char *text, size_t count, double b
 {
     const uint8_t *file = (const uint8_t *)text;
     struct room plenty = {sheet_entries_for(count + 4), 4000, 100, 100000};
-    struct mended first = mend_with(SHEET_OLD_LETTERS, file, count, plenty);
+    struct mended first = mend_with(newer, file, count, plenty);
     if (first.number != SHEET_ACCEPTED)
         refuse(name, first.number);
     struct room r = room_of(&first);
-    struct mended m = mend_with(SHEET_OLD_LETTERS, file, count, r);
+    struct mended m = mend_with(newer, file, count, r);
     struct store s = lent(r), *t = &m.sheet;
     double mend = 1e9, read = 1e9;
     for (int i = 0; i < ROUNDS; i++) {
         double from = now();
-        m.number = sheet_mend(SHEET_OLD_LETTERS, file, count, m.file, m.file_room, m.report, m.report_words, t->head, t->entries,
-                              t->entries_words, t->apertures, t->apertures_words, t->macros, t->macros_words, t->numbers,
-                              t->numbers_count, &m.bytes, &m.changes, &t->unit, &t->rounded);
+        m.number = sheet_mend(newer.edition, newer.letters, file, count, m.file, m.file_room, m.report, m.report_words, t->head,
+                              t->entries, t->entries_words, t->apertures, t->apertures_words, t->macros, t->macros_words,
+                              t->numbers, t->numbers_count, &m.bytes, &m.changes, &t->unit, &t->rounded);
         double took = now() - from;
         mend = took < mend ? took : mend;
         from = now();
-        read_into(&s, SHEET_OLD_LETTERS, m.file, (size_t)m.bytes);
+        read_into(&s, newer, m.file, (size_t)m.bytes);
         took = now() - from;
         read = took < read ? took : read;
         if (m.number != SHEET_ACCEPTED || s.number != SHEET_ACCEPTED)

@@ -8,6 +8,7 @@
 #include "texts.h"
 
 enum { ROUNDS = 5, RUN = 65536, MOST = 1000000 };
+static const struct book newer = {SHEET_NEW_EDITION, SHEET_OLD_LETTERS};
 
 static double now(void)
 {
@@ -112,7 +113,7 @@ static double measure(const char *name, struct text t, double before)
     struct room r = {sheet_entries_for(t.count), sheet_apertures_for(t.count), sheet_macros_for(t.count), 100000};
     struct store s = lent(r);
     double read = now();
-    read_into(&s, SHEET_OLD_LETTERS, (const uint8_t *)t.at, t.count);
+    read_into(&s, newer, (const uint8_t *)t.at, t.count);
     read = now() - read;
     if (s.number != SHEET_ACCEPTED)
         refuse("a reading", s.number);

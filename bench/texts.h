@@ -1,4 +1,4 @@
-/* The files that are measured: a text that grows, a flat file of draws, a layer repeated. */
+/* The files that are measured: a text that grows, a flat file of draws and its drawing as a film, a layer repeated. */
 #include <stdint.h>
 #include <stdio.h>
 #include <stdlib.h>
@@ -52,6 +52,49 @@ static inline struct text flat(size_t bytes)
     while (t.count < bytes)
         operation(&t, chance(10) ? "01" : "02");
     say(&t, "M02*\n");
+    return t;
+}
+
+/* A step of so many millionths in ten digits, the zeros at its end left out. */
+static inline void step(struct text *t, char letter, long size)
+{
+    char digits[32];
+    int n = sprintf(digits, "%c%s%010ld", letter, size < 0 ? "-" : "", labs(size));
+    while (digits[n - 1] == '0' && digits[n - 2] >= '0')
+        n--;
+    add(t, digits, (size_t)n);
+}
+
+/* The drawing of a flat file as a film of the old edition: with a code before every coordinate; or by steps, and codes of one digit. */
+static inline struct text film_of(struct text flat_file, int steps)
+{
+    struct text t = {0};
+    char line[64];
+    long x = 0, y = 0;
+    const char *at = flat_file.at, *end = at + flat_file.count;
+    say(&t, steps ? "%FSTIX46Y46*%\n" : "%FSLAX46Y46*%\n");
+    for (const char *next; at < end; at = next) {
+        next = (const char *)memchr(at, '\n', (size_t)(end - at)) + 1;
+        if (at[0] == 'X') {
+            char *rest;
+            long to_x = strtol(at + 1, &rest, 10), to_y = strtol(rest + 1, &rest, 10);
+            if (steps) {
+                step(&t, 'X', to_x - x);
+                step(&t, 'Y', to_y - y);
+                add(&t, line, (size_t)sprintf(line, "D%c*\n", rest[2]));
+            } else {
+                add(&t, line, (size_t)sprintf(line, "G01X%ldY%ldD0%c*\n", to_x, to_y, rest[2]));
+            }
+            x = to_x, y = to_y;
+        } else if (memcmp(at, "%MOMM", 5) == 0) {
+            say(&t, "G71*\n");
+        } else if (at[0] == 'D') {
+            say(&t, "G54");
+            add(&t, at, (size_t)(next - at));
+        } else if (memcmp(at, "%FS", 3) != 0) {
+            add(&t, at, (size_t)(next - at));
+        }
+    }
     return t;
 }
 

@@ -18,7 +18,8 @@
  *   imager batch [--room E,A,M,N]       for each file named on standard input: name, sheet or refusal, hash of its first 2000 lines
  *
  * The file stands on standard input but for batch and mends; fields are parted by tabs. A refusal prints refused, number and place; of an
- * attribute, refused and number. Every mode takes --letters old|new behind its words: the rule of letters, old where it is not said. */
+ * attribute, refused and number. Every mode takes --edition new|old and --letters old|new among its words: the newer edition and the old
+ * letters where they are not said. */
 #include <errno.h>
 #include <inttypes.h>
 #include <stdio.h>
@@ -44,8 +45,8 @@ static void fail(const char *what)
     exit(1);
 }
 
-/* The rule of letters that every mode reads by. */
-static uint64_t letters = SHEET_OLD_LETTERS;
+/* The book that every mode reads by. */
+static struct book book;
 
 /* A stream's bytes, up to one more than a limit. */
 static struct bytes bytes_of(FILE *in, size_t limit)
@@ -91,7 +92,7 @@ static struct room room_for(size_t n)
 static struct store read_sheet(struct bytes file, const struct room *asked)
 {
     struct store s = lent(asked ? *asked : room_for(file.count));
-    read_into(&s, letters, file.at, file.count);
+    read_into(&s, book, file.at, file.count);
     return s;
 }
 
@@ -267,11 +268,12 @@ static void numbers(const struct store *s)
 
 static void attribute(struct bytes file, const char *mode, int of_aperture, size_t place, const char *name)
 {
+    const uint8_t *text = (const uint8_t *)name;
     uint64_t at, count, number;
     if (of_aperture)
-        number = sheet_aperture_attribute(letters, file.at, file.count, place, (const uint8_t *)name, strlen(name), &at, &count);
+        number = sheet_aperture_attribute(book.edition, book.letters, file.at, file.count, place, text, strlen(name), &at, &count);
     else
-        number = sheet_object_attribute(letters, file.at, file.count, place, (const uint8_t *)name, strlen(name), &at, &count);
+        number = sheet_object_attribute(book.edition, book.letters, file.at, file.count, place, text, strlen(name), &at, &count);
     if (number == SHEET_ACCEPTED)
         printf("%s\t%" PRIu64 "\t%" PRIu64 "\n", mode, at, count);
     else
@@ -282,7 +284,7 @@ static void attribute(struct bytes file, const char *mode, int of_aperture, size
 static void verify(struct bytes file)
 {
     uint8_t digest[SHEET_DIGEST_BYTES];
-    uint64_t place, number = sheet_signature(letters, file.at, file.count, &place, digest);
+    uint64_t place, number = sheet_signature(book.edition, book.letters, file.at, file.count, &place, digest);
     if (number != SHEET_ACCEPTED) {
         printf("refused\t%" PRIu64 "\t%" PRIu64 "\n", number, place);
         return;
@@ -357,7 +359,7 @@ static void print_mended(const struct mended *m, char part, char line)
 /* Room for the sheet as asked for, or for that of any mended file. */
 static struct mended mended(const uint8_t *file, size_t count, const struct room *room)
 {
-    return mend_with(letters, file, count, room ? *room : room_for(count > SHEET_FILE_LIMIT ? count : sheet_mended_for(count)));
+    return mend_with(book, file, count, room ? *room : room_for(count > SHEET_FILE_LIMIT ? count : sheet_mended_for(count)));
 }
 
 static void mend(struct bytes file, int raw, const struct room *room)
@@ -401,7 +403,7 @@ static void cuts(struct bytes file, uint64_t count, const struct room *room)
 static int usage(void)
 {
     fputs("usage: imager list|sheet|batch|mends [--room E,A,M,N], mend [--raw] [--room E,A,M,N], cuts COUNT [--room E,A,M,N], items K COUNT, address K, number COPY [POSITION..], summary [--rows N], "
-          "numbers, attribute TA|TO PLACE NAME, verify; all with [--letters old|new]\n", stderr);
+          "numbers, attribute TA|TO PLACE NAME, verify; all with [--edition new|old] [--letters old|new]\n", stderr);
     return 2;
 }
 
@@ -473,27 +475,10 @@ static int with_room(const char *mode, int words, char **word)
     return 0;
 }
 
-/* Takes `--letters old|new` out of the words; 0 where something else follows. */
-static int take_letters(int *words, char **word)
-{
-    int kept = 0;
-    for (int i = 0; i < *words; i++) {
-        if (!is(word[i], "--letters")) {
-            word[kept++] = word[i];
-            continue;
-        }
-        i++;
-        if (i == *words || (!is(word[i], "old") && !is(word[i], "new")))
-            return 0;
-        letters = is(word[i], "new") ? SHEET_NEW_LETTERS : SHEET_OLD_LETTERS;
-    }
-    *words = kept;
-    return 1;
-}
-
 int main(int argc, char **argv)
 {
-    if (!take_letters(&argc, argv))
+    book = plain_book;
+    if (!take_book(&argc, argv, &book))
         return usage();
     const char *mode = argc > 1 ? argv[1] : "";
     uint64_t k = 0, count = 0;

@@ -1,7 +1,8 @@
 /* mend: takes a layer file on standard input and writes the mended file to standard output (document 02, [13]).
  *
- *   mend [--letters old|new] <FILE >MENDED
+ *   mend [--edition new|old] [--letters old|new] <FILE >MENDED
  *
+ * The file is read by the newer edition and the old letters where nothing else is said.
  * What was done stands on standard error, a line for each change; a file that needs none comes back as it is. A file that cannot be
  * mended is not written at all: standard error says why, and the exit status is 1, as it is where a file cannot be read or written. */
 #include <errno.h>
@@ -51,13 +52,13 @@ static void tell(uint64_t kind, uint64_t place, const uint8_t *file, size_t coun
         fprintf(stderr, "what follows that command is no whole command; %" PRIu64 " bytes are taken off\n", (uint64_t)count - place);
         break;
     default:
-        fprintf(stderr, "more follows the end of the file, M02*; %" PRIu64 " bytes are taken off\n", (uint64_t)count - place);
+        fprintf(stderr, "more follows the command that ends the file; %" PRIu64 " bytes are taken off\n", (uint64_t)count - place);
     }
 }
 
 static int refuse(uint64_t number)
 {
-    const char *why = "the rule of letters is not known";
+    const char *why = "the edition or the rule of letters is not known";
     if (number == SHEET_TOO_LONG)
         why = "the file is longer than 16,777,216 bytes";
     else if (number == SHEET_UNMENDED)
@@ -70,18 +71,16 @@ static int refuse(uint64_t number)
 
 int main(int argc, char **argv)
 {
-    uint64_t letters = SHEET_OLD_LETTERS;
-    if (argc == 3 && strcmp(argv[1], "--letters") == 0 && strcmp(argv[2], "new") == 0)
-        letters = SHEET_NEW_LETTERS;
-    else if (argc != 1 && !(argc == 3 && strcmp(argv[1], "--letters") == 0 && strcmp(argv[2], "old") == 0)) {
-        fputs("usage: mend [--letters old|new] <FILE >MENDED\n", stderr);
+    struct book book = plain_book;
+    if (!take_book(&argc, argv, &book) || argc != 1) {
+        fputs("usage: mend [--edition new|old] [--letters old|new] <FILE >MENDED\n", stderr);
         return 2;
     }
     size_t count;
     uint8_t *file = all_of_input(&count);
     if (ferror(stdin))
         return fail("the file cannot be read");
-    struct mended m = mend_with(letters, file, count, room_for(count > SHEET_FILE_LIMIT ? 0 : sheet_mended_for(count)));
+    struct mended m = mend_with(book, file, count, room_for(count > SHEET_FILE_LIMIT ? 0 : sheet_mended_for(count)));
     if (m.number != SHEET_ACCEPTED)
         return refuse(m.number);
     for (size_t i = 0; i < m.changes; i++)

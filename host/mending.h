@@ -13,17 +13,17 @@ struct mended {
     uint64_t number, bytes, changes;
 };
 
-/* Mends a file by a rule of letters, with this room for its sheet and enough for all else. */
-static inline struct mended mend_with(uint64_t letters, const uint8_t *file, size_t count, struct room room)
+/* Mends a file by a book, with this room for its sheet and enough for all else. */
+static inline struct mended mend_with(struct book book, const uint8_t *file, size_t count, struct room room)
 {
     struct mended m = {.file_room = sheet_mended_for(count), .report_words = sheet_changes_for(count) * SHEET_CHANGE_WORDS,
                        .sheet = lent(room)};
     struct store *s = &m.sheet;
     m.file = lend(m.file_room, sizeof *m.file);
     m.report = lend(m.report_words, sizeof *m.report);
-    m.number = sheet_mend(letters, file, count, m.file, m.file_room, m.report, m.report_words, s->head, s->entries, s->entries_words,
-                          s->apertures, s->apertures_words, s->macros, s->macros_words, s->numbers, s->numbers_count, &m.bytes,
-                          &m.changes, &s->unit, &s->rounded);
+    m.number = sheet_mend(book.edition, book.letters, file, count, m.file, m.file_room, m.report, m.report_words, s->head, s->entries,
+                          s->entries_words, s->apertures, s->apertures_words, s->macros, s->macros_words, s->numbers,
+                          s->numbers_count, &m.bytes, &m.changes, &s->unit, &s->rounded);
     return m;
 }
 

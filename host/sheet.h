@@ -9,8 +9,8 @@
  *     pointer is not null and is aligned as its type asks, for a length of 0 too.
  *   - Nothing that is lent to be written overlaps anything else that is lent to the same call, and nobody else writes to any of it
  *     meanwhile. That is all that a call trusts its host in: any bytes, any words and any lengths are answered.
- *   - Every call that is given a file names the rule of letters (enum sheet_letters); another number is answered with 101, before all
- *     else, and zeros in all that is lent to be written.
+ *   - Every call that is given a file names its book: the edition (enum sheet_edition), but for sheet_read, and the rule of letters (enum
+ *     sheet_letters). Where either is another number the answer is 101, before all else, and zeros in all that is lent to be written.
  *   - A call answers a number: 0, or why not (enum sheet_number). It sets everything that it was lent to be written, whatever it
  *     answers.
  *
@@ -18,8 +18,8 @@
  *   size_t e = sheet_entries_for(n) * SHEET_ENTRY_WORDS, a = sheet_apertures_for(n) * SHEET_APERTURE_WORDS;
  *   size_t m = sheet_macros_for(n) * SHEET_MACRO_WORDS, v = numbers;
  *   .. lend entries of e words, apertures of a, macros of m, numbers of v ..
- *   if (sheet_read(SHEET_OLD_LETTERS, file, n, head, entries, e, apertures, a, macros, m, values, v, &place, &unit, &rounded) ==
- *       SHEET_ACCEPTED)
+ *   if (sheet_read_as(SHEET_NEW_EDITION, SHEET_OLD_LETTERS, file, n, head, entries, e, apertures, a, macros, m, values, v, &place,
+ *                     &unit, &rounded) == SHEET_ACCEPTED)
  *       sheet_item(head, entries, e, apertures, a, 40000, item);
  */
 #ifndef SHEET_H
@@ -39,14 +39,14 @@ enum sheet_number {
     SHEET_BYTE = 2,             /* a byte outside 32 to 126, not a permitted CR or LF and in no permitted letter; place of that byte */
     SHEET_ENDS = 3,             /* file ends inside a command or before M02; place is the length */
     SHEET_FORM = 4,             /* command unknown or not of its form */
-    SHEET_RANGE = 5,            /* number too long or outside its range */
+    SHEET_RANGE = 5,            /* number too long or outside its range; in the old edition also a point of 10^12 millionths or more in size */
     SHEET_FORMAT = 6,           /* FS or MO given twice, or missing at an operation or at M02 */
     SHEET_NOT_HERE = 7,         /* command not allowed here, or something open at M02 */
     SHEET_NAME = 8,             /* aperture or macro unknown, or its number or name taken */
     SHEET_EXPRESSION = 9,       /* macro expression: zero divisor, or any operation's result of 10^12 millionths or more in size */
     SHEET_PARAMETER = 10,       /* parameter outside its rule */
     SHEET_STATE = 11,           /* operation does not fit the state */
-    SHEET_CENTRE = 12,          /* nonsensical arc centre */
+    SHEET_CENTRE = 12,          /* nonsensical arc centre; in the old edition of multi-quadrant arcs alone */
     SHEET_CONTOUR = 13,         /* contour not closed */
     SHEET_BLOCK = 14,           /* block flashed at a scale other than 1 or an angle not a multiple of 90 degrees */
     SHEET_DEEP = 15,            /* too deep */
@@ -60,11 +60,18 @@ enum sheet_number {
     SHEET_NOT_HELD = 23,        /* attribute name not held there */
     SHEET_OTHER_DIGEST = 24,    /* the signature is not the digest of the file (document 02, [2]) */
     SHEET_UNSIGNED = 25,        /* no signature just before M02 */
-    SHEET_OWN_MOVE = 29,        /* in a region, a first D01 without a D02 since its G36; after 11 and before 12 (document 02, [7]) */
+    SHEET_OWN_MOVE = 29,        /* in a region, a first D01 without a D02 since its G36; after 11 and before 12; of the newer edition alone
+                                   (document 02, [7]) */
+    SHEET_UNREAD = 30,          /* AS, MI, OF, SF, IP, IR, KO, LN or SM, or FS with 7 places, which are not read of the old book; right after
+                                   4; of the old edition alone (document 02, [9]) */
+    SHEET_QUADRANT = 31,        /* no centre of a single quadrant arc remains, or two tie; right after 12; of the old edition alone */
     SHEET_NO_ADDRESS = 32,      /* an address that names nothing (document 02, [12]) */
     SHEET_UNMENDED = 33,        /* a file that is still refused when mended, other than by 17 (document 02, [13]) */
-    SHEET_NO_LETTERS = 101      /* the number names no rule of letters; before all else, place 0 (decision 420) */
+    SHEET_NO_BOOK = 101         /* a number names no edition or no rule of letters; before all else, place 0 (decisions 420 and 514) */
 };
+
+/* Which edition of the format a file is read by: document 01's, or RS-274X of the old book (document 02, [9]). */
+enum sheet_edition { SHEET_NEW_EDITION = 1, SHEET_OLD_EDITION = 2 };
 
 /* Which letters may stand in the fields of TF, TA and TO and in the text of G04: of ASCII alone, or well-formed UTF-8 too (document 02,
  * [8]). A file that the old rule accepts, the new one accepts with the same sheet. */
@@ -137,25 +144,28 @@ static_assert(sizeof(struct sheet_item) == SHEET_ITEM_WORDS * sizeof(uint64_t), 
 _Static_assert(sizeof(struct sheet_item) == SHEET_ITEM_WORDS * sizeof(uint64_t), "an item is fifteen words");
 #endif
 
-/* How many records to lend for a file of n bytes, so that reading never answers 17 for them.
+/* How many records to lend for a file of n bytes, so that reading never answers 17 for them, by either edition.
  *
- * Entries: n / 4. No command has fewer than 4 bytes (`D03*`). A D01 or D03, an SR opening and an AB opening take one entry each. The
- * D01 that starts a contour takes two, and the command that ends a contour (`D02*`, `G37*`) none; while one contour is open its second
- * entry is covered by the FS (13 bytes), without which no D01 is reached. The entries are also where the names of TF are looked up
- * before the file is read (decision 255), eight words each; a TF has 6 bytes at least, so that n / 4 entries hold them all, and fewer
- * cost time and nothing else.
+ * Entries: n / 3. A D01 or D03, an SR opening and an AB opening take one entry each and have 3 bytes at least (`D1*`, of the old edition).
+ * The D01 that starts a contour takes two. The second is covered by the command that ends the contour: a D02 or a G37 alone has 3 bytes at
+ * least and takes none (`D2*`), and where G37 stands before an operation that takes one, the two have 6 (`G37D1*`). While a contour is
+ * open, and only one is at a time, its second entry is covered by the FS (13 bytes), without which no D01 is reached. For a file of the
+ * newer edition n / 4 is enough by the same count, since no command of it has fewer than 4 bytes (`D03*`).
+ * The entries are also where the names of TF are looked up before the file is read (decision 255), eight words each; a TF has 6 bytes at
+ * least, so that n / 3 entries, and n / 4, hold them all, and fewer cost time and nothing else.
  * Apertures: n / 8. An AB opening has 8 bytes at least (`%ABD10*%`), an AD 9 (`%ADD10a*%`).
  * Macros: n / 8. An AM has 8 bytes at least (`%AMa*0*%`).
  * Numbers: n / 2 + n * n / 72, and here a host may well lend fewer, and be answered 17. Each parameter of a standard template has a
  * separator and a digit: n / 2 numbers in all. An AD of a macro takes one number for each primitive and each of its parameters, each
  * of which has 2 bytes at least in the macro's text, and has itself 9 bytes: a macro of x bytes and as many AD as then fit are at
  * most (x / 2) * ((n - x) / 9) numbers, at most n * n / 72. Layers seen so far use fewer than n / 8. */
-static inline size_t sheet_entries_for(size_t n) { return n / 4; }
+static inline size_t sheet_entries_for(size_t n) { return n / 3; }
 static inline size_t sheet_apertures_for(size_t n) { return n / 8; }
 static inline size_t sheet_macros_for(size_t n) { return n / 8; }
 static inline size_t sheet_numbers_for(size_t n) { return n / 2 + n * n / 72; }
 
-/* The reading.
+/* The reading by a named edition.
+ *   edition                       the edition
  *   letters                       the rule of letters
  *   file, file_bytes              the file
  *   head                          SHEET_HEAD_WORDS words
@@ -165,8 +175,14 @@ static inline size_t sheet_numbers_for(size_t n) { return n / 2 + n * n / 72; }
  *   numbers, numbers_count        room for so many numbers
  *   place, unit, rounded          one word each
  * Answers 0 (then unit is 1 mm or 2 inch, rounded how many decimals of the file have more than six digits after the point, each counted
- * once, place 0, and head, entries and apertures are a sheet; words not used are 0), or 1 to 19, 29 or 101 (then place says where, unit and
- * rounded are 0, and every word lent is 0 to its full length). */
+ * once, place 0, and head, entries and apertures are a sheet; words not used are 0), or 1 to 19, 29 (newer edition), 30 or 31 (old edition)
+ * or 101 (then place says where, unit and rounded are 0, and every word lent is 0 to its full length). */
+uint64_t sheet_read_as(uint64_t edition, uint64_t letters, const uint8_t *file, size_t file_bytes, uint64_t *head, uint64_t *entries,
+                       size_t entries_words, uint64_t *apertures, size_t apertures_words, uint64_t *macros, size_t macros_words,
+                       int64_t *numbers, size_t numbers_count, uint64_t *place, uint64_t *unit, uint64_t *rounded);
+
+/* The short call, which names no edition: sheet_read_as with the newer one. Request [10] of document 02 will make it the old one, so that
+ * a host that needs the newer edition calls sheet_read_as. */
 uint64_t sheet_read(uint64_t letters, const uint8_t *file, size_t file_bytes, uint64_t *head, uint64_t *entries, size_t entries_words,
                     uint64_t *apertures, size_t apertures_words, uint64_t *macros, size_t macros_words, int64_t *numbers,
                     size_t numbers_count, uint64_t *place, uint64_t *unit, uint64_t *rounded);
@@ -174,7 +190,7 @@ uint64_t sheet_read(uint64_t letters, const uint8_t *file, size_t file_bytes, ui
 /* The number of items of a sheet. The store may be any words: it is looked at first, in one pass over its records, here and in the calls
  * below.
  *   head                                                    SHEET_HEAD_WORDS words
- *   entries, entries_words, apertures, apertures_words      as they were lent to sheet_read, or copies of them
+ *   entries, entries_words, apertures, apertures_words      as they were lent to the reading, or copies of them
  *   total                                                   one word
  * Answers 0 and the total, or 21 and 0. */
 uint64_t sheet_total(const uint64_t *head, const uint64_t *entries, size_t entries_words, const uint64_t *apertures,
@@ -242,24 +258,27 @@ uint64_t sheet_summary(const uint64_t *head, const uint64_t *entries, size_t ent
 
 /* The value of an attribute at the command that begins at a place of the file: TA (taken at AD, at an AB opening and at a contour's
  * first D01) or TO.
+ *   edition                 the edition
  *   letters                 the rule of letters
  *   file, file_bytes        the file, any bytes
  *   place                   where a command begins, as the place of an item
  *   name, name_bytes        the attribute's name, with its leading point if it has one
  *   value_at, value_bytes   one word each: where the value lies in the file, and its length; 0 and 0 without one
- * Answers 0; or 1 to 4, 18, 22, 23 or 101, and zeros. */
-uint64_t sheet_aperture_attribute(uint64_t letters, const uint8_t *file, size_t file_bytes, size_t place, const uint8_t *name,
-                                  size_t name_bytes, uint64_t *value_at, uint64_t *value_bytes);
-uint64_t sheet_object_attribute(uint64_t letters, const uint8_t *file, size_t file_bytes, size_t place, const uint8_t *name,
-                                size_t name_bytes, uint64_t *value_at, uint64_t *value_bytes);
+ * Answers 0; or 1 to 4, 18, 22, 23, 30 (old edition) or 101, and zeros. */
+uint64_t sheet_aperture_attribute(uint64_t edition, uint64_t letters, const uint8_t *file, size_t file_bytes, size_t place,
+                                  const uint8_t *name, size_t name_bytes, uint64_t *value_at, uint64_t *value_bytes);
+uint64_t sheet_object_attribute(uint64_t edition, uint64_t letters, const uint8_t *file, size_t file_bytes, size_t place,
+                                const uint8_t *name, size_t name_bytes, uint64_t *value_at, uint64_t *value_bytes);
 
-/* Whether a file is signed: whether the `.MD5` just before M02 is the digest of what stands before it (document 02, [2]).
+/* Whether a file is signed: whether the `.MD5` just before M02 is the digest of what stands before it (document 02, [2]). In the old
+ * edition M02 may be written `M2`.
+ *   edition             the edition
  *   letters             the rule of letters
  *   file, file_bytes    the file, of any length
  *   place               one word: where it is refused, 0 where it is not
  *   digest              SHEET_DIGEST_BYTES bytes: the digest, zeros where the file is refused
  * Answers 0; or 2, 3, 24, 25 or 101. */
-uint64_t sheet_signature(uint64_t letters, const uint8_t *file, size_t file_bytes, uint64_t *place, uint8_t *digest);
+uint64_t sheet_signature(uint64_t edition, uint64_t letters, const uint8_t *file, size_t file_bytes, uint64_t *place, uint8_t *digest);
 
 /* What mending changes (document 02, [13]), and where in the file: a later FS or MO with the text of the first is dropped, from its `%`;
  * a missing `M02*` is added behind the last complete command; what follows that command is dropped; what follows M02 is dropped, from
@@ -272,21 +291,23 @@ enum sheet_change { SHEET_DROP_REPEAT = 1, SHEET_ADD_END = 2, SHEET_DROP_TAIL = 
 static inline size_t sheet_mended_for(size_t n) { return n + 4; }
 static inline size_t sheet_changes_for(size_t n) { return n / 4 + 2; }
 
-/* Mending: the file with all changes that apply is made, and read.
+/* Mending: the file with all changes that apply is made, and read. In the old edition M02 may be written `M2`; what is added is `M02*`
+ * in both.
+ *   edition                       the edition
  *   letters                       the rule of letters
  *   file, file_bytes              the file, any bytes
  *   mended, mended_bytes          room for so many bytes of the mended file
  *   report, report_words          room for report_words / SHEET_CHANGE_WORDS changes, each its kind (enum sheet_change) and its place
- *   head .. numbers_count         as in sheet_read, for the sheet of the mended file: enough for sheet_mended_for(file_bytes) bytes
+ *   head .. numbers_count         as in sheet_read_as, for the sheet of the mended file: enough for sheet_mended_for(file_bytes) bytes
  *   bytes, changes                one word each: how many bytes the mended file has, and how many changes were made
- *   unit, rounded                 one word each, as in sheet_read
+ *   unit, rounded                 one word each, as in sheet_read_as
  * Answers 0 (then the stores hold the sheet of the mended file, the changes stand in the order of their places, and bytes and words not
  * used are 0; a file that is accepted as it is comes back unchanged, with no changes); or 1, 33, 17, in this order, or 101 (then all that
  * is lent to be written is 0). 17 is for stores, output or report that are too short. */
-uint64_t sheet_mend(uint64_t letters, const uint8_t *file, size_t file_bytes, uint8_t *mended, size_t mended_bytes, uint64_t *report,
-                    size_t report_words, uint64_t *head, uint64_t *entries, size_t entries_words, uint64_t *apertures,
-                    size_t apertures_words, uint64_t *macros, size_t macros_words, int64_t *numbers, size_t numbers_count,
-                    uint64_t *bytes, uint64_t *changes, uint64_t *unit, uint64_t *rounded);
+uint64_t sheet_mend(uint64_t edition, uint64_t letters, const uint8_t *file, size_t file_bytes, uint8_t *mended, size_t mended_bytes,
+                    uint64_t *report, size_t report_words, uint64_t *head, uint64_t *entries, size_t entries_words,
+                    uint64_t *apertures, size_t apertures_words, uint64_t *macros, size_t macros_words, int64_t *numbers,
+                    size_t numbers_count, uint64_t *bytes, uint64_t *changes, uint64_t *unit, uint64_t *rounded);
 
 /* The MD5 of some bytes (RFC 1321), to tell one file from another.
  *   digest    SHEET_DIGEST_BYTES bytes */

@@ -5,6 +5,7 @@
 #include <stdio.h>
 #include <stdlib.h>
 
+#include "book.h"
 #include "sheet.h"
 
 /* How many entries, apertures, macros and numbers there is room for. */
@@ -45,11 +46,12 @@ static inline struct store lent(struct room r)
     return s;
 }
 
-/* Reads a file by a rule of letters, enum sheet_letters. */
-static inline void read_into(struct store *s, uint64_t letters, const uint8_t *file, size_t count)
+/* Reads a file by a book. */
+static inline void read_into(struct store *s, struct book book, const uint8_t *file, size_t count)
 {
-    s->number = sheet_read(letters, file, count, s->head, s->entries, s->entries_words, s->apertures, s->apertures_words,
-                           s->macros, s->macros_words, s->numbers, s->numbers_count, &s->place, &s->unit, &s->rounded);
+    s->number = sheet_read_as(book.edition, book.letters, file, count, s->head, s->entries, s->entries_words, s->apertures,
+                              s->apertures_words, s->macros, s->macros_words, s->numbers, s->numbers_count, &s->place, &s->unit,
+                              &s->rounded);
 }
 
 static inline void give_back(struct store *s)

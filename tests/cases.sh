@@ -1,6 +1,6 @@
 #!/usr/bin/env bash
-# Every question of the cases that stand beside the repository, where they do, asked of the sample host, and of the program verify what it
-# answers, which is by the old letters: the answers are the expected ones.
+# Every question of the cases that stand beside the repository, where they do, asked of the sample host by the edition and the letters that
+# it names, and of the program verify what it answers, which is by the newer edition and the old letters: the answers are the expected ones.
 set -eu
 cd "$(dirname "$0")/.."
 mapfile -t imager < <(./run --say imager)
@@ -21,6 +21,7 @@ answer() { # WORDS
 
 agree=0
 differ=0
+old=0
 for expected in "$room"/cases/*.expected "$room"/cases-02/*.expected; do
     [ -f "$expected" ] || continue
     name=${expected##*/}
@@ -31,6 +32,7 @@ for expected in "$room"/cases/*.expected "$room"/cases-02/*.expected; do
     elif [ "$(wc -c <"$file")" -gt 65536 ]; then
         continue # the listing program stops there (tests/compare.sh), the sample host does not
     fi
+    [[ ${words[*]} != *"--edition old"* ]] || old=$((old + 1))
     if answer "${words[@]}" <"$file" >"$room/given" && cmp -s "$room/given" "$expected"; then
         agree=$((agree + 1))
     else
@@ -39,5 +41,5 @@ for expected in "$room"/cases/*.expected "$room"/cases-02/*.expected; do
         diff "$room/given" "$expected" | head -n 6
     fi
 done
-echo "cases: $agree agree, $differ differ"
+echo "cases: $agree agree, $differ differ; $old of them by the old edition"
 [ "$differ" -eq 0 ]

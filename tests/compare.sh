@@ -1,8 +1,9 @@
 #!/usr/bin/env bash
 # The proved reader against the second one. Through the listing: the cases and the real layers that stand beside the repository, where they
 # do, and generated files. Through the C host's batch: all of these whatever their size, more generated files, and small rooms. Through its
-# other modes, and the program verify: questions about some generated files. Then again under the other rule of letters and the old edition.
-# Then files that are made for one mode.
+# other modes, and the program verify: questions about some generated files. Then generated files again under the other rule of letters and
+# the old edition, and under the old edition all of the above and the films that stand beside the repository, where they do. Then files that
+# are made for one mode.
 set -u
 cd "$(dirname "$0")/.." || exit 2
 export CARGO_NET_OFFLINE=true
@@ -81,6 +82,15 @@ by_question() { # WHAT [TERMS]
     tell "$what${*:+, $*}, asked" "$agree agree, $differ differ"
 }
 
+# What the newer edition accepts of the files named in LIST, the old one accepts with the same sheet: both by the sample host.
+by_both_editions() { # WHAT LIST
+    "${imager[@]}" batch <"$2" | awk -F '\t' '$2 ~ /^sheet /' >"$room/newer"
+    cut -f 1 "$room/newer" | "${imager[@]}" batch --edition old >"$room/older"
+    "$second" compare "$room/newer" "$room/older" >"$room/told"
+    head -n -1 "$room/told" | head -n 10
+    tell "$1, by both editions" "$(tail -n 1 "$room/told")"
+}
+
 # Whether the sample host takes these words.
 knows() { # WORDS
     local status=0
@@ -129,7 +139,13 @@ find "$room/generated" -name '*.gbr' | sort >"$room/all_generated"
 # Every real layer keeps the rules.
 tell "layers, by the second reader" "$("$second" batch <"$room/all_layers" | awk -F '[\t ]' '$2 == "sheet" { n++ } END { print n + 0 " accepted, " NR - n " differ" }')"
 # Every one of the old manner but one keeps the rules of the old edition; that one has a number that is too long.
-tell "old layers, by the second reader" "$("$second" batch --edition old <"$room/all_old_layers" | awk -F '[\t ]' '$2 == "sheet" { n++ } $3 == 5 { m++ } END { print n + 0 " accepted, " m + 0 " refused with 5, " NR - n - (m == 1) " differ" }')"
+old_layers() { # PROGRAM
+    "$@" batch --edition old <"$room/all_old_layers" | awk -F '[\t ]' '
+        $2 == "sheet" { n++ } $2 == "refused" && $3 == 5 { m++ }
+        END { print n + 0 " accepted, " m + 0 " refused with 5, " NR - n - (m == 1) " differ" }'
+}
+tell "old layers, by the second reader" "$(old_layers "$second")"
+tell "old layers, by the sample host" "$(old_layers "${imager[@]}")"
 
 # A case without an expected listing is one of questions; most of those have more items than a listing could print.
 for file in "$room"/cases/*.gbr; do [ ! -f "${file%.gbr}.expected" ] || echo "$file"; done | by_listing "cases"
@@ -143,26 +159,27 @@ by_batch "generated" "$room/all_generated"
 by_batch "generated" "$room/all_generated" --room 3,2,1,4
 by_batch "generated" "$room/all_generated" --room 8,3,1,10
 awk 'NR % 80 == 0' "$room/all_generated" | by_question "generated"
-numbers=(2 3 4 5 6 7 8 9 10 11 12 13 14 15 16 17 18 19 29)
+by_batch "cases" "$room/all_cases" --edition old
+by_batch "layers" "$room/all_layers" --edition old
+by_batch "generated for the newer edition" "$room/all_generated" --edition old
+by_both_editions "cases" "$room/all_cases"
+by_both_editions "layers" "$room/all_layers"
+by_both_editions "generated" "$room/all_generated"
 for terms in "--letters new" "--edition old" "--edition old --letters new"; do
     read -r -a terms <<<"$terms"
-    knows sheet "${terms[@]}" || continue
     rm -r "$room/generated"
     "$second" make 7 4000 "$room/generated" "${terms[@]}"
     find "$room/generated" -name '*.gbr' | sort >"$room/all_generated"
     by_batch "generated" "$room/all_generated" "${terms[@]}"
     by_batch "generated" "$room/all_generated" --room 3,2,1,4 "${terms[@]}"
     awk 'NR % 80 == 0' "$room/all_generated" | by_question "generated" "${terms[@]}"
-    if [[ ${terms[*]} == *"--edition old"* ]]; then
-        by_batch "old layers" "$room/all_old_layers" "${terms[@]}"
-        numbers+=(30 31)
-    fi
+    [[ ${terms[*]} != *"--edition old"* ]] || by_batch "old layers" "$room/all_old_layers" "${terms[@]}"
 done
 by_mode mend 100 mend --raw # what was changed, in tests/mend.sh
 by_mode placement 600 placement
 by_mode placement 100 placement --out 60
 # Files of 16,777,217 bytes are tried elsewhere (1).
-for number in "${numbers[@]}"; do
+for number in {2..19} 29 30 31; do
     grep -q "^refused $number " "$room/answers" || tell "refused with $number" "no file, 1 differ"
 done
 [ "$faults" -eq 0 ]

@@ -1,4 +1,5 @@
-/* The calls for a host, tried from C: widths, every number, zeros to the full length, damaged stores, items in any order, rooms. */
+/* The calls for a host, tried from C: widths, every number of either edition, zeros to the full length, damaged stores, items in any
+ * order, rooms, the short call. */
 #include <inttypes.h>
 #include <stddef.h>
 #include <stdio.h>
@@ -73,8 +74,7 @@ static void soil(uint64_t *p, size_t words)
         p[i] = garbage;
 }
 
-/* A reading by a rule of letters with so many words of each room. The rooms end at their fences, so the words lent are their last ones. */
-static void read_by(uint64_t letters, struct lent *l, const uint8_t *file, size_t bytes)
+static void soil_all(struct lent *l)
 {
     soil(l->head, SHEET_HEAD_WORDS);
     soil(l->entries, l->e);
@@ -82,16 +82,37 @@ static void read_by(uint64_t letters, struct lent *l, const uint8_t *file, size_
     soil(l->macros, l->m);
     soil(l->numbers, l->n);
     l->place = l->unit = l->rounded = garbage;
-    l->number = sheet_read(letters, file, bytes, l->head, l->entries, l->e, l->apertures, l->a, l->macros, l->m,
-                           (int64_t *)(void *)l->numbers, l->n, &l->place, &l->unit, &l->rounded);
+}
+
+static void all_guards_hold(const struct lent *l)
+{
     expect(guards_hold(l->head) && guards_hold(l->entries) && guards_hold(l->apertures) && guards_hold(l->macros) &&
                guards_hold(l->numbers),
            "a guard word was written", l->number);
 }
 
+/* A reading by an edition and a rule of letters with so many words of each room. The rooms end at their fences, so the words lent are
+ * their last ones. */
+static void read_by(uint64_t edition, uint64_t letters, struct lent *l, const uint8_t *file, size_t bytes)
+{
+    soil_all(l);
+    l->number = sheet_read_as(edition, letters, file, bytes, l->head, l->entries, l->e, l->apertures, l->a, l->macros, l->m,
+                              (int64_t *)(void *)l->numbers, l->n, &l->place, &l->unit, &l->rounded);
+    all_guards_hold(l);
+}
+
+/* The same by the short call, which names no edition: for its own test alone. */
+static void read_short(uint64_t letters, struct lent *l, const uint8_t *file, size_t bytes)
+{
+    soil_all(l);
+    l->number = sheet_read(letters, file, bytes, l->head, l->entries, l->e, l->apertures, l->a, l->macros, l->m,
+                           (int64_t *)(void *)l->numbers, l->n, &l->place, &l->unit, &l->rounded);
+    all_guards_hold(l);
+}
+
 static void read_with(struct lent *l, const uint8_t *file, size_t bytes)
 {
-    read_by(SHEET_OLD_LETTERS, l, file, bytes);
+    read_by(SHEET_NEW_EDITION, SHEET_OLD_LETTERS, l, file, bytes);
 }
 
 static int zeros(const uint64_t *p, size_t from, size_t to)
@@ -127,6 +148,7 @@ static uint64_t total_of(const struct lent *l, uint64_t *total)
 #define FS "%FSLAX36Y36*%"
 #define MO "%MOMM*%"
 #define PEN FS MO "%ADD10C,1*%D10*G01*"
+#define BLOCKS "%ABD10*%%ABD11*%%ABD12*%%ABD13*%%ABD14*%%ABD15*%%ABD16*%%ABD17*%"
 struct refusal {
     const char *file;
     uint64_t number, place;
@@ -149,22 +171,53 @@ static const struct refusal refusals[] = {
     {PEN "G75*G02*X0Y0D02*X2Y0I0J0D01*M02*", 12, 55},
     {FS MO "G01*G36*X0Y0D02*X1Y0D01*G37*M02*", 13, 44},
     {FS MO "%ABD10*%%AB*%D10*%LS2*%X0Y0D03*M02*", 14, 43},
-    {FS MO "%ABD10*%%ABD11*%%ABD12*%%ABD13*%%ABD14*%%ABD15*%%ABD16*%%ABD17*%%ABD18*%M02*", 15, 84},
+    {FS MO BLOCKS "%ABD18*%M02*", 15, 84},
     {FS MO "M02*\nG04*", 18, 25},
     {FS MO "%TFa*%%TFa*%M02*", 19, 26},
     {FS MO "G01*X0Y0D02*G36*D01*G37*M02*", 29, 36},
 };
 
+/* Those of the old edition, which has 30 and 31 and no 29; tests/films has more of them. */
+#define FILM "%FSLAX24Y24*%G70*%ADD10C,.1*%G54D10*"
+static const struct refusal old_refusals[] = {
+    {"G4 \x80*M2*", 2, 3},
+    {"", 3, 0},
+    {FILM "M2", 3, 38},
+    {FILM "G54*M2*", 4, 36},
+    {FILM "X1234567Y0D2*M2*", 5, 36},
+    {"%FSLAX24Y24*%M2*", 6, 13},
+    {FILM "G36*M0*M2*", 7, 40},
+    {FILM "G54D11*M2*", 8, 36},
+    {FILM "%AMa*1,1,1/0,0,0*%%ADD12a*%M2*", 9, 54},
+    {FILM "%ADD11R,0X1*%M2*", 10, 36},
+    {FILM "X0Y0D2*G2X1Y1I-1J0D1*M2*", 11, 43},
+    {FILM "X0Y0D2*G75*G2X2Y0I0J0D1*M2*", 12, 47},
+    {FILM "G36X0Y0D2*G1X1Y0D1*G37*M2*", 13, 55},
+    {FILM "%ABD11*%%AB*%D11*%LS2*%X0Y0D3*M2*", 14, 59},
+    {FS MO BLOCKS "%ABD18*%M2*", 15, 84},
+    {FILM "M2*\nG4*", 18, 40},
+    {FILM "%TFa*%%TFa*%M2*", 19, 42},
+    {"%FSLAX77Y77*%M2*", SHEET_UNREAD, 0},
+    {FILM "%IPPOS*%M2*", SHEET_UNREAD, 36},
+    {FILM "X0Y0D2*G2X2Y0I1J0D1*M2*", SHEET_QUADRANT, 43},
+    {FILM "X0Y0D2*G2X2Y20I101J1D1*M2*", SHEET_QUADRANT, 43},
+};
+
+static void refused_by(uint64_t edition, struct lent *l, const struct refusal *r, size_t count)
+{
+    for (; count > 0; count--, r++) {
+        read_by(edition, SHEET_OLD_LETTERS, l, (const uint8_t *)r->file, strlen(r->file));
+        expect(l->number == r->number, "another number is due", r->number);
+        expect(l->place == r->place, "another place is due", r->number);
+        expect(l->unit == SHEET_NO_UNIT && l->rounded == 0 && all_zeros(l), "a refusal leaves something", r->number);
+    }
+}
+
 static void every_refusal(void)
 {
     struct lent l = rooms(ENTRIES * 15 + 7, APERTURES * 8 + 3, MACROS * 8 + 5, NUMBERS);
-    for (size_t i = 0; i < sizeof refusals / sizeof refusals[0]; i++) {
-        const struct refusal *r = &refusals[i];
-        read_with(&l, (const uint8_t *)r->file, strlen(r->file));
-        expect(l.number == r->number, "another number is due", r->number);
-        expect(l.place == r->place, "another place is due", r->number);
-        expect(l.unit == SHEET_NO_UNIT && l.rounded == 0 && all_zeros(&l), "a refusal leaves something", r->number);
-    }
+    refused_by(SHEET_NEW_EDITION, &l, refusals, sizeof refusals / sizeof refusals[0]);
+    refused_by(SHEET_OLD_EDITION, &l, old_refusals, sizeof old_refusals / sizeof old_refusals[0]);
     uint8_t *large = malloc(SHEET_FILE_LIMIT + 1);
     if (!large)
         exit(1);
@@ -505,15 +558,21 @@ static void summaries(const struct lent *l)
     expect(sheet_summary(l->head, l->entries, 0, l->apertures, l->a, scratch, 0, rows, 0) == SHEET_NOT_SHEET, "21 comes before 17", n);
 }
 
-static void ask(int of_aperture, const char *file, size_t place, const char *name, uint64_t number, uint64_t at, uint64_t bytes)
+static void ask_by(uint64_t edition, int of_aperture, const char *file, size_t place, const char *name, uint64_t number, uint64_t at,
+                   uint64_t bytes)
 {
     uint64_t a = garbage, b = garbage, n;
     const uint8_t *f = (const uint8_t *)file, *t = (const uint8_t *)name;
     if (of_aperture)
-        n = sheet_aperture_attribute(SHEET_OLD_LETTERS, f, strlen(file), place, t, strlen(name), &a, &b);
+        n = sheet_aperture_attribute(edition, SHEET_OLD_LETTERS, f, strlen(file), place, t, strlen(name), &a, &b);
     else
-        n = sheet_object_attribute(SHEET_OLD_LETTERS, f, strlen(file), place, t, strlen(name), &a, &b);
+        n = sheet_object_attribute(edition, SHEET_OLD_LETTERS, f, strlen(file), place, t, strlen(name), &a, &b);
     expect(n == number && a == at && b == bytes, "an attribute's answer", number);
+}
+
+static void ask(int of_aperture, const char *file, size_t place, const char *name, uint64_t number, uint64_t at, uint64_t bytes)
+{
+    ask_by(SHEET_NEW_EDITION, of_aperture, file, place, name, number, at, bytes);
 }
 
 static void attributes(void)
@@ -533,34 +592,182 @@ static void attributes(void)
     ask(0, "M02*x", 0, "o", SHEET_AFTER_END, 0, 0);
 }
 
-/* The two rules of letters, and numbers that name none: 101, and zeros in all that is lent. */
-static void letters(void)
+/* The two rules of letters, by either edition. */
+static const char letters_file[] = "%FSLAX26Y26*%%MOMM*%G04 \303\251*%TO.C,\342\202\254*%X0Y0D02*M02*";
+
+static void letters(uint64_t edition)
 {
-    static const char file[] = "%FSLAX26Y26*%%MOMM*%G04 \303\251*%TO.C,\342\202\254*%X0Y0D02*M02*";
-    static const uint64_t none[] = {0, 3, 100, 101, UINT64_MAX};
-    const uint8_t *f = (const uint8_t *)file;
-    size_t bytes = sizeof file - 1;
+    const uint8_t *f = (const uint8_t *)letters_file;
+    size_t bytes = sizeof letters_file - 1;
     uint64_t at, count, place;
+    uint8_t digest[SHEET_DIGEST_BYTES];
+    struct lent l = rooms(30, 16, 16, 4);
+    read_by(edition, SHEET_OLD_LETTERS, &l, f, bytes);
+    expect(l.number == SHEET_BYTE && l.place == 24 && all_zeros(&l), "a letter is 2 under the old rule", l.place);
+    read_by(edition, SHEET_NEW_LETTERS, &l, f, bytes);
+    expect(l.number == SHEET_ACCEPTED && l.unit == SHEET_MM, "and stands under the new one", l.number);
+    expect(sheet_object_attribute(edition, SHEET_NEW_LETTERS, f, bytes, 38, (const uint8_t *)".C", 2, &at, &count) == 0 && at == 33 &&
+               count == 3,
+           "a value of three bytes", at);
+    expect(sheet_signature(edition, SHEET_NEW_LETTERS, f, bytes, &place, digest) == SHEET_UNSIGNED && place == bytes - 4, "no signature",
+           place);
+}
+
+/* Numbers of which one names no edition or no rule of letters: 101 from every call, before all else, and zeros in all that is lent.
+ * tests/mending.c has the call that mends. */
+static void no_book(uint64_t edition, uint64_t rule)
+{
+    const uint8_t *f = (const uint8_t *)letters_file;
+    size_t bytes = sizeof letters_file - 1;
+    uint64_t at = garbage, count = garbage, place = garbage, of = edition != 1 && edition != 2 ? edition : rule;
     uint8_t digest[SHEET_DIGEST_BYTES], zero[SHEET_DIGEST_BYTES] = {0};
     struct lent l = rooms(30, 16, 16, 4);
-    read_by(SHEET_OLD_LETTERS, &l, f, bytes);
-    expect(l.number == SHEET_BYTE && l.place == 24 && all_zeros(&l), "a letter is 2 under the old rule", l.place);
-    read_by(SHEET_NEW_LETTERS, &l, f, bytes);
-    expect(l.number == SHEET_ACCEPTED && l.unit == SHEET_MM, "and stands under the new one", l.number);
-    expect(sheet_object_attribute(SHEET_NEW_LETTERS, f, bytes, 38, (const uint8_t *)".C", 2, &at, &count) == 0 && at == 33 && count == 3,
-           "a value of three bytes", at);
-    expect(sheet_signature(SHEET_NEW_LETTERS, f, bytes, &place, digest) == SHEET_UNSIGNED && place == bytes - 4, "no signature", place);
+    memset(digest, 165, sizeof digest);
+    read_by(edition, rule, &l, f, bytes);
+    expect(l.number == SHEET_NO_BOOK && l.place == 0 && l.unit == 0 && l.rounded == 0 && all_zeros(&l), "no book, no reading", of);
+    expect(sheet_object_attribute(edition, rule, f, bytes, 38, f, 1, &at, &count) == SHEET_NO_BOOK && at == 0 && count == 0, "nor a TO", of);
+    at = count = garbage;
+    expect(sheet_aperture_attribute(edition, rule, f, bytes, 38, f, 1, &at, &count) == SHEET_NO_BOOK && at == 0 && count == 0, "nor a TA", of);
+    expect(sheet_signature(edition, rule, f, bytes, &place, digest) == SHEET_NO_BOOK && place == 0 && memcmp(digest, zero, sizeof zero) == 0,
+           "nor a signature", of);
+}
+
+static void no_books(void)
+{
+    static const uint64_t none[] = {0, 3, 100, 101, UINT64_C(0x100000001), UINT64_MAX};
     for (size_t i = 0; i < sizeof none / sizeof none[0]; i++) {
-        read_by(none[i], &l, f, bytes);
-        expect(l.number == SHEET_NO_LETTERS && l.place == 0 && l.unit == 0 && l.rounded == 0 && all_zeros(&l), "no rule of letters", none[i]);
-        at = count = place = garbage;
-        memset(digest, 165, sizeof digest);
-        expect(sheet_object_attribute(none[i], f, bytes, 38, f, 1, &at, &count) == SHEET_NO_LETTERS && at == 0 && count == 0, "nor of a TO", none[i]);
-        at = count = garbage;
-        expect(sheet_aperture_attribute(none[i], f, bytes, 38, f, 1, &at, &count) == SHEET_NO_LETTERS && at == 0 && count == 0, "nor of a TA", none[i]);
-        expect(sheet_signature(none[i], f, bytes, &place, digest) == SHEET_NO_LETTERS && place == 0 && memcmp(digest, zero, sizeof zero) == 0,
-               "nor of a signature", none[i]);
+        for (uint64_t known = 1; known <= 2; known++) {
+            no_book(none[i], known);
+            no_book(known, none[i]);
+        }
+        no_book(none[i], none[i]);
     }
+}
+
+/* A film in the old manner, its items worked out by hand: trailing zeros left out of four digits, so that `1` is 10 inches; steps from
+ * point to point; a line by a rectangle; an arc of 90 degrees clockwise about (20, 10), whose I and J have no signs; its start as its end,
+ * which is a line; a region whose contour starts where the arc ended. */
+static const char film[] = "%FSTIX22Y22*%G70*%ADD10R,1X1*%%ADD11C,1*%G54D10*G1X1Y1D2*X0001D1*X-0001D2*D11*G2X1Y1I1J0D1*X0Y0I1J0D1*\n"
+                           "G1*G36D1*G37*M2*";
+
+static void films(void)
+{
+    static const int64_t inch = 1000000;
+    const uint8_t *f = (const uint8_t *)film;
+    size_t bytes = sizeof film - 1;
+    struct lent l = rooms(5 * SHEET_ENTRY_WORDS, 2 * SHEET_APERTURE_WORDS, 0, 3);
+    struct sheet_item items[6], want[6];
+    memset(want, 0, sizeof want);
+    read_by(SHEET_OLD_EDITION, SHEET_OLD_LETTERS, &l, f, bytes);
+    expect(l.number == SHEET_ACCEPTED && l.place == 0 && l.unit == SHEET_INCH && l.rounded == 0, "the film is accepted",
+           l.number * 1000 + l.place);
+    expect(l.head[SHEET_HEAD_ENTRIES] == 5 && l.head[SHEET_HEAD_TOTAL] == 5, "it has five items", l.head[SHEET_HEAD_TOTAL]);
+    static const char *const at[] = {"X0001D1*", "G2X1", "X0Y0I1", "G36D1", "G36D1"};
+    for (int i = 0; i < 5; i++) {
+        want[i].scale = 1000000;
+        want[i].place = want[i].outer = (uint64_t)(strstr(film, at[i]) - film);
+        want[i].start_x = want[i].end_x = want[i].start_y = want[i].end_y = 20 * inch;
+    }
+    want[0].kind = SHEET_LINE, want[0].aperture = 10;
+    want[0].start_x = want[0].start_y = want[0].end_y = 10 * inch, want[0].end_x = 10 * inch + inch / 100;
+    want[1].kind = SHEET_CW, want[1].aperture = 11;
+    want[1].start_x = want[1].start_y = want[1].centre_y = 10 * inch, want[1].centre_x = 20 * inch;
+    want[2].kind = SHEET_LINE, want[2].aperture = 11;
+    want[3].kind = SHEET_CONTOUR_START, want[3].count = 1, want[3].end_x = want[3].end_y = 0;
+    want[4].kind = SHEET_EDGE_LINE;
+    expect(items_at(&l, 0, &items->kind, 6 * SHEET_ITEM_WORDS) == 0, "a film's items are answered", 0);
+    for (uint64_t i = 0; i < 6; i++)
+        expect(memcmp(&items[i], &want[i], sizeof want[i]) == 0, "a film's item is the one worked out", i);
+    read_with(&l, f, bytes);
+    expect(l.number == SHEET_FORM && l.place == 0 && all_zeros(&l), "by the newer edition it is 4", l.number);
+    struct lent less = rooms(5 * SHEET_ENTRY_WORDS - 1, 2 * SHEET_APERTURE_WORDS, 0, 3);
+    read_by(SHEET_OLD_EDITION, SHEET_OLD_LETTERS, &less, f, bytes);
+    expect(less.number == SHEET_ROOM && less.place == want[3].place && all_zeros(&less), "a film in too little room is 17", less.place);
+}
+
+/* What else the old edition has of its own: codes with their operations in attribute calls, 30 there, and `M2`. */
+static void old_calls(void)
+{
+    static const char file[] = "%TAa,v*%%TOo,w*%G36X0Y0D2*%TD*%G1X1Y1D1*M2*", unread[] = "%KOC*%M2*", note[] = "G4*M2*";
+    size_t d1 = (size_t)(strstr(file, "G1X1") - file), g36 = (size_t)(strstr(file, "G36") - file);
+    uint64_t place = garbage;
+    uint8_t digest[SHEET_DIGEST_BYTES];
+    ask_by(SHEET_OLD_EDITION, 1, "%TAa,v*%G36X0Y0D2*G1X1Y1D1*M2*", 18, "a", 0, 5, 1);
+    ask_by(SHEET_OLD_EDITION, 1, file, d1, "a", SHEET_NOT_HELD, 0, 0);
+    ask_by(SHEET_OLD_EDITION, 0, file, g36, "o", 0, 13, 1);
+    ask_by(SHEET_NEW_EDITION, 0, file, g36, "o", SHEET_FORM, 0, 0);
+    ask_by(SHEET_OLD_EDITION, 0, unread, 0, "o", SHEET_UNREAD, 0, 0);
+    ask_by(SHEET_OLD_EDITION, 1, unread, 0, "o", SHEET_UNREAD, 0, 0);
+    ask_by(SHEET_NEW_EDITION, 1, unread, 0, "o", SHEET_FORM, 0, 0);
+    expect(sheet_signature(SHEET_OLD_EDITION, SHEET_OLD_LETTERS, (const uint8_t *)note, 6, &place, digest) == SHEET_UNSIGNED && place == 3,
+           "M2 ends an old film", place);
+    expect(sheet_signature(SHEET_OLD_EDITION, SHEET_OLD_LETTERS, (const uint8_t *)unread, 9, &place, digest) == SHEET_UNSIGNED && place == 6,
+           "a signature gives no 30", place);
+    expect(sheet_signature(SHEET_NEW_EDITION, SHEET_OLD_LETTERS, (const uint8_t *)note, 6, &place, digest) == SHEET_ENDS && place == 6,
+           "and no file of the newer edition", place);
+}
+
+/* The most entries that a file of n bytes uses, in the room that the header gives for n bytes: flashes, contours of one edge, one contour
+ * of many, and regions with lines between them, as short as the old edition writes them. */
+static void most_entries(void)
+{
+    static const char *const unit[] = {"D3*", "D1*D2*", "D1*", "G36D1*G37D1*"}, *const end[] = {"M2*", "G37*M2*", "G37*M2*", "M2*"};
+    static const char *const start[] = {"%ADD10C,0*%D10*X0Y0D2*", "G36X0Y0D2*", "G36X0Y0D2*", "%ADD10C,0*%D10*X0Y0D2*"};
+    static const uint64_t each[] = {1, 2, 1, 3}, more[] = {0, 0, 1, 0};
+    for (int i = 0; i < 4; i++) {
+        char file[4096] = "%FSLAX06Y06*%G71*G1*";
+        strcat(file, start[i]);
+        for (int k = 0; k < 200; k++)
+            strcat(file, unit[i]);
+        strcat(file, end[i]);
+        size_t n = strlen(file);
+        struct lent l = rooms(sheet_entries_for(n) * SHEET_ENTRY_WORDS, sheet_apertures_for(n) * SHEET_APERTURE_WORDS, 0, 4);
+        read_by(SHEET_OLD_EDITION, SHEET_OLD_LETTERS, &l, (const uint8_t *)file, n);
+        expect(l.number == SHEET_ACCEPTED && l.head[SHEET_HEAD_ENTRIES] == 200 * each[i] + more[i], "the header's room is enough", l.number);
+        expect(i == 3 || l.head[SHEET_HEAD_ENTRIES] > n / 4, "and a fourth of the bytes would not be", l.head[SHEET_HEAD_ENTRIES]);
+    }
+}
+
+/* The short call names no edition. Request [10] of document 02 turns it round: then this is SHEET_OLD_EDITION, here and nowhere else. */
+enum { SHORT_EDITION = SHEET_NEW_EDITION, OTHER_EDITION = 3 - SHORT_EDITION };
+
+/* The short call answers as the long one does with that edition, on files that the two editions answer otherwise. */
+static void short_call(void)
+{
+    static const char *const files[] = {
+        FS MO "%ADD10C,1*%G54D10*M02*",
+        "%FSLIX24Y24*%" MO "M02*",
+        FS MO "G01*X0Y0D02*G36*D01*G37*M02*",
+        FS MO "%IPPOS*%M02*",
+    };
+    static const uint64_t none[] = {0, 3, UINT64_MAX};
+    size_t entries = 4 * SHEET_ENTRY_WORDS;
+    struct lent s = rooms(entries, 8, 8, 4), l = rooms(entries, 8, 8, 4), o = rooms(entries, 8, 8, 4);
+    for (size_t i = 0; i < sizeof files / sizeof files[0]; i++) {
+        const uint8_t *f = (const uint8_t *)files[i];
+        size_t n = strlen(files[i]);
+        read_short(SHEET_OLD_LETTERS, &s, f, n);
+        read_by(SHORT_EDITION, SHEET_OLD_LETTERS, &l, f, n);
+        read_by(OTHER_EDITION, SHEET_OLD_LETTERS, &o, f, n);
+        expect(s.number == l.number && s.place == l.place && s.unit == l.unit && s.rounded == l.rounded, "the short call's edition", i);
+        expect(memcmp(s.head, l.head, SHEET_HEAD_WORDS * 8) == 0 && memcmp(s.entries, l.entries, l.e * 8) == 0 &&
+                   memcmp(s.apertures, l.apertures, l.a * 8) == 0 && memcmp(s.macros, l.macros, l.m * 8) == 0 &&
+                   memcmp(s.numbers, l.numbers, l.n * 8) == 0,
+               "the short call's stores", i);
+        expect(s.number != o.number, "the other edition answers otherwise", i);
+    }
+    for (size_t i = 0; i < sizeof none / sizeof none[0]; i++) {
+        read_short(none[i], &s, (const uint8_t *)files[0], strlen(files[0]));
+        expect(s.number == SHEET_NO_BOOK && s.place == 0 && s.unit == 0 && s.rounded == 0 && all_zeros(&s), "no letters, no reading", none[i]);
+    }
+}
+
+/* The numbers that the proved code has for what the header names. */
+static void constants(void)
+{
+    expect(SHEET_NEW_EDITION == 1 && SHEET_OLD_EDITION == 2, "editions by number", 0);
+    expect(SHEET_OLD_LETTERS == 1 && SHEET_NEW_LETTERS == 2, "rules of letters by number", 0);
+    expect(SHEET_OWN_MOVE == 29 && SHEET_UNREAD == 30 && SHEET_QUADRANT == 31 && SHEET_NO_BOOK == 101, "the later numbers", 0);
 }
 
 int main(void)
@@ -571,6 +778,7 @@ int main(void)
     expect(sheet_item_words() == SHEET_ITEM_WORDS, "the width of an item", sheet_item_words());
     expect(sheet_row_words() == SHEET_ROW_WORDS, "the width of a row", sheet_row_words());
     expect(sheet_scratch_words() == SHEET_SCRATCH_WORDS, "the width of scratch", sheet_scratch_words());
+    constants();
     every_refusal();
     too_many_items();
     rounded_decimals();
@@ -581,7 +789,13 @@ int main(void)
     summaries(&l);
     damaged(&l);
     attributes();
-    letters();
+    letters(SHEET_NEW_EDITION);
+    letters(SHEET_OLD_EDITION);
+    no_books();
+    films();
+    old_calls();
+    most_entries();
+    short_call();
     printf("host: %u tried, %u faults\n", tried, faults);
     return faults != 0;
 }

@@ -1,6 +1,7 @@
-/* letters N: reads every string of up to N bytes from 128 up as a field, `%TFa,` string `*%`, by the new rule of letters, over rooms of no
- * record. Such a file has no M02, and is refused with 2 at the fault or with 3. Prints for each length how many strings there are, how many
- * of them without fault, and the FNV-1a hash of their numbers and places, a byte each, as `second letters N --letters new` does. */
+/* letters N: reads every string of up to N bytes from 128 up as a field, `%TFa,` string `*%`, by the newer edition and the new rule of
+ * letters, over rooms of no record. Such a file has no M02, and is refused with 2 at the fault or with 3. Prints for each length how many
+ * strings there are, how many of them without fault, and the FNV-1a hash of their numbers and places, a byte each, as
+ * `second letters N --letters new` does. */
 #include <inttypes.h>
 #include <stdio.h>
 #include <stdlib.h>
@@ -37,8 +38,8 @@ static void all_of(size_t length)
     memset(file + HEAD, 128, length);
     memcpy(file + HEAD + length, "*%", 2);
     do {
-        uint64_t number = sheet_read(SHEET_NEW_LETTERS, file, HEAD + length + 2, head, none, 0, none, 0, none, 0, numbers, 0, &place,
-                                     &unit, &rounded);
+        uint64_t number = sheet_read_as(SHEET_NEW_EDITION, SHEET_NEW_LETTERS, file, HEAD + length + 2, head, none, 0, none, 0, none, 0,
+                                        numbers, 0, &place, &unit, &rounded);
         hash = with_byte(with_byte(hash, number), place);
         count++;
         good += number != SHEET_BYTE;

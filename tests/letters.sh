@@ -1,6 +1,6 @@
 #!/usr/bin/env bash
-# Every string of up to four bytes from 128 up as an attribute's field, by the new rule of letters (two bytes under an emulator): the proved
-# reader, from C, and the second one answer each with the same number at the same place.
+# Every string of up to four bytes from 128 up as an attribute's field, by the newer edition and the new rule of letters (two bytes under an
+# emulator): the proved reader, from C, and the second one answer each with the same number at the same place.
 set -eu
 cd "$(dirname "$0")/.."
 emulator=$(host/build --emulator)

@@ -1,8 +1,8 @@
 #!/usr/bin/env bash
 # Mending: the call from C (tests/mending.c), also under AddressSanitizer where it runs; the program mend, its output, its words and its exit
-# status; the sample host against the second reader on broken files that are
-# made for it, with room for all and in small rooms, under every edition and rule of letters that it knows; and on cuts of real layers that
-# stand beside the repository, where they do: ten of them, at each of their last 150 bytes, or as many as are asked for.
+# status; the sample host against the second reader on broken files that are made for it, with room for all and in small rooms, under both
+# editions and both rules of letters; and on cuts of real layers and films that stand beside the repository, where they do: up to ten of each, at
+# each of their last 150 bytes, or as many as are asked for.
 #   tests/mend.sh [CUTS [FILES [SEED]]]
 set -eu
 cd "$(dirname "$0")/.."
@@ -46,6 +46,15 @@ tried "${layer}%MOIN*%M02*" "" 1 'not mended (33)'
 tried "${layer}G04 \0303\0251*\n" "" 1 'not mended (33)'
 tried "${layer}G04 \0303\0251*\n" "${layer}G04 \0303\0251*M02*" 0 'at byte 56: the file stops' --letters new
 tried "" "" 2 'usage' --letters
+tried "" "" 2 'usage' --edition
+tried "" "" 2 'usage' --edition older
+tried "" "" 2 'usage' --edition old --letters new layer
+film='%FSTIX23Y23*%G70*%ADD10R,.1X.1*%G54D10*G1X1Y1D3*'
+tried "${film}M2*\n" "${film}M2*\n" 0 'nothing to mend' --edition old
+tried "${film}M2*-- \nSent\n" "${film}M2*" 0 'at byte 51: more follows' --letters old --edition old
+tried "${film}G4 \0303\0251*\nG54" "${film}G4 \0303\0251*M02*" 0 'at byte 54: the file stops' --edition old --letters new
+tried "${film}%IPPOS*%M2*" "" 1 'not mended (33)' --edition old
+tried "${film}M2*" "" 1 'not mended (33)' --edition new
 head -c 16777217 /dev/zero >"$room/long"
 if mend <"$room/long" >"$room/out" 2>"$room/said" || [ -s "$room/out" ] || ! grep -q 'not mended (1)' "$room/said"; then
     echo "mend: of a file that is too long it says '$(cat "$room/said")'"
@@ -67,12 +76,6 @@ agree() { # WHAT
 
 for terms in "" "--letters new" "--edition old" "--edition old --letters new"; do
     read -r -a terms <<<"$terms"
-    status=0
-    imager mend "${terms[@]}" </dev/null >/dev/null 2>&1 || status=$?
-    if [ "$status" -eq 2 ]; then
-        echo "mend: the sample host does not know ${terms[*]} yet"
-        continue
-    fi
     rm -rf "$room/made"
     "$second" make "$seed" "$files" "$room/made" --for mend "${terms[@]}"
     find "$room/made" -name '*.gbr' | sort >"$room/names"
@@ -84,21 +87,24 @@ for terms in "" "--letters new" "--edition old" "--edition old --letters new"; d
     done
 done
 
-# Ten layers, every third of those from 3,000 bytes on, up to some 90,000.
-archive=../shared/corpus/kicad-layers.tgz
-if [ ! -f "$archive" ]; then
-    echo "mend: no $archive, no layer is cut"
-    exit 0
-fi
-mkdir "$room/layers"
-tar xzf "$archive" -C "$room/layers"
-find "$room/layers" -name '*.gbr' -size +2999c -size -90000c -printf '%s %p\n' | sort -n | awk 'NR % 3 == 1 { print $2 }' | head -n 10 >"$room/ten"
-: >"$room/every"
-: >"$room/every_other"
-while read -r layer; do
-    imager cuts "$cuts" --room 8000,800,100,8000 <"$layer" >>"$room/every"
-    "$second" cuts "$cuts" --room 8000,800,100,8000 <"$layer" >>"$room/every_other"
-done <"$room/ten"
-mv "$room/every" "$room/one"
-mv "$room/every_other" "$room/other"
-agree "$(wc -l <"$room/ten") layers cut at each of their last $cuts bytes"
+# Ten layers, every third of those from 3,000 bytes on, up to some 90,000, each cut at its last bytes.
+cut_layers() { # LAYERS [TERMS]
+    local layers=$1 archive=../shared/corpus/$1.tgz layer
+    shift
+    if [ ! -f "$archive" ]; then
+        echo "mend: no $archive, no layer is cut"
+        return 0
+    fi
+    mkdir "$room/$layers"
+    tar xzf "$archive" -C "$room/$layers"
+    find "$room/$layers" -name '*.gbr' -size +2999c -size -90000c -printf '%s %p\n' | sort -n | awk 'NR % 3 == 1 { print $2 }' | head -n 10 >"$room/ten"
+    : >"$room/one"
+    : >"$room/other"
+    while read -r layer; do
+        imager cuts "$cuts" --room 8000,800,100,8000 "$@" <"$layer" >>"$room/one"
+        "$second" cuts "$cuts" --room 8000,800,100,8000 "$@" <"$layer" >>"$room/other"
+    done <"$room/ten"
+    agree "$(wc -l <"$room/ten") of $layers cut at each of their last $cuts bytes${*:+, $*}"
+}
+cut_layers kicad-layers
+cut_layers old-layers --edition old

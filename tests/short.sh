@@ -1,6 +1,6 @@
 #!/usr/bin/env bash
-# Every string of up to three bytes as a file (two under an emulator): the proved reader, from C, and the second one answer each with the
-# same number at the same place.
+# Every string of up to three bytes as a file (two under an emulator), by both editions: the proved reader, from C, and the second one
+# answer each with the same number at the same place.
 set -eu
 cd "$(dirname "$0")/.."
 emulator=$(host/build --emulator)
@@ -10,10 +10,12 @@ CARGO_NET_OFFLINE=true cargo build --release --quiet --manifest-path second/Carg
 
 longest=${emulator:+2}
 longest=${longest:-3}
-proved=$(${emulator:+"$emulator"} "$made/short" "$longest")
-second=$(target/second/release/second short "$longest")
-echo "short: $(printf '%s' "$proved" | cut -f 3) strings"
-if [ "$proved" != "$second" ]; then
-    echo "short: the readers differ: $proved, $second"
-    exit 1
-fi
+for edition in new old; do
+    proved=$(${emulator:+"$emulator"} "$made/short" "$longest" --edition "$edition")
+    second=$(target/second/release/second short "$longest" --edition "$edition")
+    echo "short: $(printf '%s' "$proved" | cut -f 3) strings, edition $edition"
+    if [ "$proved" != "$second" ]; then
+        echo "short: the readers differ: $proved, $second"
+        exit 1
+    fi
+done

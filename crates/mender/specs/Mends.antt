@@ -5,6 +5,7 @@ use mathlib.Core.List.{List}
 use lib.ListN.{length, replicate}
 use Rattle.book.specs.declared.Book.{Book}
 use Rattle.commands.specs.Rounded.{roundedIn}
+use Rattle.running.specs.Units.{unitIn}
 use Rattle.reading.specs.State.{State}
 use Rattle.progress.specs.Lent.{Lent}
 use Rattle.reader.specs.Leaves.{Leaves}
@@ -18,7 +19,7 @@ use Rattle.mender.specs.declared.Answer.the-variants as answer
 
 -- the mended file, its changes and its sheet, zeros behind each; w is what was lent for the sheet, w′ what it is at the end
 pub record Given (book : Book) (s : State) (w w′ : Lent) (bytes : ℕ) (out : List ℕ) (words : ℕ) (noted head : List ℕ) (r : code.Answer) : Type 0 where
-  pub answer : r ≡ answer.Mended (length (mended book (w .file))) (length (changes book (w .file))) (s .graphics .format .unit) (roundedIn book (mended book (w .file)))
+  pub answer : r ≡ answer.Mended (length (mended book (w .file))) (length (changes book (w .file))) (unitIn (s .graphics .header)) (roundedIn book (mended book (w .file)))
   pub file-left : out ≡ written bytes (mended book (w .file))
   pub report-left : noted ≡ written words (report book (w .file))
   pub as-long : AsLong w w′

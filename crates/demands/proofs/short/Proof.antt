@@ -1,6 +1,7 @@
 -- `demands::short` meets its contract: what the short call promises is what is demanded of it.
 -- Assumes nothing.
 use borrow.Author.Needs.{needs}
+use Rattle.progress.specs.Lent.{lentOf}
 use Rattle.demands.proofs.Demands.{short-demands}
 use Rattle.demands.proofs.short.Statement.{statement}
 use Rattle.demands.proofs.short.Tie as tie
@@ -21,7 +22,8 @@ same-length-4 : tie.Need-same-length-4
 same-length-4 c = search needs
 
 returns : tie.Need-returns
-returns c = short-demands (c .before .before .before .before .before .before .before .read .ensures)
+unfolding lentOf
+returns c = short-demands (lentOf _ _ _ _ _) (lentOf _ _ _ _ _) (c .before .before .before .before .before .before .before .read .ensures)
 
 pub short-spec : {M : Type 1} → statement M
 short-spec =
