@@ -18,7 +18,8 @@ use Rattle.progress.specs.Lent.{Lent}
 use Rattle.reader.specs.Reads.{Reads, Zeroed}
 use Rattle.reader.specs.declared.Answer as code
 use Rattle.reader.specs.declared.Answer.the-variants as answer
-use Rattle.numbered.specs.Choice.{bookOf, withLetters, choiceOf}
+use Rattle.reader.specs.Short.{shortOf}
+use Rattle.numbered.specs.Choice.{bookOf, withLetters, choiceOf, shortChoice}
 use Rattle.numbered.specs.Calls.{attributeBy, signatureBy, readingBy, roundedBy}
 use Rattle.numbered.specs.declared.Choice.{Choice}
 use Rattle.numbered.specs.declared.Choice.the-variants.{By, Unknown}
@@ -51,6 +52,20 @@ module _ (m n : ℕ) where
     unfolding choiceOf
     edition-none p = rw (ne-eqb m 1 other, ne-eqb m 2 p)
 
+module _ (n : ℕ) where
+  pub short-old : n ≡ 1 → By (shortOf letters.Old) ≡ shortChoice n
+  unfolding shortChoice
+  short-old p = rw (eq-eqb n 1 p)
+
+  module _ (other : n ≡ 1 → ⊥) where
+    pub short-new : n ≡ 2 → By (shortOf letters.New) ≡ shortChoice n
+    unfolding shortChoice
+    short-new p = rw (ne-eqb n 1 other, eq-eqb n 2 p)
+
+    pub short-none : (n ≡ 2 → ⊥) → Unknown ≡ shortChoice n
+    unfolding shortChoice
+    short-none p = rw (ne-eqb n 1 other, ne-eqb n 2 p)
+
 -- a book is named
 module _ {c : Choice} {book : Book} (e : c ≡ By book) (file : List ℕ) where
   pub attribute-by : (kind : Kind) (place : ℕ) (name : List ℕ) → attribute.attributeOf book file kind place name ≡ attributeBy c file kind place name
@@ -79,3 +94,8 @@ module _ {c : Choice} (e : c ≡ Unknown) (file : List ℕ) where
   pub reads-none : (room : Room) (w w′ : Lent) (head : List ℕ) → Zeroed w w′ head → Reads (roundedBy c file) (readingBy c room file) w w′ head (answer.Refused 101 0)
   unfolding roundedBy readingBy Reads
   reads-none room w w′ head z = rw e (refl, z)
+
+-- by one choice or another that is the same
+pub reads-so : {c c′ : Choice} → c ≡ c′ → (file : List ℕ) (room : Room) (w w′ : Lent) (head : List ℕ) (r : code.Answer) →
+    Reads (roundedBy c file) (readingBy c room file) w w′ head r → Reads (roundedBy c′ file) (readingBy c′ room file) w w′ head r
+reads-so e file room w w′ head r h = rw e at h

@@ -1,14 +1,11 @@
 -- `numbered::read_chosen` meets its contract: the book that is named reads, or none does and every word is cleared.
 -- Assumes nothing.
-use mathlib.Core.Path.{refl, sym, _∙_}
+use mathlib.Core.Path.{refl}
 use borrow.Author.Needs.{needs}
 use Rattle.progress.specs.Lent.{lentOf}
 use Rattle.numbered.proofs.Choices.{reads-by, reads-none}
 use Rattle.numbered.proofs.read_chosen.Statement.{statement}
 use Rattle.numbered.proofs.read_chosen.Tie as tie
-
-choice-of-requires : tie.Need-choice-of-requires
-choice-of-requires c κs = search needs
 
 enum-known-c : tie.Need-enum-known-c
 enum-known-c c = search needs
@@ -41,7 +38,7 @@ returns : tie.Need-returns
 returns c =
     let r = was-read c in
     let t = r .before .before .before .before .before .before .before in
-    reads-by (sym (t .before .before .choice-of .ensures) ∙ t .c .given .1) _ _ _ _ _ _ (r .read-as .ensures)
+    reads-by (t .c .given .1) _ _ _ _ _ _ (r .read-as .ensures)
 
 same-length-5 : tie.Need-same-length-5
 same-length-5 c = search needs
@@ -64,14 +61,13 @@ returns-2 c =
     let k = was-cleared c in
     let t = k .before .before .before .before .before .before in
     let z = k .clear .ensures in
-    reads-none (sym (t .before .before .choice-of .ensures) ∙ t .enum-told .given .1) _ _ (lentOf _ _ _ _ _) (lentOf _ _ _ _ _) _
+    reads-none (t .enum-told .given .1) _ _ (lentOf _ _ _ _ _) (lentOf _ _ _ _ _) _
     (record { head-is = refl; entries-are = z .0; apertures-are = z .1; macros-are = z .2; numbers-are = z .3 })
 
 pub read-chosen-spec : {M : Type 1} → statement M
 read-chosen-spec =
     tie.close
     (tie.spec
-    choice-of-requires
     enum-known-c
     read-as-requires
     enum-told
