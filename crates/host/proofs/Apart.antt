@@ -21,6 +21,6 @@ pub told-refused : (r : Answer) (n p : ℕ) → r ≡ Refused n p → Told r n p
 unfolding numberOf placeOf unitOf roundedOf
 told-refused r n p k = rw k (refl, refl, refl, refl)
 
-pub reads-into : {d : ℕ} {a : definition.Answer} {w w′ : Lent} {head : List ℕ} {r : Answer} {number place unit rounded : ℕ} →
+pub reads-into : {d : ℕ} {a : definition.Answer} {w w′ : Lent} {head : List ℕ} (r : Answer) {number place unit rounded : ℕ} →
     Reads d a w w′ head r → Told r number place unit rounded → ReadsInto d a w w′ head number place unit rounded
-reads-into {r = r} h t = record { r = r; reads = h; number-is = t .0; place-is = t .1 .0; unit-is = t .1 .1 .0; rounded-is = t .1 .1 .1 }
+reads-into r h t = record { r = r; reads = h; number-is = t .0; place-is = t .1; unit-is = t .2; rounded-is = t .3 }
