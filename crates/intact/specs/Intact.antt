@@ -1,0 +1,16 @@
+-- "An accepted file comes back unchanged with an empty report" (02, [13]; decision 544).
+use Prim.Native.Nat.{ℕ, _≤_}
+use mathlib.Core.Path.{_≡_}
+use mathlib.Core.List.{List, []}
+use lib.ListN.{length}
+use Rattle.book.specs.declared.Book.{Book}
+use Rattle.reading.specs.State.{Room, State}
+use Rattle.mending.specs.Changes.{changes}
+use Rattle.mending.specs.Rebuilt.{mended}
+use Rattle.mender.specs.Outcome.{accepted, mendingOf}
+
+-- no change applies; and where the output has its bytes, mending leaves the sheet that reading does
+pub record Intact (book : Book) (room : Room) (file : List ℕ) (s : State) : Type 0 where
+  pub empty : changes book file ≡ []
+  pub unchanged : mended book file ≡ file
+  pub the-same : (bytes words : ℕ) → length file ≤ bytes → mendingOf book room bytes words file ≡ accepted s
