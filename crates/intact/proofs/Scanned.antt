@@ -95,8 +95,8 @@ unfolding kindOf sameBytes
 not-word b s e = rw (eqb-true b 37 e) (go (sameBytes (take 2 s) (65 ∷ 77 ∷ [])) refl)
   where
     go : (t : Bool) → sameBytes (take 2 s) (65 ∷ 77 ∷ []) ≡ t → kindOf (37 ∷ s) ≡ Word → ⊥
-    go true q w = let z : _≡_ {A = ℕ} 0 1 = rw q at cc in omega arith
-    go false q w = let z : _≡_ {A = ℕ} 0 1 = rw q at cc in omega arith
+    go true q w = let m : Macro ≡ Word = rw q at w in let z : _≡_ {A = ℕ} 0 1 = cc in omega arith
+    go false q w = let m : Extended ≡ Word = rw q at w in let z : _≡_ {A = ℕ} 0 1 = cc in omega arith
 
 is-word : (b : ℕ) (s : List ℕ) → eqb b 37 ≡ false → kindOf (b ∷ s) ≡ Word
 unfolding kindOf sameBytes
