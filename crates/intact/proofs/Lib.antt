@@ -1,3 +1,4 @@
 pub mod Header
+pub mod Opens
 pub mod Says
 pub mod Scanned

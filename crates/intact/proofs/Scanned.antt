@@ -98,7 +98,7 @@ not-word b s e = rw (eqb-true b 37 e) (go (sameBytes (take 2 s) (65 ∷ 77 ∷ [
     go true q w = let m : Macro ≡ Word = rw q at w in let z : _≡_ {A = ℕ} 0 1 = cc in omega arith
     go false q w = let m : Extended ≡ Word = rw q at w in let z : _≡_ {A = ℕ} 0 1 = cc in omega arith
 
-is-word : (b : ℕ) (s : List ℕ) → eqb b 37 ≡ false → kindOf (b ∷ s) ≡ Word
+pub is-word : (b : ℕ) (s : List ℕ) → eqb b 37 ≡ false → kindOf (b ∷ s) ≡ Word
 unfolding kindOf sameBytes
 is-word b s e = rw (sameBytes, e) refl
 
@@ -116,13 +116,16 @@ module _ {file : List ℕ} {at : ℕ} {kind : Kind} {start from end next : ℕ} 
   from-end : textFrom kind start ≤ end
   from-end = rw (s .end-is) (in-from (ends kind) (drop (textFrom kind 0) (drop start file)) (textFrom kind start) .0)
 
-  start-inside : start < length file
+  pub start-end : start ≤ end
+  start-end = omega (arith, from-start, from-end)
+
+  pub start-inside : start < length file
   start-inside = omega (arith, from-start, from-end, s .inside)
 
-  first-byte : drop start file ≡ getD file start 0 ∷ drop (start + 1) file
+  pub first-byte : drop start file ≡ getD file start 0 ∷ drop (start + 1) file
   first-byte = drop-next file start start-inside
 
-  kind-of-first : kindOf (getD file start 0 ∷ drop (start + 1) file) ≡ kind
+  pub kind-of-first : kindOf (getD file start 0 ∷ drop (start + 1) file) ≡ kind
   kind-of-first = ap kindOf (sym first-byte) ∙ s .kind-is
 
 percent-first : (file : List ℕ) (at : ℕ) (kind : Kind) (start from end next : ℕ) → Scanned file at kind start from end next → (kind ≡ Word → ⊥) → getD file start 0 ≡ 37
