@@ -2,3 +2,4 @@ pub mod Header
 pub mod Opens
 pub mod Says
 pub mod Scanned
+pub mod Tidy
