@@ -1,5 +1,6 @@
 pub mod Header
 pub mod Opens
+pub mod Passing
 pub mod Says
 pub mod Scanned
 pub mod Tidy
