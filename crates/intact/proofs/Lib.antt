@@ -3,4 +3,5 @@ pub mod Opens
 pub mod Passing
 pub mod Says
 pub mod Scanned
+pub mod Sound
 pub mod Tidy
