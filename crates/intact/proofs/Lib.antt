@@ -1,4 +1,5 @@
 pub mod Header
+pub mod Intact
 pub mod Opens
 pub mod Passing
 pub mod Says

@@ -201,15 +201,21 @@ module _ (book : Book) (room : Room) (file : List ℕ) (t : State) where
   from-tidy zero f at s r = absurd (let z : 3 ≡ 0 = r .1 in omega arith)
   from-tidy (suc k) f at s r = turn-tidy k (from-tidy k) f at s (nextCommand book file at) refl r
 
-  pub kept-sound : KeepsRules book room file t → Sound book file
-  unfolding commandsOf extents
-  kept-sound k = go (fits file) refl
+  -- it is not too long
+  pub kept-fits : KeepsRules book room file t → fits file ≡ true
+  unfolding commandsOf
+  kept-fits k = go (fits file) refl
     where
-      go : (b : Bool) → fits file ≡ b → Sound book file
-      go true e =
-          let w : commandsOf book file ≡ commandsFrom book (suc (length file)) noFormat file 0 = rw e refl in
-          let y = from-tidy (suc (length file)) noFormat 0 (begun book) (subst (Reads (begun book)) w (k .commands, k .behind)) in
-          record { ends = y .ends; alone = y .alone; clean = y .clean }
+      go : (b : Bool) → fits file ≡ b → fits file ≡ true
+      go true e = e
       go false e =
           let w : commandsOf book file ≡ stopped (refusal 1 0) = rw e refl in
           absurd (let z : 1 ≡ 0 = subst (Reads (begun book)) w (k .commands, k .behind) .1 in omega arith)
+
+  pub kept-sound : KeepsRules book room file t → Sound book file
+  unfolding commandsOf extents
+  kept-sound k =
+      let f = kept-fits k in
+      let w : commandsOf book file ≡ commandsFrom book (suc (length file)) noFormat file 0 = rw f refl in
+      let y = from-tidy (suc (length file)) noFormat 0 (begun book) (subst (Reads (begun book)) w (k .commands, k .behind)) in
+      record { ends = y .ends; alone = y .alone; clean = y .clean }
