@@ -1,13 +1,12 @@
 -- FS and MO over one command: what is given stays given, and one that breaks no rule is the first of its kind.
 -- Assumes nothing.
 use Prim.Native.Nat.{ℕ}
-use mathlib.Core.Path.{_≡_, refl, sym, ap, _∙_, subst}
+use mathlib.Core.Path.{_≡_, refl, sym, ap, subst}
 use mathlib.Core.Bool.{Bool, true, false, not}
 use mathlib.Core.List.{List, [], _∷_}
 use native.Mathlib.Omega.{arith}
-use lib.Dec.{eqb, leb}
+use lib.Dec.{eqb}
 use Rattle.base.specs.And.{_and_}
-use Rattle.base.specs.Choose.{pick}
 use Rattle.base.proofs.And.{and-r}
 use Rattle.base.proofs.Faults.{unbroken}
 use Rattle.formats.specs.Format.{isFormat}
@@ -30,7 +29,6 @@ use Rattle.graphics.specs.declared.Header.{Header}
 use Rattle.graphics.specs.declared.Graphics.{Graphics}
 use Rattle.changes.specs.After.{goingTo, withFormat, withUnit, withCoded, afterSetting, afterOperation, after}
 use Rattle.reach.specs.Far.{isFormatted}
-use Rattle.rules.specs.Rules.{formatFault, unitFault}
 use Rattle.rules.specs.Settings.{settingRules, settingFault}
 use Rattle.reading.specs.State as opened
 use Rattle.reading.specs.State.{Room, Opened, State}

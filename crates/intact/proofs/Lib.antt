@@ -1,5 +1,6 @@
 pub mod Header
 pub mod Intact
+pub mod Leads
 pub mod Opens
 pub mod Passing
 pub mod Says

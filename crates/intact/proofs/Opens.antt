@@ -2,7 +2,7 @@
 -- or MO.
 -- Assumes nothing.
 use Prim.Native.Nat.{ℕ, zero, suc, _+_, _-_, _<_, _≤_}
-use mathlib.Core.Path.{_≡_, refl, sym, ap, _∙_, subst}
+use mathlib.Core.Path.{_≡_, refl, sym, ap, _∙_}
 use mathlib.Core.Bool.{Bool, true, false}
 use mathlib.Core.List.{List, [], _∷_, _++_}
 use native.Mathlib.Numerals.{add-one}
@@ -24,13 +24,12 @@ use Rattle.book.specs.declared.Book.{Book}
 use Rattle.formats.specs.declared.Format.{Format}
 use Rattle.scan.specs.Scan.{kindOf, textFrom, endOf, ends}
 use Rattle.scan.specs.declared.Kind.{Kind}
-use Rattle.scan.specs.declared.Kind.the-variants.{Word, Extended, Macro}
-use Rattle.command.specs.declared.Command.{Command}
+use Rattle.scan.specs.declared.Kind.the-variants.{Word, Extended}
 use Rattle.command.specs.declared.Command.the-variants.{End}
-use Rattle.recognise.specs.Commands.{extendedOf, commandOf}
+use Rattle.recognise.specs.Commands.{commandOf}
 use Rattle.extents.specs.Extents.{closing}
 use Rattle.mending.specs.Changes.{opens}
-use Rattle.intact.proofs.Says.{Ended, end-told, end-said, short-end-said, Formats, Units, format-said, unit-said}
+use Rattle.intact.proofs.Says.{end-told, end-said, short-end-said, Formats, Units, format-said, unit-said}
 use Rattle.intact.proofs.Scanned.{Scanned, text-so, start-end, start-inside, kind-of-first, is-word}
 
 -- the byte at the first place that passes a test passes it

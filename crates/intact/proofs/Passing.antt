@@ -1,18 +1,16 @@
 -- A command that breaks no rule passes: an FS or MO is the first of its kind, and what is given stays given; and what may stand behind M02.
 -- Assumes nothing.
 use Prim.Native.Nat.{ℕ, _+_, _≤_}
-use mathlib.Core.Path.{_≡_, refl, sym}
+use mathlib.Core.Path.{_≡_, refl}
 use mathlib.Core.Bool.{Bool, true, false, not, cond}
 use mathlib.Core.List.{List, [], _∷_}
 use native.Mathlib.Omega.{arith}
-use lib.Dec.{eqb, leb}
+use lib.Dec.{leb}
 use lib.ListN.{length, drop, getD, length-drop}
 use lib.Seq.{slice}
 use borrow.Author.Tests.{leb-true}
 use Rattle.base.specs.Breaks.{isBreak}
 use Rattle.text.specs.First.{firstIn, skipped}
-use Rattle.text.specs.Text.{text}
-use Rattle.text.proofs.First.{in-from}
 use Rattle.book.specs.declared.Book.{Book}
 use Rattle.formats.specs.declared.Format.{Format}
 use Rattle.scan.specs.Permitted.{printable}
@@ -22,13 +20,11 @@ use Rattle.scan.specs.declared.Tail.the-variants as tail
 use Rattle.command.specs.Flaws.{flawNumber}
 use Rattle.command.specs.declared.Flaw.{Flaw}
 use Rattle.command.specs.declared.Flaw.the-variants as flaw
-use Rattle.command.specs.declared.Setting.the-variants as setting
 use Rattle.command.specs.declared.Command.{Command}
-use Rattle.command.specs.declared.Command.the-variants.{Broken, Set}
 use Rattle.recognise.specs.Commands.{commandOf}
 use Rattle.bounds.specs.Bounded.{SettingBounded, Bounded}
 use Rattle.bounds.proofs.Bounds.{bounded}
-use Rattle.commands.specs.Turns.{refusal, tailFault}
+use Rattle.commands.specs.Turns.{tailFault}
 use Rattle.reading.specs.State.{Room, State}
 use Rattle.reading.specs.Steps.{stepOf}
 use Rattle.mending.specs.Changes.{follows}

@@ -1,21 +1,19 @@
 -- What the scanner finds is a complete command by extent: it begins behind the line ends, and its text stands between the same places.
 -- Assumes nothing.
 use Prim.Native.Nat.{ℕ, _+_, _-_, _<_, _≤_}
-use Prim.Native.Char.{code}
 use mathlib.Core.Path.{_≡_, refl, sym, ap, _∙_}
-use mathlib.Core.Bool.{Bool, true, false, cond, not}
+use mathlib.Core.Bool.{Bool, true, false}
 use mathlib.Core.List.{List, [], _∷_}
 use native.Mathlib.Omega.{arith}
 use lib.Dec.{eqb, ltb, leb}
-use lib.ListN.{length, drop, take, getD, length-drop}
+use lib.ListN.{length, drop, take, getD}
 use lib.Seq.{slice, drop-drop, length-slice}
 use borrow.Author.Tests.{leb-false, eqb-true, eq-eqb}
 use Rattle.book.specs.declared.Book.{Book}
-use Rattle.base.specs.Breaks.{isBreak}
 use Rattle.base.specs.Bytes.{sameBytes}
 use Rattle.base.proofs.Lists.{drop-next, part-of-part}
-use Rattle.text.specs.First.{firstIn, skipped, place}
-use Rattle.text.proofs.First.{in-from, first-from}
+use Rattle.text.specs.First.{firstIn, skipped}
+use Rattle.text.proofs.First.{in-from}
 use Rattle.scan.specs.Scan.{kindOf, textFrom, endOf, ends, cutBy, commandIn, nextCommand}
 use Rattle.scan.specs.declared.Kind.{Kind}
 use Rattle.scan.specs.declared.Kind.the-variants.{Word, Extended, Macro}

@@ -1,6 +1,6 @@
 -- A file that keeps the rules is sound: by induction over its commands, each of which is the next complete command by extent.
 -- Assumes nothing.
-use Prim.Native.Nat.{ℕ, zero, suc, _+_, _≤_}
+use Prim.Native.Nat.{ℕ, zero, suc, _+_}
 use mathlib.Core.Path.{_≡_, refl, sym, ap, _∙_, subst}
 use mathlib.Core.Bool.{Bool, true, false}
 use mathlib.Core.List.{List, [], _∷_}
@@ -16,84 +16,27 @@ use Rattle.scan.specs.Tail.{tailOf}
 use Rattle.scan.specs.declared.Kind.{Kind}
 use Rattle.scan.specs.declared.Scan.{Scan}
 use Rattle.scan.specs.declared.Scan.the-variants as scan
-use Rattle.command.specs.Flaws.{flawNumber}
-use Rattle.command.specs.declared.Flaw.{Flaw}
-use Rattle.command.specs.declared.Flaw.the-variants as flaw
-use Rattle.command.specs.declared.Setting.{Setting}
-use Rattle.command.specs.declared.Setting.the-variants as setting
 use Rattle.command.specs.declared.Command.{Command}
-use Rattle.command.specs.declared.Command.the-variants.{Broken, Note, End, Set, Operate, Coded, Select, Define, Contain, Attribute}
+use Rattle.command.specs.declared.Command.the-variants.{End}
 use Rattle.recognise.specs.Commands.{commandOf}
-use Rattle.commands.specs.Leads.{leadOfFlaw, leadOfSetting, leadOf}
+use Rattle.commands.specs.Leads.{leadOf}
 use Rattle.commands.specs.Turns.{refusal, led, turned, turnOf, tailFault}
 use Rattle.commands.specs.Commands.{Sequence, stopped, followed, commandsFrom, commandsOf}
 use Rattle.commands.specs.declared.Lead.{Lead}
 use Rattle.commands.specs.declared.Lead.the-variants as lead
 use Rattle.commands.specs.declared.Placed.{Placed}
-use Rattle.commands.specs.declared.Turn.the-variants.{Fault, Last, More}
 use Rattle.reading.specs.State.{Room, State, begun}
 use Rattle.reading.specs.Reading.{stepAt}
 use Rattle.kept.specs.Kept.{Keeps, nothing, one, KeepsRules}
-use Rattle.extents.specs.Extents.{piece, pieces, closing, extentsFrom, extents}
+use Rattle.extents.specs.Extents.{pieces, closing, extentsFrom, extents}
 use Rattle.extents.proofs.Found.{Cuts}
 use Rattle.mending.specs.Changes.{follows}
 use Rattle.mending.specs.Laws.{Sound}
+use Rattle.intact.proofs.Leads.{Leads, leads}
 use Rattle.intact.proofs.Scanned.{Scanned, scanned, cuts-so}
 use Rattle.intact.proofs.Opens.{closing-end, end-closing}
-use Rattle.intact.proofs.Tidy.{Passes, Tidy, tidy-more, tidy-last}
+use Rattle.intact.proofs.Tidy.{Tidy, tidy-more, tidy-last}
 use Rattle.intact.proofs.Passing.{passes, clean-behind}
-
--- how a command leads on: a fault has a number, and M02 alone is the last
-abbrev Leads : Command → Lead → Type 0
-Leads c (lead.Broken number) = number ≡ 0 → ⊥
-Leads c lead.Last = c ≡ End
-Leads c (lead.Format g) = c ≡ End → ⊥
-Leads c lead.Plain = c ≡ End → ⊥
-
-flaw-leads : (x : Flaw) → Leads (Broken x) (leadOfFlaw x)
-unfolding leadOfFlaw flawNumber
-flaw-leads flaw.NotForm = λ e. omega arith
-flaw-leads flaw.Unread = λ e. omega arith
-flaw-leads flaw.TooLong = λ e. let z : _≡_ {A = ℕ} 0 1 = cc in omega arith
-
-no-end : (x : Setting) → Set x ≡ End → ⊥
-no-end x e = let z : _≡_ {A = ℕ} 0 1 = cc in omega arith
-
-setting-leads : (x : Setting) → Leads (Set x) (leadOfSetting x)
-unfolding leadOfSetting
-setting-leads setting.Linear = no-end _
-setting-leads setting.Clockwise = no-end _
-setting-leads setting.Counterclockwise = no-end _
-setting-leads setting.SingleQuadrant = no-end _
-setting-leads setting.MultiQuadrant = no-end _
-setting-leads setting.RegionStart = no-end _
-setting-leads setting.RegionEnd = no-end _
-setting-leads (setting.Format f) = no-end _
-setting-leads setting.Absolute = no-end _
-setting-leads setting.Incremental = no-end _
-setting-leads setting.Millimetres = no-end _
-setting-leads setting.Inches = no-end _
-setting-leads setting.CodedMillimetres = no-end _
-setting-leads setting.CodedInches = no-end _
-setting-leads setting.Halt = no-end _
-setting-leads setting.Dark = no-end _
-setting-leads setting.Clear = no-end _
-setting-leads (setting.Mirror x y) = no-end _
-setting-leads (setting.Rotation a rounded) = no-end _
-setting-leads (setting.Scale a rounded) = no-end _
-
-leads : (c : Command) → Leads c (leadOf c)
-unfolding leadOf
-leads (Broken f) = flaw-leads f
-leads Note = λ e. let z : _≡_ {A = ℕ} 0 1 = cc in omega arith
-leads End = refl
-leads (Set x) = setting-leads x
-leads (Operate o) = λ e. let z : _≡_ {A = ℕ} 0 1 = cc in omega arith
-leads (Coded code o) = λ e. let z : _≡_ {A = ℕ} 0 1 = cc in omega arith
-leads (Select n) = λ e. let z : _≡_ {A = ℕ} 0 1 = cc in omega arith
-leads (Define d) = λ e. let z : _≡_ {A = ℕ} 0 1 = cc in omega arith
-leads (Contain b) = λ e. let z : _≡_ {A = ℕ} 0 1 = cc in omega arith
-leads (Attribute d) = λ e. let z : _≡_ {A = ℕ} 0 1 = cc in omega arith
 
 -- the complete commands from a place on are the next one and those behind it
 module _ (book : Book) (file : List ℕ) {at start next : ℕ} (c : Cuts file at start next) where
