@@ -38,9 +38,13 @@ module _ (book : Book) (room : Room) (file : List ℕ) {s : State} (e : reading.
   unfolding fileFits
   file-fits bytes h = rw itself (le-leb (length file) bytes h)
 
+  empty : report book file ≡ []
+  unfolding report words
+  empty = rw none refl
+
   report-fits : (room : ℕ) → reportFits book file room ≡ true
-  unfolding reportFits report words
-  report-fits room = rw none (le-leb 0 room (omega arith))
+  unfolding reportFits
+  report-fits room = rw empty (le-leb 0 room (omega arith))
 
   the-same : (bytes words : ℕ) → length file ≤ bytes → mendingOf book room bytes words file ≡ accepted s
   unfolding mendingOf judged
@@ -48,4 +52,4 @@ module _ (book : Book) (room : Room) (file : List ℕ) {s : State} (e : reading.
 
   -- 02, [13]
   pub intact : Intact book room file s
-  intact = record { empty = none; unchanged = itself; the-same = the-same }
+  intact = record { none = none; empty = empty; unchanged = itself; the-same = the-same }

@@ -6,11 +6,14 @@ use lib.ListN.{length}
 use Rattle.book.specs.declared.Book.{Book}
 use Rattle.reading.specs.State.{Room, State}
 use Rattle.mending.specs.Changes.{changes}
+use Rattle.mending.specs.Mended.{report}
 use Rattle.mending.specs.Rebuilt.{mended}
 use Rattle.mender.specs.Outcome.{accepted, mendingOf}
 
--- no change applies; and where the output has its bytes, mending leaves the sheet that reading does
+-- no change applies, so that the file comes back as it is; and where the output has room for its bytes, mending is accepted with the
+-- state of reading, however short the report is
 pub record Intact (book : Book) (room : Room) (file : List ℕ) (s : State) : Type 0 where
-  pub empty : changes book file ≡ []
+  pub none : changes book file ≡ []
+  pub empty : report book file ≡ []
   pub unchanged : mended book file ≡ file
   pub the-same : (bytes words : ℕ) → length file ≤ bytes → mendingOf book room bytes words file ≡ accepted s
