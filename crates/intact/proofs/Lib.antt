@@ -3,6 +3,7 @@ pub mod Intact
 pub mod Leads
 pub mod Opens
 pub mod Passing
+pub mod Returned
 pub mod Says
 pub mod Scanned
 pub mod Sound

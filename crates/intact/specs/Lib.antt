@@ -1,1 +1,2 @@
 pub mod Intact
+pub mod Returned
