@@ -1,0 +1,10 @@
+pub mod Header
+pub mod Intact
+pub mod Leads
+pub mod Opens
+pub mod Passing
+pub mod Returned
+pub mod Says
+pub mod Scanned
+pub mod Sound
+pub mod Tidy

@@ -1,0 +1,2 @@
+pub mod Intact
+pub mod Returned
