@@ -66,7 +66,16 @@ pub extern "C" fn sheet_read_as(
         (lentOf (now (file .entry)) (now (entries .entry)) (now (apertures .entry)) (now (macros .entry)) (now (numbers .entry)))
         (lentOf (now (file .entry)) (now (entries .exit)) (now (apertures .exit)) (now (macros .exit)) (now (numbers .exit))) (now (head .exit)) r (now (place .exit)) (now (unit .exit)) (now (rounded .exit)) ⌝ }
 {
-    let a = numbered::read_as(edition, letters, file, head, entries, apertures, macros, numbers);
+    let a = numbered::read_as(
+        edition,
+        letters,
+        file,
+        head,
+        entries,
+        apertures,
+        macros,
+        numbers,
+    );
     told(a, place, unit, rounded)
 }
 

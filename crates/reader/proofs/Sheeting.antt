@@ -65,6 +65,7 @@ ready g l none =
       unit = unit-some (g .header) (neither _ _ (given .0) .1);
       top = eqb-true _ _ (not-false _ (neither _ _ (closed .0) .1));
     }
+
 module _ (w : Lent) (p : Progress) (s : State) (k : Knows w p s) (kept : endFault (s .graphics) (s .level) ≡ 0) (small : unitIn (s .graphics .header) ≤ 2)
     (e′ : List ℕ) (ended : Ended (w .entries) e′ (p .builder)) where
   unit-is : unitIn (p .graphics .header) ≡ unitIn (s .graphics .header)

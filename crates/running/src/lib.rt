@@ -12,8 +12,8 @@ use build::Builder;
 use commands::Placed;
 use commands::Refusal;
 use commands::Turn;
-use names::Sets;
 use graphics::Header;
+use names::Sets;
 use progress::Progress;
 use progress::Stepped;
 

@@ -20,7 +20,7 @@ with-graphics-requires : tie.Need-with-graphics-requires
 with-graphics-requires c κs = search needs
 
 operate-requires : tie.Need-operate-requires
-operate-requires c κs = 
+operate-requires c κs =
     let k = c .before .before .before .before .before .before .pre in
     let a = c .before .before .before .before .before .before .args in
     record {
@@ -37,14 +37,13 @@ same-length : tie.Need-same-length
 same-length c = search needs
 
 returns : tie.Need-returns
-returns c = 
-    let a = c .before .before .before .before .before .before .before .before .before .before .args in
-    (
+returns c =
+    let a = c .before .before .before .before .before .before .before .before .before .before .args in (
       c .before .before .before .operate .ensures .0,
       λ w s q k.
-      rw (c .joined .ensures)
-      (coded-follows w _ _ s k (a .place) (a .code) (a .o) _ _ (c .before .before .before .before .before .before .before .setting-fault .ensures ∙ ap (λ g. settingFault g (a .code)) (k .graphics))
-      (c .before .before .before .operate .ensures .1 w (settingStep (a .code) s .next) q (behind-is w _ s k (a .code) (c .before .before .before .before .before .before .after-setting .ensures) (c .before .before .before .before .before .with-graphics .ensures)))),
+          rw (c .joined .ensures)
+          (coded-follows w _ _ s k (a .place) (a .code) (a .o) _ _ (c .before .before .before .before .before .before .before .setting-fault .ensures ∙ ap (λ g. settingFault g (a .code)) (k .graphics))
+          (c .before .before .before .operate .ensures .1 w (settingStep (a .code) s .next) q (behind-is w _ s k (a .code) (c .before .before .before .before .before .before .after-setting .ensures) (c .before .before .before .before .before .with-graphics .ensures)))),
     )
 
 pub operate-coded-spec : {M : Type 1} → statement M
