@@ -181,8 +181,8 @@ uint64_t sheet_read_as(uint64_t edition, uint64_t letters, const uint8_t *file, 
                        size_t entries_words, uint64_t *apertures, size_t apertures_words, uint64_t *macros, size_t macros_words,
                        int64_t *numbers, size_t numbers_count, uint64_t *place, uint64_t *unit, uint64_t *rounded);
 
-/* The short call, which names no edition: sheet_read_as with the newer one. Request [10] of document 02 will make it the old one, so that
- * a host that needs the newer edition calls sheet_read_as. */
+/* The short call, which names no edition. Since this release it reads the old one, RS-274X (document 02, [10]); up to now it read the newer
+ * one. For a file of the newer edition call sheet_read_as with SHEET_NEW_EDITION. Else it is sheet_read_as, word for word. */
 uint64_t sheet_read(uint64_t letters, const uint8_t *file, size_t file_bytes, uint64_t *head, uint64_t *entries, size_t entries_words,
                     uint64_t *apertures, size_t apertures_words, uint64_t *macros, size_t macros_words, int64_t *numbers,
                     size_t numbers_count, uint64_t *place, uint64_t *unit, uint64_t *rounded);

@@ -729,7 +729,7 @@ static void most_entries(void)
 }
 
 /* The short call names no edition. Request [10] of document 02 turns it round: then this is SHEET_OLD_EDITION, here and nowhere else. */
-enum { SHORT_EDITION = SHEET_NEW_EDITION, OTHER_EDITION = 3 - SHORT_EDITION };
+enum { SHORT_EDITION = SHEET_OLD_EDITION, OTHER_EDITION = 3 - SHORT_EDITION };
 
 /* The short call answers as the long one does with that edition, on files that the two editions answer otherwise. */
 static void short_call(void)

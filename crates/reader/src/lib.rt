@@ -163,17 +163,17 @@ pub fn read_as(
     }
 }
 
-// The book of a reading that names no edition.
+// The book of a reading that names no edition: the old one's.
 pub fn short_of(letters: Letters) -> Book
     ensures { λ r. ⌜ r ≡ shortOf letters ⌝ }
 {
     Book {
-        edition: Edition::New,
+        edition: Edition::Old,
         letters: letters,
     }
 }
 
-// The short call: a reading that names its rule of letters and no edition.
+// The short call: a reading that names its rule of letters and no edition, which is the old one.
 pub fn read(
     letters: Letters,
     file: &[u8],
