@@ -728,7 +728,7 @@ static void most_entries(void)
     }
 }
 
-/* The short call names no edition. Request [10] of document 02 turns it round: then this is SHEET_OLD_EDITION, here and nowhere else. */
+/* The short call names no edition, and reads the old one (document 02, [10]). */
 enum { SHORT_EDITION = SHEET_OLD_EDITION, OTHER_EDITION = 3 - SHORT_EDITION };
 
 /* The short call answers as the long one does with that edition, on files that the two editions answer otherwise. */

@@ -20,7 +20,7 @@ if command -v g++ >/dev/null; then
     g++ -std=c++11 -Wall -Wextra -Werror -fsyntax-only -I host "$room/plus.cc"
 fi
 
-# The edition of the short call is about to change (document 02, [10]): nothing calls it but its own test.
+# What the short call reads has changed (document 02, [10]): nothing of ours calls it but its own test.
 if grep -lE '(^|[^a-z_])sheet_read\(' host/*.[ch] bench/*.[ch] tests/*.c | grep -vx -e host/sheet.h -e tests/host.c; then
     echo "host: these call sheet_read, and name no edition"
     exit 1
