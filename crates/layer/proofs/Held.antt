@@ -50,20 +50,30 @@ module _ (c : Placed) (post : List Placed) where
   from-is none = rw (eq-eqb (c .place) (c .place) refl, fromOn)
   from-is (one {c = d} {cs = cs} l b) = rw (ne-eqb (d .place) (c .place) (λ (e : d .place ≡ c .place). omega arith), fromOn) (from-is b)
 
--- what is said of a name by these commands
-abbrev pub saidBy : List ℕ → Kind → List ℕ → List Placed → Saying
-saidBy file kind name cs = heardIn file kind name nothing cs .said
+-- what is said of a name, with these commands more
+unfoldable pub saidIn : List ℕ → Kind → List ℕ → Saying → List Placed → Saying
+saidIn file kind name s [] = s
+saidIn file kind name s (c ∷ cs) = saidIn file kind name (later s (sayingOf file kind name c)) cs
 
-heard-append : (file : List ℕ) (kind : Kind) (name : List ℕ) (h : Heard) (cs ds : List Placed) →
-    heardIn file kind name h (cs ++ ds) ≡ heardIn file kind name (heardIn file kind name h cs) ds
-unfolding heardIn
-heard-append file kind name h [] ds = refl
-heard-append file kind name h (c ∷ cs) ds = heard-append file kind name (heardWith file kind name h c) cs ds
+-- by these commands
+abbrev pub saidBy : List ℕ → Kind → List ℕ → List Placed → Saying
+saidBy file kind name cs = saidIn file kind name Silent cs
+
+heard-said : (book : Book) (file : List ℕ) (kind : Kind) (name : List ℕ) (h : Heard) (cs : List Placed) → heardIn book file kind name h cs .said ≡ saidIn file kind name (h .said) cs
+unfolding heardIn heardWith saidIn
+heard-said book file kind name h [] = refl
+heard-said book file kind name h (c ∷ cs) = heard-said book file kind name (heardWith book file kind name h c) cs
+
+said-append : (file : List ℕ) (kind : Kind) (name : List ℕ) (s : Saying) (cs ds : List Placed) →
+    saidIn file kind name s (cs ++ ds) ≡ saidIn file kind name (saidIn file kind name s cs) ds
+unfolding saidIn
+said-append file kind name s [] ds = refl
+said-append file kind name s (c ∷ cs) ds = said-append file kind name (later s (sayingOf file kind name c)) cs ds
 
 pub said-more : (file : List ℕ) (kind : Kind) (name : List ℕ) (cs : List Placed) (c : Placed) →
     saidBy file kind name (cs ++ (c ∷ [])) ≡ later (saidBy file kind name cs) (sayingOf file kind name c)
-unfolding heardIn heardWith
-said-more file kind name cs c = ap (λ (h : Heard). h .said) (heard-append file kind name nothing cs (c ∷ []))
+unfolding saidIn
+said-more file kind name cs c = said-append file kind name Silent cs (c ∷ [])
 
 -- the value that is said
 unfoldable pub valueSaid : List ℕ → Saying → Value
@@ -97,7 +107,7 @@ module _ (book : Book) (file : List ℕ) (pre : List Placed) (c : Placed) (post 
     (sound : commandsOf book file .fault .number ≡ 0) (below : Below (c .place) pre) where
   held-at : (name : List ℕ) → attributeOf book file kind.Object (c .place) name ≡ held (saidBy file kind.Object name pre)
   unfolding attributeOf answerIn answerFor answerAt takenAt pick
-  held-at name = rw (eq-eqb _ 0 sound, order, before-is c post below, from-is c post below)
+  held-at name = rw (eq-eqb _ 0 sound, order, before-is c post below, from-is c post below) (ap held (heard-said book file kind.Object name nothing pre))
 
   object-at : (name : String) → objectAt book file (c .place) name ≡ saidObject file pre name
   unfolding objectAt

@@ -13,11 +13,12 @@ use Rattle.book.specs.declared.Book.{Book}
 use Rattle.text.specs.Text.{text, _is_}
 use Rattle.commands.specs.Commands.{commandsOf}
 use Rattle.commands.specs.declared.Placed.{Placed}
-use Rattle.sayings.specs.Sayings.{textOf, named}
+use Rattle.sayings.specs.Sayings.{textOf, named, sayingOf}
 use Rattle.sayings.specs.declared.Kind.the-variants as kind
-use Rattle.attribute.specs.Attribute.{nothing, heardWith, held, attributeOf}
+use Rattle.sayings.specs.declared.Saying.{Saying}
+use Rattle.sayings.specs.declared.Saying.the-variants.{Silent}
+use Rattle.attribute.specs.Attribute.{later, held, attributeOf}
 use Rattle.attribute.specs.declared.Answer.{Answer}
-use Rattle.attribute.specs.declared.Heard.{Heard}
 use Rattle.components.specs.Values as values
 use Rattle.components.specs.Values.{Value, field}
 use Rattle.components.specs.Parts.{Texts}
@@ -51,17 +52,17 @@ isApertureAs n (Aperture m) = eqb n m
 isApertureAs n (File name value) = false
 isApertureAs n Nothing = false
 
--- "the TA held at its AD": h is what was said of `.AperFunction` before these commands; the first AD with the number decides
-unfoldable pub functionIn : List ℕ → ℕ → Heard → List Placed → Value
-functionIn file n h [] = values.none
-functionIn file n h (c ∷ cs) =
+-- "the TA held at its AD": s is what was said of `.AperFunction` before these commands; the first AD with the number decides
+unfoldable pub functionIn : List ℕ → ℕ → Saying → List Placed → Value
+functionIn file n s [] = values.none
+functionIn file n s (c ∷ cs) =
     elim (isApertureAs n (madeOf (c .command))) [
-      | true ↦ valueOf file (held (h .said))
-      | false ↦ functionIn file n (heardWith file kind.Aperture (text ".AperFunction") h c) cs
+      | true ↦ valueOf file (held s)
+      | false ↦ functionIn file n (later s (sayingOf file kind.Aperture (text ".AperFunction") c)) cs
     ]
 
 unfoldable pub functionOf : Book → List ℕ → ℕ → Value
-functionOf book file n = functionIn file n nothing (commandsOf book file .commands)
+functionOf book file n = functionIn file n Silent (commandsOf book file .commands)
 
 -- a TF that says that the layer is a component layer: "the first field of the TF's value is Component" (decision 240)
 unfoldable pub declaresAs : List ℕ → Made → Bool

@@ -36,3 +36,4 @@ madeOf cmd.End = Nothing
 madeOf (cmd.Set s) = Nothing
 madeOf (cmd.Select n) = Nothing
 madeOf (cmd.Contain b) = Nothing
+madeOf (cmd.Coded code o) = madeByOperation o

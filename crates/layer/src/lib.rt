@@ -60,5 +60,6 @@ pub fn made_of(c: Command) -> Made
         Command::Set(_) => Made::Nothing,
         Command::Select(_) => Made::Nothing,
         Command::Contain(_) => Made::Nothing,
+        Command::Coded { operation, .. } => made_by_operation(operation),
     }
 }

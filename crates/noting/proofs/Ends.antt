@@ -11,7 +11,7 @@ use Rattle.base.specs.Bytes.{sameBytes}
 use Rattle.book.specs.declared.Book.{Book}
 use Rattle.commands.specs.Commands.{commandsOf}
 use Rattle.commands.specs.declared.Placed.{Placed}
-use Rattle.attribute.specs.Attribute.{nothing, heardIn}
+use Rattle.sayings.specs.declared.Saying.the-variants.{Silent}
 use Rattle.index.specs.Tree.{recordWidth}
 use Rattle.index.specs.Names.{nameOf}
 use Rattle.index.specs.Numbers.{numberOf, numbered, Numbered}
@@ -24,7 +24,7 @@ use Rattle.components.specs.Values.{bytesOf, field}
 use Rattle.layer.specs.Attributes.{functionIn, functionOf, isComponentIn, isComponent}
 use Rattle.layer.specs.Work.{operationsIn, aperturesIn, designatorsIn}
 use Rattle.layer.proofs.Held as held
-use Rattle.layer.proofs.Held.{valueSaid, textsBy}
+use Rattle.layer.proofs.Held.{saidIn, valueSaid, textsBy}
 use Rattle.hearing.specs.Designators as designators
 use Rattle.hearing.specs.Functions.{functionIs, functionNumber}
 use Rattle.hearing.proofs.Fields.{nowhere-is}
@@ -39,7 +39,7 @@ no-command : {place : ℕ} {A : Type 0} → Makes place [] → A
 no-command = elim [ ]
 
 pub known-none : (book : Book) (file notes names roles : List ℕ) → Known book file notes names roles begun 0 []
-unfolding begun operationsIn aperturesIn designatorsIn isComponentIn textsBy heardIn valueSaid functionNumber functionIs field bytesOf parted sameBytes hasAperture
+unfolding begun operationsIn aperturesIn designatorsIn isComponentIn textsBy saidIn valueSaid functionNumber functionIs field bytesOf parted sameBytes hasAperture
 known-none book file notes names roles = record {
   operations = refl;
   settings = refl;
@@ -86,16 +86,16 @@ module _ {file roles : List ℕ} {used : ℕ} {cs : List Placed} (t : Numbered r
   at-none none (At j) f = let g = number-found roles used n f in absurd (none j (g .0) (g .1))
   at-none none (Free link) f = refl
 
-  pub role-is : roleNumber roles used n ≡ functionNumber (functionIn file n nothing cs)
+  pub role-is : roleNumber roles used n ≡ functionNumber (functionIn file n Silent cs)
   unfolding roleNumber functionNumber functionIs field bytesOf parted sameBytes
   role-is = go (hasAperture n cs) refl
     where
       no-function : functionNumber values.none ≡ 0
       no-function = refl
 
-      go : (b : Bool) → hasAperture n cs ≡ b → wordAt roles (numbered roles used n) ≡ functionNumber (functionIn file n nothing cs)
+      go : (b : Bool) → hasAperture n cs ≡ b → wordAt roles (numbered roles used n) ≡ functionNumber (functionIn file n Silent cs)
       go true h = let f = k .found n h in at-found (f .0) (f .1) (f .2) (numbered roles used n) refl ∙ f .3
-      go false h = at-none (k .fresh n h) (numbered roles used n) refl ∙ sym (ap functionNumber (function-none file n nothing cs h) ∙ no-function)
+      go false h = at-none (k .fresh n h) (numbered roles used n) refl ∙ sym (ap functionNumber (function-none file n Silent cs h) ∙ no-function)
 
 pub known-all : (book : Book) (file notes names roles : List ℕ) (n : Noting) (at : ℕ) (cs : List Placed) → commandsOf book file .commands ≡ cs →
     Known book file notes names roles n at cs → Noted book file notes names roles n
@@ -113,6 +113,6 @@ known-all book file notes names roles n at cs all k = record {
         means = w .means;
         all = λ place m. w .all place (subst (Makes place) all m);
         numbered = k .numbered;
-        functions = λ number. role-is (k .numbered) (k .known (room .apertures)) number ∙ ap (λ (l : List Placed). functionNumber (functionIn file number nothing l)) (sym all);
+        functions = λ number. role-is (k .numbered) (k .known (room .apertures)) number ∙ ap (λ (l : List Placed). functionNumber (functionIn file number Silent l)) (sym all);
       };
 }

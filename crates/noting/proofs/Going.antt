@@ -8,6 +8,8 @@ use native.Mathlib.Omega.{arith}
 use lib.ListN.{length}
 use borrow.Author.Tests.{leb-true}
 use Rattle.book.specs.declared.Book.{Book}
+use Rattle.formats.specs.Format.{noFormat}
+use Rattle.formats.specs.declared.Format.{Format}
 use Rattle.scan.specs.Permitted.{fits}
 use Rattle.commands.specs.Commands.{Sequence, commandsOf}
 use Rattle.commands.specs.Turns.{turnOf}
@@ -24,7 +26,7 @@ use Rattle.noting.proofs.Turns.{last-begins, more-begins}
 use Rattle.noting.proofs.Known.{Known, known-more}
 use Rattle.noting.proofs.Ends.{known-none, known-all}
 
-pub record Going (book : Book) (file notes names roles : List ℕ) (known : Noting) (n at : ℕ) : Type 0 where
+pub record Going (book : Book) (file notes names roles : List ℕ) (known : Noting) (n : Format) (at : ℕ) : Type 0 where
   pub inside : at ≤ length file
   pub small : length file ≤ 16777216
   pub sound : commandsOf book file .fault .number ≡ 0
@@ -32,7 +34,7 @@ pub record Going (book : Book) (file notes names roles : List ℕ) (known : Noti
   pub order : commandsOf book file .commands ≡ before ++ walk book n file at .commands
   pub holds : Known book file notes names roles known at before
 
-pub going-start : (book : Book) (file notes names roles : List ℕ) → fits file ≡ true → commandsOf book file .fault .number ≡ 0 → Going book file notes names roles begun 0 0
+pub going-start : (book : Book) (file notes names roles : List ℕ) → fits file ≡ true → commandsOf book file .fault .number ≡ 0 → Going book file notes names roles begun noFormat 0
 unfolding commandsOf fits
 going-start book file notes names roles fit sound = record {
   inside = omega arith;
@@ -43,7 +45,7 @@ going-start book file notes names roles fit sound = record {
   holds = known-none book file notes names roles;
 }
 
-module _ {book : Book} {file notes names roles : List ℕ} {known : Noting} {n at : ℕ} (g : Going book file notes names roles known n at) where
+module _ {book : Book} {file notes names roles : List ℕ} {known : Noting} {n : Format} {at : ℕ} (g : Going book file notes names roles known n at) where
   pub going-asks : Small known × Designators file names (known .names) × Numbered roles (known .roles)
   going-asks =
       let k = g .holds in
@@ -67,7 +69,7 @@ module _ {book : Book} {file notes names roles : List ℕ} {known : Noting} {n a
         known-all book file notes′ names′ roles′ r next (g .before ++ (c ∷ [])) order
         (known-more book file (g .before) c [] order (g .sound) (b .0) (b .1) (g .holds) s)
 
-    pub going-more : {m next : ℕ} → turnOf book n file at ≡ More c m next → Going book file notes′ names′ roles′ r m next
+    pub going-more : {m : Format} {next : ℕ} → turnOf book n file at ≡ More c m next → Going book file notes′ names′ roles′ r m next
     going-more {m} {next} e =
         let b = more-begins book n file at (g .inside) e in
         let order = g .order ∙ ap (λ (l : Sequence). g .before ++ l .commands) (walk-more book n file at (g .inside) e) in
@@ -80,5 +82,5 @@ module _ {book : Book} {file notes names roles : List ℕ} {known : Noting} {n a
           holds = known-more book file (g .before) c (walk book m file next .commands) order (g .sound) (b .0) (b .1) (g .holds) s;
         }
 
-    pub going-less : {m next : ℕ} → turnOf book n file at ≡ More c m next → (at < next) × (next ≤ length file)
+    pub going-less : {m : Format} {next : ℕ} → turnOf book n file at ≡ More c m next → (at < next) × (next ≤ length file)
     going-less e = more-onward book n file at (g .inside) e

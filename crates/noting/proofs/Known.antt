@@ -21,7 +21,7 @@ use Rattle.sayings.specs.Sayings.{textOf, sayingOf}
 use Rattle.sayings.specs.declared.Kind.the-variants as kind
 use Rattle.sayings.specs.declared.Saying.{Saying}
 use Rattle.sayings.specs.declared.Saying.the-variants.{Silent, Deletes, Sets}
-use Rattle.attribute.specs.Attribute.{nothing, heardIn}
+use Rattle.sayings.specs.declared.Saying.the-variants.{Silent}
 use Rattle.index.specs.Tree.{recordWidth}
 use Rattle.index.specs.Names.{nameOf}
 use Rattle.index.specs.Numbers.{numberOf, Numbered}
@@ -34,7 +34,7 @@ use Rattle.layer.specs.Attributes.{textsAt, isApertureAs, functionIn, declaresA
 use Rattle.layer.specs.Work.{itemsBy, aperturesBy, setBy, setsOf, operationsIn, aperturesIn, designatorsIn}
 use Rattle.layer.specs.declared.Made.{Made}
 use Rattle.layer.specs.declared.Made.the-variants.{Item, Aperture, File, Nothing}
-use Rattle.layer.proofs.Held.{Below, below-more, below-snoc, textsBy, texts-at}
+use Rattle.layer.proofs.Held.{Below, below-more, below-snoc, saidBy, textsBy, texts-at}
 use Rattle.layer.proofs.Counts.{operations-append, apertures-append, designators-append, operations-one, apertures-one, designators-one}
 use Rattle.hearing.specs.Spans.{SpanIs}
 use Rattle.hearing.specs.Designators.{Designators, Grown}
@@ -178,7 +178,7 @@ notes-step book file notes {name} {name′} {used} {used′} {operations} {at} {
 -- ---- what apertures are for
 
 pub record RolesKnown (file roles : List ℕ) (used : ℕ) (cs : List Placed) : Type 0 where
-  pub found : (n : ℕ) → hasAperture n cs ≡ true → (i : ℕ) × (i < used) × (numberOf roles i ≡ n) × (getD roles (i * recordWidth + 1) 0 ≡ functionNumber (functionIn file n nothing cs))
+  pub found : (n : ℕ) → hasAperture n cs ≡ true → (i : ℕ) × (i < used) × (numberOf roles i ≡ n) × (getD roles (i * recordWidth + 1) 0 ≡ functionNumber (functionIn file n Silent cs))
   pub fresh : (n : ℕ) → hasAperture n cs ≡ false → (j : ℕ) → j < used → numberOf roles j ≡ n → ⊥
 
 or-false : (a b : Bool) → (a or b) ≡ false → (a ≡ false) × (b ≡ false)
@@ -201,8 +201,8 @@ module _ (file : List ℕ) (cs : List Placed) (c : Placed) where
   }
     where
       at : (n : ℕ) → hasAperture n (cs ++ (c ∷ [])) ≡ true → (t : Bool) → hasAperture n cs ≡ t →
-          (i : ℕ) × (i < used) × (numberOf roles i ≡ n) × (getD roles (i * recordWidth + 1) 0 ≡ functionNumber (functionIn file n nothing (cs ++ (c ∷ []))))
-      at n e true h = let f = k .found n h in (f .0, f .1, f .2, f .3 ∙ ap functionNumber (sym (function-found file n nothing cs (c ∷ []) h)))
+          (i : ℕ) × (i < used) × (numberOf roles i ≡ n) × (getD roles (i * recordWidth + 1) 0 ≡ functionNumber (functionIn file n Silent (cs ++ (c ∷ []))))
+      at n e true h = let f = k .found n h in (f .0, f .1, f .2, f .3 ∙ ap functionNumber (sym (function-found file n Silent cs (c ∷ []) h)))
       at n e false h = absurd (false≢true (sym (other n) ∙ here-if n e h))
 
   module _ {s s′ : List ℕ} {used used′ m function : ℕ} (made : madeOf (c .command) ≡ Aperture m) (p : Put s s′ used used′ m function) (says : function ≡ functionBy file cs)
@@ -218,20 +218,20 @@ module _ (file : List ℕ) (cs : List Placed) (c : Placed) where
     pub roles-put : RolesKnown file s′ used′ (cs ++ (c ∷ []))
     roles-put = record { found = λ n e. at n e (hasAperture n cs) refl; fresh = λ n e j l q. none n e j l q (ltb j used) refl }
       where
-        new-function : (n : ℕ) → hasAperture n cs ≡ false → isApertureAs n (madeOf (c .command)) ≡ true → function ≡ functionNumber (functionIn file n nothing (cs ++ (c ∷ [])))
+        new-function : (n : ℕ) → hasAperture n cs ≡ false → isApertureAs n (madeOf (c .command)) ≡ true → function ≡ functionNumber (functionIn file n Silent (cs ++ (c ∷ [])))
         new-function n h e =
-            says ∙ ap functionNumber (sym (function-behind file n nothing cs (c ∷ []) h ∙ function-here file n (heardIn file kind.Aperture (text ".AperFunction") nothing cs) c e))
+            says ∙ ap functionNumber (sym (function-behind file n Silent cs (c ∷ []) h ∙ function-here file n (saidBy file kind.Aperture (text ".AperFunction") cs) c e))
 
         added : (n : ℕ) → hasAperture n cs ≡ false → n ≡ m → (t : Bool) → eqb used used′ ≡ t → used < used′
         added n h q true e = absurd (p .there room (λ j l f. k .fresh n h j (let u = eqb-true used used′ e in omega arith) (sym (p .stays j (let u = eqb-true used used′ e in omega arith) .0) ∙ f ∙ sym q)))
         added n h q false e = let u = eqb-false used used′ e in let v = p .more in omega arith
 
         at : (n : ℕ) → hasAperture n (cs ++ (c ∷ [])) ≡ true → (t : Bool) → hasAperture n cs ≡ t →
-            (i : ℕ) × (i < used′) × (numberOf s′ i ≡ n) × (getD s′ (i * recordWidth + 1) 0 ≡ functionNumber (functionIn file n nothing (cs ++ (c ∷ []))))
+            (i : ℕ) × (i < used′) × (numberOf s′ i ≡ n) × (getD s′ (i * recordWidth + 1) 0 ≡ functionNumber (functionIn file n Silent (cs ++ (c ∷ []))))
         at n e true h =
             let f = k .found n h in
             let st = p .stays (f .0) (f .1) in
-            (f .0, (let u = p .more in let v = f .1 in omega arith), st .0 ∙ f .2, st .1 ∙ f .3 ∙ ap functionNumber (sym (function-found file n nothing cs (c ∷ []) h)))
+            (f .0, (let u = p .more in let v = f .1 in omega arith), st .0 ∙ f .2, st .1 ∙ f .3 ∙ ap functionNumber (sym (function-found file n Silent cs (c ∷ []) h)))
         at n e false h =
             let here = here-if n e h in
             let q = same-number n here in

@@ -281,11 +281,11 @@ pub fn note_all(
     requires { ⌜ (fits (now file) ≡ true) × (commandsOf book (now file) .fault .number ≡ 0) ⌝ }
     ensures { λ r. ⌜ Noted book (now (file .entry)) (now (notes .exit)) (now (names .exit)) (now (roles .exit)) r ⌝ }
 {
-    let mut n: usize = 0;
+    let mut format = formats::no_format();
     let mut at: usize = 0;
     let mut known = nothing();
     loop {
-        let t = commands::turn_at(book, n, file, at);
+        let t = commands::turn_at(book, format, file, at);
         match t {
             Turn::Fault(_) => {
                 return known;
@@ -295,11 +295,11 @@ pub fn note_all(
             }
             Turn::More {
                 command,
-                n: m,
+                format: f,
                 next,
             } => {
                 known = note_command(file, notes, names, roles, known, command);
-                n = m;
+                format = f;
                 at = next;
             }
         }

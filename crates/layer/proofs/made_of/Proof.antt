@@ -45,6 +45,12 @@ enum-told-5 c = search needs
 enum-told-6 : tie.Need-enum-told-6
 enum-told-6 c = search needs
 
+enum-known-c-4 : tie.Need-enum-known-c-4
+enum-known-c-4 c = search needs
+
+made-by-operation-requires-2 : tie.Need-made-by-operation-requires-2
+made-by-operation-requires-2 c κs = search needs
+
 returns : tie.Need-returns
 unfolding madeOf
 returns c = c .made-by-operation .ensures ∙ sym (ap (λ x. madeOf x) (c .before .before .c .given .1))
@@ -81,6 +87,10 @@ returns-9 : tie.Need-returns-9
 unfolding madeOf
 returns-9 c = sym (ap (λ x. madeOf x) (c .enum-told6 .given .1))
 
+returns-10 : tie.Need-returns-10
+unfolding madeOf
+returns-10 c = c .made-by-operation2 .ensures ∙ sym (ap (λ x. madeOf x) (c .before .before .c4 .given .1))
+
 pub made-of-spec : {M : Type 1} → statement M
 made-of-spec =
     tie.close
@@ -97,6 +107,8 @@ made-of-spec =
     enum-told-4
     enum-told-5
     enum-told-6
+    enum-known-c-4
+    made-by-operation-requires-2
     returns
     returns-2
     returns-3
@@ -105,4 +117,5 @@ made-of-spec =
     returns-6
     returns-7
     returns-8
-    returns-9)
+    returns-9
+    returns-10)
