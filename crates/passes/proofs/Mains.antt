@@ -163,7 +163,7 @@ module _ {e a : List ℕ} {top : Container} {notes : List ℕ} {operations : ℕ
     pub marked : Marked l names k
 
   pub passing-start : {names : List ℕ} → Marked l names 0 → Passing names noOutline 0
-  passing-start g = record { rest = pass-finds (parts l); marked = g }
+  passing-start g = let q : length (parts l) - 0 ≡ length (parts l) = omega arith in record { rest = rw q (pass-finds (parts l)); marked = g }
 
   module _ {names : List ℕ} {o : outline.Outline} {k : ℕ} (w : Passing names o k) where
     inside-is : k < top .items → k < length (parts l)

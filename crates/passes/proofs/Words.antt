@@ -1,13 +1,14 @@
 -- What an item is noted by: its role's designator, and whether it lacks the attribute that it must have.
 -- Assumes nothing.
-use Prim.Native.Nat.{ℕ, zero, suc, _+_, _*_, _≤_, _<_}
+use Prim.Native.Nat.{ℕ, zero, suc, _+_, _*_, _-_, _≤_, _<_}
 use mathlib.Core.Path.{_≡_, refl, sym, ap, _∙_}
 use mathlib.Core.Bool.{Bool, true, false, not}
 use mathlib.Core.List.{List}
 use native.Mathlib.Omega.{arith}
 use lib.Dec.{eqb}
-use lib.ListN.{length, getD, set, length-set}
-use lib.Seq.{slice, getD-set-same, getD-set-other}
+use borrow.Author.Tests.{ne-eqb}
+use lib.ListN.{length, getD, set, length-set, List·getD-eq-default}
+use lib.Seq.{slice, set-out, getD-set-same, getD-set-other}
 use Rattle.index.specs.Tree.{recordWidth}
 use Rattle.index.specs.Names.{nameOf}
 use Rattle.sheet.specs.Meaning.{flagWord}
@@ -34,7 +35,7 @@ flag-one false = refl
 denotes-held : {name : ℕ → List ℕ} {used w : ℕ} {v : Value} → Denotes name used w v → eqb w 0 ≡ not (isHeld v)
 unfolding isHeld
 denotes-held nothing = refl
-denotes-held (one l e) = refl
+denotes-held (one {d = d} l e) = ne-eqb (suc d) 0 (λ (q : suc d ≡ 0). omega arith)
 
 lacks-is : (r : Role) {file : List ℕ} {name : ℕ → List ℕ} {used : ℕ} {n : Note} {t : Texts} → Means file name used n t → lacksBy r n ≡ lacksAs r t
 unfolding lacksBy lacksAs
@@ -51,6 +52,26 @@ module _ {e a : List ℕ} {top : Container} {notes : List ℕ} {operations : ℕ
   pub met-is : metBy s ≡ metOf (at (parts l) k)
   unfolding metBy metOf
   met-is = λ i. record { role = w .role i; start = w .start i; end = w .end i; place = w .place i; lacks = lacks-part i }
+
+-- ---- a word by the number of its record, one less than what it is noted by
+
+module _ (s : List ℕ) (i : ℕ) where
+  pub word-some : (d : ℕ) → (d ≡ 0 → ⊥) → wordOf s d i ≡ getD s ((d - 1) * recordWidth + i) 0
+  unfolding wordOf
+  word-some zero ne = absurd (ne refl)
+  word-some (suc d) ne = let q : suc d - 1 ≡ d = omega arith in rw q refl
+
+  pub word-past : (d : ℕ) → (d ≡ 0 → ⊥) → length s < d - 1 → wordOf s d i ≡ 0
+  word-past d ne l = word-some d ne ∙ List·getD-eq-default s 0 (omega arith)
+
+  module _ (v : ℕ) where
+    pub with-some : (d : ℕ) → (d ≡ 0 → ⊥) → withWord s d i v ≡ set s ((d - 1) * recordWidth + i) v
+    unfolding withWord
+    with-some zero ne = absurd (ne refl)
+    with-some (suc d) ne = let q : suc d - 1 ≡ d = omega arith in rw q refl
+
+    pub with-past : (d : ℕ) → (d ≡ 0 → ⊥) → length s < d - 1 → withWord s d i v ≡ s
+    with-past d ne l = with-some d ne ∙ set-out s ((d - 1) * recordWidth + i) v (omega arith)
 
 -- ---- a word of a record set anew
 

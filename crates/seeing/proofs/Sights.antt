@@ -14,6 +14,7 @@ use Rattle.sheet.specs.declared.Container.{Container}
 use Rattle.sheet.proofs.Expand.{length-sheet}
 use Rattle.descend.specs.Search.{Asked}
 use Rattle.descend.proofs.Answers.{asked-top}
+use Rattle.sheet.proofs.Sound.{top-sound}
 use Rattle.components.specs.Parts.{Part, Texts, partOf, nothing}
 use Rattle.components.specs.Outlines.{at}
 use Rattle.components.specs.declared.Role.{Role}
@@ -36,6 +37,9 @@ module _ {e a : List ℕ} {top : Container} {notes : List ℕ} {operations : ℕ
   pub parts-many : length (parts l) ≡ top .items
   unfolding parts partsOf
   parts-many = length-map (sheetItems (l .head) e a) (partOf (functionOf (l .book) (l .file)) (textsAt (l .book) (l .file))) ∙ items-many
+
+  pub few-items : top .items ≤ 1_000_000_000_000
+  few-items = rw (l .is-top) (top-sound (l .head) e a (l .ok) .ok .small)
 
   module _ (k : ℕ) (inside : k < top .items) where
     pub asks-item : Asked e a 10 top k
