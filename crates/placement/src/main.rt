@@ -21,16 +21,18 @@ fn is_more() -> bool {
     io::read_full(STDIN_FILENO, &mut block) > 0
 }
 
+// Prints the list of a file by the newer edition and the old rule of letters. A file of 65,536 bytes has no more D01, D03, AD and TO of `.C` or
+// `.P` than there is room for here.
 fn list(file: &[u8]) {
     let mut head = [0u64; 8];
     let mut entries = [0u64; 245760];
-    let mut apertures = [0u64; 32768];
-    let mut macros = [0u64; 8192];
-    let mut numbers = [0i64; 32768];
+    let mut apertures = [0u64; 65536];
+    let mut macros = [0u64; 32768];
+    let mut numbers = [0i64; 65536];
     let mut notes = [0u64; 212992];
-    let mut names = [0u64; 65536];
-    let mut roles = [0u64; 32768];
-    let mut pins = [0u64; 32768];
+    let mut names = [0u64; 76800];
+    let mut roles = [0u64; 65536];
+    let mut pins = [0u64; 65536];
     let mut out = [0u8; 524288];
     let a = assembly::placement(
         book::ascii(),
@@ -46,11 +48,10 @@ fn list(file: &[u8]) {
         &mut pins,
         &mut out,
     );
-    if a.number != 0 {
-        refuse(a.number, a.place as u64);
+    if a.number == 0 {
+        io::write_all(STDOUT_FILENO, base::up_to(&out, a.bytes));
     } else {
-        let n = a.bytes;
-        io::write_all(STDOUT_FILENO, &out[..n]);
+        refuse(a.number, a.place as u64);
     }
 }
 
