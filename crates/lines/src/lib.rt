@@ -7,7 +7,7 @@ ghost use Rattle.io.specs.Counts.{Counts};
 ghost use Rattle.lines.specs.Line.{Added, decimalOf, signedOf, kindOf, fieldOf, lineOf};
 
 // Puts bytes behind those before a place, and answers the place behind them.
-fn add(out: &mut [u8], at: usize, s: &[u8]) -> usize
+pub fn add(out: &mut [u8], at: usize, s: &[u8]) -> usize
     requires { ⌜ at + length (now s) ≤ length (now out) ⌝ }
     ensures { λ r. ⌜ Added (now (out .entry)) (now (out .exit)) at r (now (s .entry)) ⌝ }
 {
@@ -25,7 +25,7 @@ fn add_number(out: &mut [u8], at: usize, n: u64) -> usize
 }
 
 // A word as the signed number that it is.
-fn add_signed(out: &mut [u8], at: usize, w: u64) -> usize
+pub fn add_signed(out: &mut [u8], at: usize, w: u64) -> usize
     requires { ⌜ at + 21 ≤ length (now out) ⌝ }
     ensures { λ r. ⌜ Added (now (out .entry)) (now (out .exit)) at r (signedOf w) ⌝ }
 {

@@ -1,0 +1,21 @@
+use mathlib.Core.Path.{_≡_, refl, sym, ap, _∙_}
+use Rattle.assembly.specs.Placement.{isTightFor}
+use borrow.Author.Needs.{needs}
+use Rattle.assembly.proofs.is_tight.Statement.{statement}
+use Rattle.assembly.proofs.is_tight.Tie as tie
+use Rattle.assembly.proofs.is_tight.Reads as reads
+use Rattle.assembly.proofs.is_tight.Lts as lts
+use Rattle.base.proofs.either.Reads as either-reads
+
+either-requires : tie.Need-either-requires
+either-requires c κs = search needs
+
+either-requires-2 : tie.Need-either-requires-2
+either-requires-2 c κs = search needs
+
+returns : tie.Need-returns
+unfolding isTightFor
+returns c = cc
+
+pub is-tight-spec : {M : Type 1} → statement M
+is-tight-spec = tie.close (tie.spec either-requires either-requires-2 returns)

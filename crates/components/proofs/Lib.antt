@@ -1,0 +1,10 @@
+pub mod Pass
+pub mod Examples
+pub mod Outlined
+pub mod Each
+pub mod List
+pub mod Written
+pub mod Steps
+pub mod Fields
+pub mod Rows
+pub mod Chain

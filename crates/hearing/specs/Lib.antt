@@ -1,0 +1,4 @@
+pub mod Spans
+pub mod Designators
+pub mod Functions
+pub mod Means

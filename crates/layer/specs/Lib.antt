@@ -1,0 +1,4 @@
+pub mod Made
+pub mod Attributes
+pub mod Parts
+pub mod Work

@@ -1,0 +1,60 @@
+-- `noting::designators` meets its contract: what the command says of each name decides, of the one and then of the other.
+-- Assumes nothing.
+use Rattle.noting.proofs.Known.{set-few}
+use Rattle.noting.proofs.Hearing.{both-heard}
+use Rattle.layer.specs.Work.{setBy}
+use native.Mathlib.Omega.{arith}
+use mathlib.Core.Path.{refl}
+use Prim.Native.Nat.{_≤_}
+use borrow.Author.Needs.{needs}
+use Rattle.noting.proofs.designators.Statement.{statement}
+use Rattle.noting.proofs.designators.Tie as tie
+
+slice-aggregate-saying-of : tie.Need-slice-aggregate-saying-of
+slice-aggregate-saying-of c = search needs
+
+saying-of-requires : tie.Need-saying-of-requires
+saying-of-requires c κs = search needs
+
+slice-aggregate-saying-of-2 : tie.Need-slice-aggregate-saying-of-2
+slice-aggregate-saying-of-2 c = search needs
+
+saying-of-requires-2 : tie.Need-saying-of-requires-2
+saying-of-requires-2 c κs = search needs
+
+designator-after-requires : tie.Need-designator-after-requires
+designator-after-requires c κs = search needs
+
+designator-after-requires-2 : tie.Need-designator-after-requires-2
+designator-after-requires-2 c κs = search needs
+
+set-by-requires : tie.Need-set-by-requires
+set-by-requires c κs = search needs
+
+set-by-requires-2 : tie.Need-set-by-requires-2
+set-by-requires-2 c κs = search needs
+
+add-t23 : tie.Need-add-t23
+add-t23 c = omega (arith, c .set-by2 .ensures, c .before .set-by .ensures, set-few (c .before .before .before .before .before .before .before .before .before .before .before .before .saying-of .result), set-few (c .before .before .before .before .before .before .before .before .before .before .saying-of2 .result))
+
+same-length : tie.Need-same-length
+same-length c = search needs
+
+returns : tie.Need-returns
+returns c = both-heard _ _ _ (rw (c .before .before .before .before .before .before .before .before .before .before .before .before .saying-of .ensures) at (c .before .before .before .before .before .before .before .before .designator-after .ensures)) (rw (c .before .before .before .before .before .before .before .before .before .before .saying-of2 .ensures) at (c .before .before .before .before .designator-after2 .ensures)) (rw (c .before .set-by .ensures, c .set-by2 .ensures, c .before .before .before .before .before .before .before .before .before .before .before .before .saying-of .ensures, c .before .before .before .before .before .before .before .before .before .before .saying-of2 .ensures) refl)
+
+pub designators-spec : {M : Type 1} → statement M
+designators-spec =
+    tie.close
+    (tie.spec
+    slice-aggregate-saying-of
+    saying-of-requires
+    slice-aggregate-saying-of-2
+    saying-of-requires-2
+    designator-after-requires
+    designator-after-requires-2
+    set-by-requires
+    set-by-requires-2
+    add-t23
+    same-length
+    returns)

@@ -1,0 +1,3 @@
+pub mod Words
+pub mod Mains
+pub mod Pins

@@ -1,0 +1,63 @@
+use mathlib.Core.List.{List}
+use lib.ListN.{set}
+use Prim.Native.Nat.{ℕ, _+_, _*_}
+use mathlib.Core.Path.{_≡_, refl, sym, ap, _∙_}
+use Rattle.passes.specs.Words.{wordOf, withWord, withLink}
+use borrow.Author.Needs.{needs}
+use Rattle.passes.proofs.put_link.Statement.{statement}
+use Rattle.passes.proofs.put_link.Tie as tie
+use Rattle.passes.proofs.put_link.Reads as reads
+use Rattle.passes.proofs.put_link.Lts as lts
+use Rattle.base.proofs.put.Reads as put-reads
+use Rattle.passes.proofs.set_word.Reads as set-word-reads
+use Rattle.passes.proofs.word_of.Reads as word-of-reads
+
+mul-put : tie.Need-mul-put
+mul-put c = search needs
+
+put-requires : tie.Need-put-requires
+put-requires c κs = search needs
+
+mul-put-2 : tie.Need-mul-put-2
+mul-put-2 c = search needs
+
+add-put : tie.Need-add-put
+add-put c = search needs
+
+word-of-requires : tie.Need-word-of-requires
+word-of-requires c κs = search needs
+
+put-requires-2 : tie.Need-put-requires-2
+put-requires-2 c κs = search needs
+
+add-set-word : tie.Need-add-set-word
+add-set-word c = search needs
+
+set-word-requires : tie.Need-set-word-requires
+set-word-requires c κs = search needs
+
+same-length : tie.Need-same-length
+same-length c = search needs
+
+same-length-2 : tie.Need-same-length-2
+same-length-2 c = search needs
+
+returns : tie.Need-returns
+unfolding withLink
+returns c = (c .before .before .before .before .before .before .put2 .ensures ∙ (λ i. set (c .before .before .before .before .before .before .before .before .before .before .before .before .put .ensures i) (c .before .before .before .before .before .before .before .before .before .before .before .before .before .before .before .before .args .links * 2 + 1) (c .before .before .before .before .before .before .before .word-of .ensures i)), c .before .before .set-word .ensures)
+
+pub put-link-spec : {M : Type 1} → statement M
+put-link-spec =
+    tie.close
+    (tie.spec
+    mul-put
+    put-requires
+    mul-put-2
+    add-put
+    word-of-requires
+    put-requires-2
+    add-set-word
+    set-word-requires
+    same-length
+    same-length-2
+    returns)

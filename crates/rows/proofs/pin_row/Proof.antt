@@ -1,0 +1,36 @@
+-- `rows::pin_row` meets its contract: its pieces one behind the other.
+-- Assumes nothing.
+use Rattle.components.proofs.Written.{behind, is-also}
+use Rattle.components.proofs.Rows.{pin-pieces}
+use borrow.Author.Needs.{needs}
+use Rattle.rows.proofs.pin_row.Statement.{statement}
+use Rattle.rows.proofs.pin_row.Tie as tie
+
+write-field-requires : tie.Need-write-field-requires
+write-field-requires c κs = search needs
+
+write-point-requires : tie.Need-write-point-requires
+write-point-requires c κs = search needs
+
+slice-aggregate-write : tie.Need-slice-aggregate-write
+slice-aggregate-write c = search needs
+
+write-requires : tie.Need-write-requires
+write-requires c κs = search needs
+
+same-length : tie.Need-same-length
+same-length c = search needs
+
+returns : tie.Need-returns
+returns c = is-also (pin-pieces _ _) (behind (c .before .before .before .before .before .before .before .before .before .before .before .write-field .ensures) (behind (c .before .before .before .before .before .before .before .write-point .ensures) (c .before .before .write .ensures)))
+
+pub pin-row-spec : {M : Type 1} → statement M
+pin-row-spec =
+    tie.close
+    (tie.spec
+    write-field-requires
+    write-point-requires
+    slice-aggregate-write
+    write-requires
+    same-length
+    returns)

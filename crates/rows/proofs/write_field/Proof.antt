@@ -1,0 +1,25 @@
+-- `rows::write_field` meets its contract: a tab, and the text behind it.
+-- Assumes nothing.
+use Rattle.components.proofs.Written.{behind}
+use borrow.Author.Needs.{needs}
+use Rattle.rows.proofs.write_field.Statement.{statement}
+use Rattle.rows.proofs.write_field.Tie as tie
+
+slice-aggregate-write : tie.Need-slice-aggregate-write
+slice-aggregate-write c = search needs
+
+write-requires : tie.Need-write-requires
+write-requires c κs = search needs
+
+write-requires-2 : tie.Need-write-requires-2
+write-requires-2 c κs = search needs
+
+same-length : tie.Need-same-length
+same-length c = search needs
+
+returns : tie.Need-returns
+returns c = behind (c .before .before .before .before .before .before .write .ensures) (c .before .before .write2 .ensures)
+
+pub write-field-spec : {M : Type 1} → statement M
+write-field-spec =
+    tie.close (tie.spec slice-aggregate-write write-requires write-requires-2 same-length returns)

@@ -1,0 +1,64 @@
+-- `rows::write_number` meets its contract: the digits of the word are those of the number, and are written from a room of their own.
+-- Assumes nothing.
+use mathlib.Core.Path.{_≡_, sym, ap, _∙_}
+use native.Mathlib.Nat.{zero-add}
+use native.Mathlib.Omega.{arith}
+use lib.IntN.{ℤ}
+use lib.ListN.{length}
+use mir.Syntax.{w64}
+use mir.Val.{ofZ}
+use mir.Facts.{toZ-ofZ}
+use Rattle.lines.specs.Line.{signedOf}
+use Rattle.components.proofs.Steps.{numeral-word, length-numeral}
+use Rattle.components.proofs.Written.{is-also, begins-with}
+use borrow.Author.Needs.{needs}
+use Rattle.rows.proofs.write_number.Statement.{statement}
+use Rattle.rows.proofs.write_number.Tie as tie
+
+slice-aggregate-add-signed : tie.Need-slice-aggregate-add-signed
+slice-aggregate-add-signed c = search needs
+
+word-requires : tie.Need-word-requires
+word-requires c κs = search needs
+
+add-signed-requires : tie.Need-add-signed-requires
+add-signed-requires c κs = search needs
+
+array-share-prefix-digits : tie.Need-array-share-prefix-digits
+array-share-prefix-digits c =
+    let z : ℤ = c .before .before .before .before .before .before .args .z in
+    let f : c .before .before .add-signed .result ≡ length (signedOf (c .before .before .before .word .result)) = c .before .before .add-signed .ensures .end ∙ zero-add _ in
+    let k : length (c .before .before .add-signed .last .0) ≡ 21 = c .before .before .add-signed .kept .0 in
+    let w : c .before .before .before .word .result ≡ ofZ w64 z = c .before .before .before .word .ensures ∙ ap (ofZ w64) (toZ-ofZ (c .before .before .before .before .before .before .fits .z)) in
+    omega (arith, f, k, ap length (ap signedOf w ∙ numeral-word z (c .before .before .before .before .before .before .fits .z)), length-numeral z)
+
+slice-aggregate-write : tie.Need-slice-aggregate-write
+slice-aggregate-write c =
+    let f = c .before .before .before .add-signed .ensures in
+    f .end ∙ zero-add _ ∙ sym (ap length (begins-with f))
+
+write-requires : tie.Need-write-requires
+write-requires c κs = search needs
+
+same-length : tie.Need-same-length
+same-length c = search needs
+
+returns : tie.Need-returns
+returns c =
+    let z : ℤ = c .before .before .before .before .before .before .before .before .before .before .args .z in
+    let f = c .before .before .before .before .before .before .add-signed .ensures in
+    let w : c .before .before .before .before .before .before .before .word .result ≡ ofZ w64 z = c .before .before .before .before .before .before .before .word .ensures ∙ ap (ofZ w64) (toZ-ofZ (c .before .before .before .before .before .before .before .before .before .before .fits .z)) in
+    is-also (begins-with f ∙ ap signedOf w ∙ numeral-word z (c .before .before .before .before .before .before .before .before .before .before .fits .z)) (c .before .before .write .ensures)
+
+pub write-number-spec : {M : Type 1} → statement M
+write-number-spec =
+    tie.close
+    (tie.spec
+    slice-aggregate-add-signed
+    word-requires
+    add-signed-requires
+    array-share-prefix-digits
+    slice-aggregate-write
+    write-requires
+    same-length
+    returns)

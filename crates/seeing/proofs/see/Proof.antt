@@ -1,0 +1,40 @@
+use Rattle.seeing.proofs.Sights.{asks-item, seeks-note, seen-is}
+use borrow.Author.Needs.{needs}
+use Rattle.seeing.proofs.see.Statement.{statement}
+use Rattle.seeing.proofs.see.Tie as tie
+use Rattle.seeing.proofs.see.Reads as reads
+use Rattle.seeing.proofs.see.Lts as lts
+use Rattle.descend.proofs.item_at.Reads as item-at-reads
+use Rattle.notes.proofs.find.Reads as find-reads
+use Rattle.notes.proofs.note_at.Reads as note-at-reads
+use Rattle.seeing.proofs.function_of.Reads as function-of-reads
+use Rattle.seeing.proofs.role_by.Reads as role-by-reads
+
+item-at-requires : tie.Need-item-at-requires
+item-at-requires c κs = asks-item (c .before .before .before .before .pre .0) _ (c .before .before .before .before .pre .1)
+
+function-of-requires : tie.Need-function-of-requires
+function-of-requires c κs = search needs
+
+role-by-requires : tie.Need-role-by-requires
+role-by-requires c κs = search needs
+
+find-requires : tie.Need-find-requires
+find-requires c κs = seeks-note (c .before .before .before .before .before .before .before .before .before .pre .0) _ (c .before .before .before .before .before .before .before .before .before .pre .1) (c .before .before .before .before .item-at .ensures .is)
+
+note-at-requires : tie.Need-note-at-requires
+note-at-requires c κs = search needs
+
+returns : tie.Need-returns
+returns c = λ l. seen-is l _ (c .before .before .before .before .before .before .before .before .before .before .before .pre .1) (c .before .before .before .before .before .before .item-at .ensures .is) (c .before .before .before .function-of .ensures) (c .before .before .role-by .ensures) (c .before .find .ensures) (c .note-at .ensures)
+
+pub see-spec : {M : Type 1} → statement M
+see-spec =
+    tie.close
+    (tie.spec
+    item-at-requires
+    function-of-requires
+    role-by-requires
+    find-requires
+    note-at-requires
+    returns)

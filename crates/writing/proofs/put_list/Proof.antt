@@ -1,0 +1,80 @@
+use lib.ListN.{length, take}
+use Prim.Native.Nat.{ℕ, _+_, _-_, _≤_}
+use mathlib.Core.Bool.{false}
+use mathlib.Core.Path.{_≡_, refl, sym, ap, _∙_}
+use native.Mathlib.Omega.{arith}
+use Rattle.writing.proofs.Putting.{walks-pins, walking-pins, entry-more, entry-none, list-start, list-end}
+use Rattle.writing.specs.Ready.{Ready}
+use Rattle.seeing.proofs.Sights.{few-items}
+use Rattle.seeing.specs.Layer.{Layer, parts}
+use Rattle.components.specs.Written.{Wrote}
+use Rattle.components.specs.Placements.{each, entryFor}
+use borrow.Author.Needs.{needs}
+use Rattle.writing.proofs.put_list.Statement.{statement}
+use Rattle.writing.proofs.put_list.Tie as tie
+use Rattle.writing.proofs.put_list.Reads as reads
+use Rattle.writing.proofs.put_list.Lts as lts
+use Rattle.passes.proofs.main_of.Reads as main-of-reads
+use Rattle.seeing.proofs.see.Reads as see-reads
+use Rattle.writing.proofs.put_entry.Reads as put-entry-reads
+
+abbrev Inv-loop : tie.InvT-loop
+Inv-loop file e a top notes operations roles roled names pins out₀ q₀ k₀ out q k = (k ≤ top .items) × (length out ≡ length out₀) × ((w : Ready file e a top notes operations roles roled names pins) → Wrote out₀ out (record { at = 0; full = false }) q (each (entryFor (parts (w .layer))) (take k (parts (w .layer)))))
+
+abbrev μ-loop : tie.MeasureT-loop
+μ-loop file e a top notes operations roles roled names pins out₀ q₀ k₀ out q k = top .items - k
+
+loop-holds : tie.Need-loop-holds Inv-loop μ-loop
+loop-holds c = (omega arith, refl, λ w. list-start w)
+
+see-requires : tie.Need-see-requires Inv-loop μ-loop
+see-requires c κs = (c .before .before .before .before .before .before .before .before .before .before .before .pre .layer, c .if1 .taken)
+
+main-of-requires : tie.Need-main-of-requires Inv-loop μ-loop
+main-of-requires c κs = search needs
+
+add-k : tie.Need-add-k Inv-loop μ-loop
+add-k c = let f = few-items (c .before .before .before .before .before .before .before .before .before .before .before .before .before .before .before .pre .layer) in let t = c .before .before .before .before .if1 .taken in omega arith
+
+loop-less : tie.Need-loop-less Inv-loop μ-loop
+loop-less c = let t = c .before .before .before .before .if1 .taken in omega arith
+
+loop-again : tie.Need-loop-again Inv-loop μ-loop
+loop-again c = let i = c .before .before .before .before .before .before .loop .inv in let t = c .before .before .before .before .if1 .taken in (omega arith, i .1, λ w. entry-none w t (c .before .before .before .see .ensures (w .layer)) (c .before .main-of .ensures) (c .if2 .taken) (i .2 w))
+
+put-entry-requires : tie.Need-put-entry-requires Inv-loop μ-loop
+put-entry-requires c κs = let w = c .before .before .before .before .before .before .before .before .before .before .before .before .before .before .before .before .pre in (w .layer, walking-pins w (c .before .before .before .before .before .if1 .taken) (c .before .before .before .before .see .ensures (w .layer)) (c .before .before .main-of .ensures) (c .before .if2 .left))
+
+add-k-2 : tie.Need-add-k-2 Inv-loop μ-loop
+add-k-2 c = let f = few-items (c .before .before .before .before .before .before .before .before .before .before .before .before .before .before .before .before .before .before .before .pre .layer) in let t = c .before .before .before .before .before .before .before .before .if1 .taken in omega arith
+
+loop-less-2 : tie.Need-loop-less-2 Inv-loop μ-loop
+loop-less-2 c = let t = c .before .before .before .before .before .before .before .before .if1 .taken in omega arith
+
+loop-again-2 : tie.Need-loop-again-2 Inv-loop μ-loop
+loop-again-2 c = let i = c .before .before .before .before .before .before .before .before .before .before .loop .inv in let t = c .before .before .before .before .before .before .before .before .if1 .taken in (omega arith, c .before .before .put-entry .kept .1 .1 .1 .1 .1 .1 .1 .1 .1 .1 .0 ∙ i .1, λ w. entry-more w t (c .before .before .before .before .before .before .before .see .ensures (w .layer)) (c .before .before .before .before .before .main-of .ensures) (c .before .before .before .before .if2 .left) (i .2 w) (c .before .before .put-entry .ensures (w .layer) (w .of) _ (walks-pins w t (c .before .before .before .before .before .before .before .see .ensures (w .layer)) (c .before .before .before .before .before .main-of .ensures) (c .before .before .before .before .if2 .left))))
+
+same-length : tie.Need-same-length Inv-loop μ-loop
+same-length c = c .before .before .loop .inv .1
+
+returns : tie.Need-returns Inv-loop μ-loop
+returns c = λ w. list-end w (c .before .before .loop .inv .0) (c .if1 .left) (c .before .before .loop .inv .2 w)
+
+pub put-list-spec : {M : Type 1} → statement M
+put-list-spec =
+    tie.close
+    (tie.spec
+    Inv-loop
+    μ-loop
+    loop-holds
+    see-requires
+    main-of-requires
+    add-k
+    loop-less
+    loop-again
+    put-entry-requires
+    add-k-2
+    loop-less-2
+    loop-again-2
+    same-length
+    returns)

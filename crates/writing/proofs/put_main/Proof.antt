@@ -1,0 +1,70 @@
+use Prim.Native.Nat.{ℕ}
+use mathlib.Core.List.{List}
+use mathlib.Core.Path.{ap, _∙_}
+use lib.Seq.{slice}
+use Rattle.writing.specs.Rows.{mainBy}
+use Rattle.components.specs.Records.{mainRow}
+use Rattle.components.proofs.Written.{is-also}
+use borrow.Author.Needs.{needs}
+use Rattle.writing.proofs.put_main.Statement.{statement}
+use Rattle.writing.proofs.put_main.Tie as tie
+use Rattle.writing.proofs.put_main.Reads as reads
+use Rattle.writing.proofs.put_main.Lts as lts
+use Rattle.base.proofs.part.Reads as part-reads
+use Rattle.passes.proofs.word_of.Reads as word-of-reads
+use Rattle.rows.proofs.main_row.Reads as main-row-reads
+use Rattle.sheet.proofs.index.Reads as index-reads
+
+word-of-requires : tie.Need-word-of-requires
+word-of-requires c κs = search needs
+
+index-requires : tie.Need-index-requires
+index-requires c κs = search needs
+
+word-of-requires-2 : tie.Need-word-of-requires-2
+word-of-requires-2 c κs = search needs
+
+index-requires-2 : tie.Need-index-requires-2
+index-requires-2 c κs = search needs
+
+part-requires : tie.Need-part-requires
+part-requires c κs = search needs
+
+part-requires-2 : tie.Need-part-requires-2
+part-requires-2 c κs = search needs
+
+part-requires-3 : tie.Need-part-requires-3
+part-requires-3 c κs = search needs
+
+part-requires-4 : tie.Need-part-requires-4
+part-requires-4 c κs = search needs
+
+part-requires-5 : tie.Need-part-requires-5
+part-requires-5 c κs = search needs
+
+main-row-requires : tie.Need-main-row-requires
+main-row-requires c κs = search needs
+
+same-length : tie.Need-same-length
+same-length c = search needs
+
+returns : tie.Need-returns
+unfolding mainBy
+returns c = let a = c .before .before .before .before .before .before .before .before .before .before .before .before .before .before .before .before .before .before .before .before .before .before .args in is-also (λ i. mainRow ((c .before .before .before .before .before .before .before .part .ensures ∙ (λ j. slice ((c .before .before .before .before .before .before .before .before .before .before .before .index .ensures ∙ c .before .before .before .before .before .before .before .before .before .before .before .before .word-of .ensures) j) ((c .before .before .before .before .before .before .before .before .before .index2 .ensures ∙ c .before .before .before .before .before .before .before .before .before .before .word-of2 .ensures) j) (a .file .now))) i) (a .s .end) (c .before .before .before .before .before .before .part2 .ensures i) (c .before .before .before .before .before .part3 .ensures i) (c .before .before .before .before .part4 .ensures i) (c .before .before .before .part5 .ensures i)) (c .before .before .main-row .ensures)
+
+pub put-main-spec : {M : Type 1} → statement M
+put-main-spec =
+    tie.close
+    (tie.spec
+    word-of-requires
+    index-requires
+    word-of-requires-2
+    index-requires-2
+    part-requires
+    part-requires-2
+    part-requires-3
+    part-requires-4
+    part-requires-5
+    main-row-requires
+    same-length
+    returns)

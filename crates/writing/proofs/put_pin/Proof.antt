@@ -1,0 +1,29 @@
+use Prim.Native.Nat.{ℕ}
+use mathlib.Core.List.{List}
+use mathlib.Core.Path.{ap}
+use Rattle.writing.specs.Rows.{pinBy}
+use Rattle.components.specs.Records.{pinRow}
+use Rattle.components.proofs.Written.{is-also}
+use borrow.Author.Needs.{needs}
+use Rattle.writing.proofs.put_pin.Statement.{statement}
+use Rattle.writing.proofs.put_pin.Tie as tie
+use Rattle.writing.proofs.put_pin.Reads as reads
+use Rattle.writing.proofs.put_pin.Lts as lts
+use Rattle.base.proofs.part.Reads as part-reads
+use Rattle.rows.proofs.pin_row.Reads as pin-row-reads
+
+part-requires : tie.Need-part-requires
+part-requires c κs = search needs
+
+pin-row-requires : tie.Need-pin-row-requires
+pin-row-requires c κs = search needs
+
+same-length : tie.Need-same-length
+same-length c = search needs
+
+returns : tie.Need-returns
+unfolding pinBy
+returns c = is-also (ap (λ (t : List ℕ). pinRow t (c .before .before .before .before .before .before .before .before .before .before .args .s .end)) (c .before .before .before .part .ensures)) (c .before .before .pin-row .ensures)
+
+pub put-pin-spec : {M : Type 1} → statement M
+put-pin-spec = tie.close (tie.spec part-requires pin-row-requires same-length returns)
