@@ -125,9 +125,11 @@ returns-3 c =
     let k = c .before .before .loop .inv .seeking in
     let at = c .before .before .loop .at in
     let n = wide (A .s .now) in
-    let e : sameBytes (nameOf (A .file .now) n at) (slice (A .from) (A .to) (A .file .now)) ≡ true = sym (c .before .has-name .ensures) ∙ not-false _ (c .if2 .left) in
-    (sym (first-at (λ i. sameBytes (nameOf (A .file .now) n i) (slice (A .from) (A .to) (A .file .now))) _ 0 (A .used) at (omega arith) (omega (arith, k .standing)) e
-    (λ m h f. t .distinct m at (omega arith) (k .standing) (rw (same-is _ _ e) f))), omega (arith, k .standing))
+    let e : sameBytes (nameOf (A .file .now) n at) (slice (A .from) (A .to) (A .file .now)) ≡ true = sym (c .before .has-name .ensures) ∙ not-false _ (c .if2 .left) in (
+      sym (first-at (λ i. sameBytes (nameOf (A .file .now) n i) (slice (A .from) (A .to) (A .file .now))) _ 0 (A .used) at (omega arith) (omega (arith, k .standing)) e
+          (λ m h f. t .distinct m at (omega arith) (k .standing) (rw (same-is _ _ e) f))),
+      omega (arith, k .standing),
+    )
 
 pub find-spec : {M : Type 1} → statement M
 find-spec =

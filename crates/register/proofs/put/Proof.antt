@@ -33,10 +33,14 @@ same-length : tie.Need-same-length
 same-length c = search needs
 
 returns : tie.Need-returns
-returns c = let w = c .before .before .before .before .before .before .before .before .before .before .before .before .before .before .before .pre in let t = c .before .before .before .before .before .before .before .before .before .before .before .before .before .if1 .taken in (sym (has-room _ _ ∙ lt-ltb _ _ t), ap wide (rw (c .before .before .before .before .before .before .put2 .ensures, c .before .before .before .before .before .before .before .before .before .before .put .ensures, c .before .before .before .before .before .before .before .before .before .before .before .halves .ensures) at (c .before .before .relink .ensures)) ∙ wide-added _ _ _ _ _ _ t (w .0) (w .1) (w .3))
+returns c =
+    let room = c .before .before .before .before .before .before .before .before .before .before .before .before .before .if1 .taken in
+    let w = c .before .before .before .before .before .before .before .before .before .before .before .before .before .before .before .pre in
+    let stores = rw (c .before .before .before .before .before .before .put2 .ensures, c .before .before .before .before .before .before .before .before .before .before .put .ensures, c .before .before .before .before .before .before .before .before .before .before .before .halves .ensures) at (c .before .before .relink .ensures) in
+    (sym (has-room _ _ ∙ lt-ltb _ _ room), ap wide stores ∙ wide-added _ _ _ _ _ _ room (w .0) (w .1) (w .3))
 
 returns-2 : tie.Need-returns-2
-returns-2 c = let t = c .if1 .left in (sym (has-room _ _ ∙ le-ltb _ _ t), wide-full _ _ _ _ t)
+returns-2 c = let full = c .if1 .left in (sym (has-room _ _ ∙ le-ltb _ _ full), wide-full _ _ _ _ full)
 
 pub put-spec : {M : Type 1} → statement M
 put-spec =
