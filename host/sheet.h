@@ -151,8 +151,9 @@ _Static_assert(sizeof(struct sheet_item) == SHEET_ITEM_WORDS * sizeof(uint64_t),
  * least and takes none (`D2*`), and where G37 stands before an operation that takes one, the two have 6 (`G37D1*`). While a contour is
  * open, and only one is at a time, its second entry is covered by the FS (13 bytes), without which no D01 is reached. For a file of the
  * newer edition n / 4 is enough by the same count, since no command of it has fewer than 4 bytes (`D03*`).
- * The entries are also where the names of TF are looked up before the file is read (decision 255), eight words each; a TF has 6 bytes at
- * least, so that n / 3 entries, and n / 4, hold them all, and fewer cost time and nothing else.
+ * The entries are also where the names of TF are looked up before the file is read (decision 255), two words each; a TF has 6 bytes at
+ * least, so that n / 3 entries, and n / 4, hold them all, and fewer cost time and nothing else: where they hold fewer than 65,536 names
+ * (8,739 entries), the look takes room of its own for as many, 1 MB of the stack. Every reading sets that aside, whether it is used or not.
  * Apertures: n / 8. An AB opening has 8 bytes at least (`%ABD10*%`), an AD 9 (`%ADD10a*%`).
  * Macros: n / 8. An AM has 8 bytes at least (`%AMa*0*%`).
  * Numbers: n / 2 + n * n / 72, and here a host may well lend fewer, and be answered 17. Each parameter of a standard template has a

@@ -61,7 +61,7 @@ fn bit_of(b: u8, r: usize) -> bool
 }
 
 // Bit d of the key of the name file[from..to].
-fn name_bit(file: &[u8], from: usize, to: usize, d: usize) -> bool
+pub fn name_bit(file: &[u8], from: usize, to: usize, d: usize) -> bool
     requires { ⌜ (from ≤ to) × (to ≤ length (now file)) ⌝ }
     ensures { λ t. ⌜ t ≡ isHigh (keyOf (slice from to (now (file .entry))) / 2 ^ d) ⌝ }
 {

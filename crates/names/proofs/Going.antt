@@ -19,7 +19,7 @@ use Rattle.tables.specs.Macros.{macroWords}
 use Rattle.tables.proofs.Adding.{added-long}
 use Rattle.reading.specs.Apertures.{isAmong}
 use Rattle.names.specs.Twice.{lookAt, twiceIn, firstIn}
-use Rattle.names.specs.Kept.{nameAt, noted, notedOf, keptAt, keptOf, Passed}
+use Rattle.names.specs.Kept.{nameAt, noted, notedOf, keptAt, keptOf, Narrow, Passed}
 use Rattle.names.specs.declared.Look.the-variants.{End, Other, Naming}
 use Rattle.names.specs.declared.Noted.{Noted}
 use Rattle.names.specs.declared.Noted.the-variants.{Again, New, Full}
@@ -51,6 +51,10 @@ going-start book file s from h k = record {
   left = all refl refl;
   held = held-start file s;
 }
+
+-- as long, as narrow
+pub narrow-same : (file s t : List ℕ) → length t ≡ length s → Narrow file s → Narrow file t
+narrow-same file s t e n = record { places = n .places; records = rw e (n .records) }
 
 -- the table is as long as it was
 eight : (from to : ℕ) → length (macroWords (nameAt from to)) ≡ 8

@@ -1,5 +1,5 @@
--- The names kept in a table of records of eight words, which hold where each begins and ends in the file (docs/SHEET.md, decision 209).
-use Prim.Native.Nat.{ℕ, _+_, _<_, _≤_, min}
+-- The names kept in a table of records, which hold where each begins and ends in the file (docs/SHEET.md, decisions 209, 532).
+use Prim.Native.Nat.{ℕ, _+_, _/_, _<_, _≤_, min}
 use mathlib.Core.Path.{_≡_}
 use mathlib.Core.Bool.{cond}
 use mathlib.Core.List.{List, []}
@@ -12,6 +12,7 @@ use Rattle.index.specs.declared.Search.the-variants.{At, Free}
 use Rattle.tables.specs.Added.{hasRoom, added}
 use Rattle.tables.specs.Macros.{macroWords}
 use Rattle.tables.specs.declared.Macro.{Macro}
+use Rattle.register.specs.Wide.{half, nameWidth}
 use Rattle.names.specs.Twice.{twiceIn}
 use Rattle.names.specs.declared.Noted.{Noted}
 use Rattle.names.specs.declared.Pass.{Pass}
@@ -36,6 +37,11 @@ keptAt s used from to (Free link) = added s used link (macroWords (nameAt from t
 
 unfoldable pub keptOf : List ℕ → List ℕ → ℕ → ℕ → ℕ → List ℕ
 keptOf file s used from to = keptAt s used from to (named file s used (slice from to file))
+
+-- places in the file, and records of two words in the room s, have half a word
+pub record Narrow (file s : List ℕ) : Type 0 where
+  pub places : length file < half
+  pub records : length s / nameWidth ≤ half
 
 -- a walk from `from` on: the first repeat is either the TF that was found, which sets one of the names that were kept, or one from `rest`
 -- on, where the first name stands that there was no room for

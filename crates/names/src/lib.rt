@@ -8,15 +8,15 @@ ghost use Rattle.formats.specs.Format.{noFormat};
 ghost use Rattle.recognise.specs.Commands.{commandOf};
 ghost use Rattle.names.specs.Sets.{setsBy, setsOf};
 ghost use Rattle.names.specs.Twice.{lookAt, firstAt, twiceAt};
-ghost use Rattle.names.specs.Kept.{notedOf, keptOf, Passed};
+ghost use Rattle.names.specs.Kept.{notedOf, keptOf, Narrow, Passed};
+ghost use Rattle.register.specs.Wide.{half, wide};
 use book::Book;
 use command::Command;
 use command::Deed;
 use command::Span;
-use index::Search;
+use register::Found;
 use scan::Kind;
 use scan::Scan;
-use tables::Macro;
 
 // What a command sets of the file's attributes, with the place of the name in its text.
 pub enum Sets {
@@ -161,20 +161,14 @@ pub fn first_at(book: Book, file: &[u8], name: &[u8]) -> usize
 
 // Looks for the name file[from..to] among the `used` names that are kept, and keeps it where it is new and there is room.
 fn note(file: &[u8], s: &mut [u64], used: usize, from: usize, to: usize) -> Noted
-    requires { ⌜ Named (now file) (now s) used × (from ≤ to) × (to ≤ length (now file)) ⌝ }
-    ensures { λ r. ⌜ (r ≡ notedOf (now (file .entry)) (now (s .entry)) used from to) × (now (s .exit) ≡ keptOf (now (file .entry)) (now (s .entry)) used from to) ⌝ }
+    requires { ⌜ Named (now file) (wide (now s)) used × (from ≤ to) × (to ≤ length (now file)) × Narrow (now file) (now s) ⌝ }
+    ensures { λ r. ⌜ (r ≡ notedOf (now (file .entry)) (wide (now (s .entry))) used from to) × (wide (now (s .exit)) ≡ keptOf (now (file .entry)) (wide (now (s .entry))) used from to) ⌝ }
 {
-    let found = index::search_name(file, s, used, from, to);
-    let Search::Free(link) = found else {
+    let found = register::find(file, s, used, from, to);
+    let Found::Free { at, high } = found else {
         return Noted::Again;
     };
-    let name = Macro {
-        from,
-        to,
-        first: 0,
-        end: 0,
-    };
-    if tables::put_macro(s, used, link, name) {
+    if register::put(s, used, at, high, from, to) {
         return Noted::New(used + 1);
     }
     Noted::Full
@@ -189,7 +183,7 @@ fn nearer(a: usize, b: usize) -> usize
 
 // A walk from a place on: keeps the names while there is room, and finds the first TF that sets one of those kept.
 fn walk_from(book: Book, file: &[u8], s: &mut [u64], from: usize) -> Pass
-    requires { ⌜ (from < length (now file)) × (8 ≤ length (now s)) ⌝ }
+    requires { ⌜ (from < length (now file)) × (2 ≤ length (now s)) × Narrow (now file) (now s) ⌝ }
     ensures { λ r. ⌜ Passed book (now (file .entry)) from r × (length (now (s .exit)) ≡ length (now (s .entry))) ⌝ }
 {
     let mut used: usize = 0;
@@ -235,7 +229,7 @@ fn walk_from(book: Book, file: &[u8], s: &mut [u64], from: usize) -> Pass
 // The place of the first TF whose name was set before, the length of the file where there is none: a walk for as many names as there is
 // room for.
 fn repeat_in(book: Book, file: &[u8], s: &mut [u64]) -> usize
-    requires { ⌜ 8 ≤ length (now s) ⌝ }
+    requires { ⌜ (2 ≤ length (now s)) × Narrow (now file) (now s) ⌝ }
     ensures { λ r. ⌜ (r ≡ twiceAt book (now (file .entry))) × (length (now (s .exit)) ≡ length (now (s .entry))) ⌝ }
 {
     let mut at: usize = 0;
@@ -248,19 +242,22 @@ fn repeat_in(book: Book, file: &[u8], s: &mut [u64]) -> usize
     found
 }
 
-// The same over room of its own, for 4,096 names.
+// The same over room of its own, for 65,536 names.
 fn own_repeat_in(book: Book, file: &[u8]) -> usize
+    requires { ⌜ length (now file) < half ⌝ }
     ensures { λ r. ⌜ r ≡ twiceAt book (now (file .entry)) ⌝ }
 {
-    let mut own = [0u64; 32768];
+    let mut own = [0u64; 131072];
     repeat_in(book, file, &mut own)
 }
 
-// The same for those who lend room for the names, which holds zeros afterwards; where it is small, it is not used for the names.
+// The same for those who lend room for the names, which holds zeros afterwards; where it is smaller than the own room, or too large for
+// links of half a word, it is not used for the names.
 pub fn first_repeat(book: Book, file: &[u8], scratch: &mut [u64]) -> usize
+    requires { ⌜ length (now file) < half ⌝ }
     ensures { λ r. ⌜ (r ≡ twiceAt book (now (file .entry))) × (now (scratch .exit) ≡ replicate (length (now (scratch .entry))) 0) ⌝ }
 {
-    if scratch.len() < 32768 {
+    if base::either(scratch.len() < 131072, scratch.len() >= 8589934592) {
         base::clear(scratch);
         return own_repeat_in(book, file);
     }

@@ -63,6 +63,7 @@ fn run_over(
     m: &mut [u64],
     numbers: &mut [i64],
 ) -> End
+    requires { ⌜ fits (now file) ≡ true ⌝ }
     ensures { λ r. ⌜ AsLong (lentOf (now (file .entry)) (now (e .entry)) (now (a .entry)) (now (m .entry)) (now (numbers .entry)))
         (lentOf (now (file .entry)) (now (e .exit)) (now (a .exit)) (now (m .exit)) (now (numbers .exit)))
         × Ends book (answerOf book (lentOf (now (file .entry)) (now (e .entry)) (now (a .entry)) (now (m .entry)) (now (numbers .entry))))

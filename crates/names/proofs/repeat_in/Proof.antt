@@ -8,6 +8,7 @@ use mathlib.Core.List.{[]}
 use native.Mathlib.Omega.{arith}
 use lib.ListN.{length}
 use Rattle.names.specs.Twice.{twiceIn, twiceAt}
+use Rattle.names.proofs.Going.{narrow-same}
 use Rattle.names.proofs.Parted.{twice-from, twice-inside}
 use Rattle.names.proofs.repeat_in.Statement.{statement}
 use Rattle.names.proofs.repeat_in.Tie as tie
@@ -26,7 +27,8 @@ loop-holds c = (omega arith, omega arith, twice-inside (c .before .before .args 
 walk-from-requires : tie.Need-walk-from-requires Inv-loop μ-loop
 walk-from-requires c κs =
     let v = c .before .before .loop .inv in
-    (omega (arith, v .1), omega (arith, v .3))
+    let w = c .before .before .before .before .before .pre in
+    (omega (arith, v .1), omega (arith, v .3, w .0), narrow-same _ _ _ (v .3) (w .1))
 
 nearer-requires : tie.Need-nearer-requires Inv-loop μ-loop
 nearer-requires c κs = search needs

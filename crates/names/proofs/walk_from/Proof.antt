@@ -6,21 +6,23 @@ use Prim.Native.Nat.{_-_, _<_}
 use mathlib.Core.Path.{_≡_, refl, sym, ap, _∙_}
 use native.Mathlib.Omega.{arith}
 use lib.ListN.{length}
+use Rattle.register.specs.Wide.{wide}
+use Rattle.register.proofs.Wide.{wide-long}
 use Rattle.names.specs.Twice.{lookAt}
 use Rattle.names.specs.declared.Look.the-variants.{Other, Naming}
 use Rattle.names.proofs.Walk.{other-onward, naming-onward}
-use Rattle.names.proofs.Going.{Going, going-start, going-end, going-other, Follows, going-naming, kept-long}
+use Rattle.names.proofs.Going.{Going, going-start, going-end, going-other, Follows, going-naming, narrow-same}
 use Rattle.names.proofs.walk_from.Statement.{statement}
 use Rattle.names.proofs.walk_from.Tie as tie
 
 abbrev Inv-loop : tie.InvT-loop
-Inv-loop book file s₀ from used₀ at₀ rest₀ s used at rest = Going book file s used from at rest × (length s ≡ length s₀)
+Inv-loop book file s₀ from used₀ at₀ rest₀ s used at rest = Going book file (wide s) used from at rest × (length s ≡ length s₀)
 
 abbrev μ-loop : tie.MeasureT-loop
 μ-loop book file s₀ from used₀ at₀ rest₀ s used at rest = length file - at
 
 loop-holds : tie.Need-loop-holds Inv-loop μ-loop
-loop-holds c = let p = c .before .before .pre in (going-start _ _ _ _ (p .0) (p .1), refl)
+loop-holds c = let p = c .before .before .pre in (going-start _ _ _ _ (p .0) (omega (arith, p .1, wide-long (c .before .before .args .s .now))), refl)
 
 look-at-requires : tie.Need-look-at-requires Inv-loop μ-loop
 look-at-requires c κs = c .loop .inv .0 .inside
@@ -67,12 +69,12 @@ note-requires c κs =
     let t = c .before .before in
     let l = t .before .before .before .loop in
     let o = naming-onward _ _ (l .at) (l .inv .0 .inside) (naming t) in
-    (l .inv .0 .held .table, o .3, o .4)
+    (l .inv .0 .held .table, o .3, o .4, narrow-same _ _ _ (l .inv .1) (c .before .before .before .before .before .before .before .before .pre .2))
 
 -- how its name is noted
 noted : (c : tie.After-note Inv-loop μ-loop) → let t = c .before .before .before in let l = t .before .before .before in let v = t .l2 .given .0 in
     let A = l .before .before .before .args in
-    Follows (A .book) (A .file .now) (l .loop .used) (A .from) (l .loop .at) (l .loop .rest) (v .0) (v .1 .1 .1 .0) (c .note .last .1 .0) (c .note .result)
+    Follows (A .book) (A .file .now) (l .loop .used) (A .from) (l .loop .at) (l .loop .rest) (v .0) (v .1 .1 .1 .0) (wide (c .note .last .1 .0)) (c .note .result)
 noted c =
     let t = c .before .before .before in
     let l = t .before .before .before .loop in
@@ -80,7 +82,7 @@ noted c =
 
 noted-long : (c : tie.After-note Inv-loop μ-loop) → let l = c .before .before .before .before .before .before in
     length (c .note .last .1 .0) ≡ length (l .before .before .before .args .s .now)
-noted-long c = ap length (c .note .ensures .1) ∙ kept-long _ _ _ _ _ ∙ c .before .before .before .before .before .before .loop .inv .1
+noted-long c = c .note .kept .1 .0 ∙ c .before .before .before .before .before .before .loop .inv .1
 
 -- each turn leads on
 onward : (c : tie.After-note Inv-loop μ-loop) → let t = c .before .before .before in let l = t .before .before .before in let F = l .before .before .before .args .file .now in

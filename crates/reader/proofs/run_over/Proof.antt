@@ -4,6 +4,9 @@
 use borrow.Author.Needs.{needs}
 use mathlib.Core.Path.{refl, _∙_}
 use native.Mathlib.Omega.{arith}
+use borrow.Author.Tests.{leb-true}
+use lib.ListN.{length}
+use Rattle.scan.specs.Permitted.{fits}
 use Rattle.progress.specs.Lent.{Lent, lentOf}
 use Rattle.running.specs.Ends.{Empty, AsLong, Looked}
 use Rattle.running.proofs.Runs.{same-long, longs}
@@ -93,7 +96,10 @@ enum-told : tie.Need-enum-told Inv-loop μ-loop
 enum-told c = search needs
 
 first-repeat-requires : tie.Need-first-repeat-requires Inv-loop μ-loop
-first-repeat-requires c κs = tt
+unfolding fits
+first-repeat-requires c κs =
+    let b = begins (turn (cleared (ran (c .before .before .before)))) in
+    omega (arith, leb-true (length (b .args .file .now)) 16777216 (b .pre))
 
 -- it asks
 abbrev asked : tie.After-slice-known10 Inv-loop μ-loop → tie.After-enum-told Inv-loop μ-loop
