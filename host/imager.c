@@ -18,7 +18,7 @@
  *   imager batch [--room E,A,M,N]       for each file named on standard input: name, sheet or refusal, hash of its first 2000 lines
  *
  * The file stands on standard input but for batch and mends; fields are parted by tabs. A refusal prints refused, number and place; of an
- * attribute, refused and number. Every mode takes --edition new|old and --letters old|new among its words: the newer edition and the old
+ * attribute, refused and number; and on standard error, but for batch, mends and cuts, what that means. Every mode takes --edition new|old and --letters old|new among its words: the newer edition and the old
  * letters where they are not said. */
 #include <errno.h>
 #include <inttypes.h>
@@ -27,6 +27,7 @@
 #include <string.h>
 
 #include "mending.h"
+#include "refusals.h"
 #include "store.h"
 
 enum { RUN = 65536, HASHED = 2000, LINE = 512 };
@@ -170,6 +171,7 @@ static int refused(const struct store *s)
         return 0;
     print_refusal(s, '\t');
     putchar('\n');
+    tell_refusal("imager", s->number);
     return 1;
 }
 
@@ -183,8 +185,20 @@ static void list(const struct store *s)
 
 static void sheet(const struct store *s)
 {
+    if (refused(s))
+        return;
     print_sheet(s, '\t');
     putchar('\n');
+}
+
+/* A number other than 0, with no place. */
+static int answered(uint64_t number)
+{
+    if (number == SHEET_ACCEPTED)
+        return 1;
+    printf("refused\t%" PRIu64 "\t0\n", number);
+    tell_refusal("imager", number);
+    return 0;
 }
 
 static void items(const struct store *s, uint64_t k, uint64_t count)
@@ -195,18 +209,10 @@ static void items(const struct store *s, uint64_t k, uint64_t count)
     if (sheet_total(s->head, s->entries, s->entries_words, s->apertures, s->apertures_words, &total) != SHEET_ACCEPTED)
         fail("the store is no sheet");
     if (k >= total) {
-        printf("refused\t%d\t0\n", SHEET_PAST);
+        answered(SHEET_PAST);
         return;
     }
     each_line(s, k, count < total - k ? k + count : total, print_line, stdout);
-}
-
-/* A number other than 0, with no place. */
-static int answered(uint64_t number)
-{
-    if (number != SHEET_ACCEPTED)
-        printf("refused\t%" PRIu64 "\t0\n", number);
-    return number == SHEET_ACCEPTED;
 }
 
 static void address(const struct store *s, uint64_t k)
@@ -274,10 +280,12 @@ static void attribute(struct bytes file, const char *mode, int of_aperture, size
         number = sheet_aperture_attribute(book.edition, book.letters, file.at, file.count, place, text, strlen(name), &at, &count);
     else
         number = sheet_object_attribute(book.edition, book.letters, file.at, file.count, place, text, strlen(name), &at, &count);
-    if (number == SHEET_ACCEPTED)
+    if (number == SHEET_ACCEPTED) {
         printf("%s\t%" PRIu64 "\t%" PRIu64 "\n", mode, at, count);
-    else
-        printf("refused\t%" PRIu64 "\n", number);
+        return;
+    }
+    printf("refused\t%" PRIu64 "\n", number);
+    tell_refusal("imager", number);
 }
 
 /* A signature is judged whatever the file's length. */
@@ -287,6 +295,7 @@ static void verify(struct bytes file)
     uint64_t place, number = sheet_signature(book.edition, book.letters, file.at, file.count, &place, digest);
     if (number != SHEET_ACCEPTED) {
         printf("refused\t%" PRIu64 "\t%" PRIu64 "\n", number, place);
+        tell_refusal("imager", number);
         return;
     }
     printf("signed\t");
@@ -370,6 +379,8 @@ static void mend(struct bytes file, int raw, const struct room *room)
     } else {
         print_mended(&m, '\t', '\n');
         putchar('\n');
+        if (m.number != SHEET_ACCEPTED)
+            tell_refusal("imager", m.number);
     }
     give_back_mended(&m);
 }

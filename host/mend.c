@@ -10,6 +10,7 @@
 #include <string.h>
 
 #include "mending.h"
+#include "refusals.h"
 
 /* No more numbers than these are lent; sheet.h says why there is no room that is always enough. */
 static const size_t most_numbers = (size_t)1 << 24;
@@ -46,7 +47,7 @@ static void tell(uint64_t kind, uint64_t place, const uint8_t *file, size_t coun
                 (const char *)file + place + 1);
         break;
     case SHEET_ADD_END:
-        fprintf(stderr, "the file stops without its end; M02* is added behind the last whole command\n");
+        fprintf(stderr, "the file stops without its end; M02* is added after the last whole command\n");
         break;
     case SHEET_DROP_TAIL:
         fprintf(stderr, "what follows that command is no whole command; %" PRIu64 " bytes are taken off\n", (uint64_t)count - place);
@@ -58,14 +59,7 @@ static void tell(uint64_t kind, uint64_t place, const uint8_t *file, size_t coun
 
 static int refuse(uint64_t number)
 {
-    const char *why = "the edition or the rule of letters is not known";
-    if (number == SHEET_TOO_LONG)
-        why = "the file is longer than 16,777,216 bytes";
-    else if (number == SHEET_UNMENDED)
-        why = "it is broken in a way that may not be mended; ask the sender for it again";
-    else if (number == SHEET_ROOM)
-        why = "there is not enough room for what it draws";
-    fprintf(stderr, "mend: not mended (%" PRIu64 "): %s\n", number, why);
+    fprintf(stderr, "mend: not mended (%" PRIu64 "): %s\n", number, refusal_sentence(number));
     return 1;
 }
 
