@@ -72,4 +72,6 @@ if [ -f ../shared/corpus/kicad-layers.tgz ]; then
     tar xzf ../shared/corpus/kicad-layers.tgz -C "$room/layers"
     find "$room/layers" -type f -size -200k | sort >"$room/kicad"
     agree "$room/kicad"
+else
+    echo "SKIPPED: no ../shared/corpus/kicad-layers.tgz beside the repository, so no real layer"
 fi

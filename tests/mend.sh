@@ -92,7 +92,7 @@ cut_layers() { # LAYERS [TERMS]
     local layers=$1 archive=../shared/corpus/$1.tgz layer
     shift
     if [ ! -f "$archive" ]; then
-        echo "mend: no $archive, no layer is cut"
+        echo "SKIPPED: no $archive beside the repository, so no real layer is cut"
         return 0
     fi
     mkdir "$room/$layers"
