@@ -327,12 +327,13 @@ static void batch_line(const char *name, const struct room *room)
     free(file.at);
 }
 
-/* For each file named on standard input, its line. */
+/* For each file named on standard input, its line, written whole, so that several batches may write to one file. */
 static void each_file(void (*tell)(const char *, const struct room *), const struct room *room)
 {
     char *name = NULL;
     size_t size = 0;
     ssize_t n;
+    setvbuf(stdout, NULL, _IOLBF, 65536);
     while ((n = getline(&name, &size, stdin)) >= 0) {
         if (n > 0 && name[n - 1] == '\n')
             name[n - 1] = 0;

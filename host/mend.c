@@ -40,6 +40,7 @@ static struct room room_for(size_t n)
 
 static void tell(uint64_t kind, uint64_t place, const uint8_t *file, size_t count)
 {
+    uint64_t gone = count - place;
     fprintf(stderr, "mend: at byte %" PRIu64 ": ", place);
     switch (kind) {
     case SHEET_DROP_REPEAT:
@@ -50,10 +51,10 @@ static void tell(uint64_t kind, uint64_t place, const uint8_t *file, size_t coun
         fprintf(stderr, "the file stops without its end; M02* is added after the last whole command\n");
         break;
     case SHEET_DROP_TAIL:
-        fprintf(stderr, "what follows that command is no whole command; %" PRIu64 " bytes are taken off\n", (uint64_t)count - place);
+        fprintf(stderr, "what follows that command is no whole command; %" PRIu64 " byte%s taken off\n", gone, gone == 1 ? " is" : "s are");
         break;
     default:
-        fprintf(stderr, "more follows the command that ends the file; %" PRIu64 " bytes are taken off\n", (uint64_t)count - place);
+        fprintf(stderr, "more follows the command that ends the file; %" PRIu64 " byte%s taken off\n", gone, gone == 1 ? " is" : "s are");
     }
 }
 
