@@ -34,5 +34,5 @@ done
 for number in {2..20} 22 23 24 25 29 30 31 32 33; do # 1, 21 and 101 in tests/refusals.sh
     grep -q "^refused	$number\($\|	\)" "$own/answers" || { echo "own: no question gets $number"; faults=$((faults + 1)); }
 done
-echo "own: $(grep -c '^? ' "$own/answers") questions about $(ls "$own"/*.gbr | wc -l) files, every number among the answers"
+echo "own: $(grep -c '^? ' "$own/answers") questions about $(ls "$own"/*.gbr | wc -l) files, every number among the answers; $faults faults"
 [ "$faults" -eq 0 ]
