@@ -1,4 +1,5 @@
 /* The sample host: asks the proved reader about a layer file, and prints what it answers.
+ * What a refusal means it says on standard error too, but for batch, mends and cuts.
  *
  *   imager list [--room E,A,M,N]        the listing's lines
  *   imager sheet [--room E,A,M,N]       sheet, unit, total, entries, apertures, macros, numbers used, decimals rounded
@@ -18,7 +19,7 @@
  *   imager batch [--room E,A,M,N]       for each file named on standard input: name, sheet or refusal, hash of its first 2000 lines
  *
  * The file stands on standard input but for batch and mends; fields are parted by tabs. A refusal prints refused, number and place; of an
- * attribute, refused and number; and on standard error, but for batch, mends and cuts, what that means. Every mode takes --edition new|old and --letters old|new among its words: the newer edition and the old
+ * attribute, refused and number. Every mode takes --edition new|old and --letters old|new among its words: the newer edition and the old
  * letters where they are not said. */
 #include <errno.h>
 #include <inttypes.h>

@@ -1,7 +1,8 @@
 #!/usr/bin/env bash
 # docs/REFUSALS.md: every number has its section there, with the small file of tests/refusals that gets it, byte for byte. Both the sample
 # host and the second reader answer each of these files with its number at its place, the sample host with a sentence on standard error
-# too; and with any one command left out they answer something else, so that nothing in the file is idle. 1, 21 and 101, which no small
+# too; and with any one command left out they answer something else, so that nothing in the file is idle. So do they answer what designers
+# usually did, tests/refusals/usual. 1, 21 and 101, which no small
 # file gets, are tried here and in tests/refusals.c.
 set -eu
 cd "$(dirname "$0")/.."
@@ -15,6 +16,7 @@ room=$(mktemp -d)
 trap 'rm -rf "$room"' EXIT
 imager() { ${emulator:+"$emulator"} "$made/imager" "$@"; }
 tried=0
+usual=0
 left_out=0
 faults=0
 
@@ -60,6 +62,20 @@ while read -r number place words; do
     done
 done <tests/refusals/answers
 
+# What designers usually did.
+head=
+while IFS= read -r line; do
+    case $line in '' | \#*) continue ;; head*) head=${line#head}; head=${head# }; continue ;; esac
+    words=(list)
+    [[ $line != old\ * ]] || words=(list --edition old)
+    line=${line#old }
+    printf '%b' "$(printf '%s' "$head${line#* }" | sed 's/\\\([0-7][0-7][0-7]\)/\\0\1/g')" >"$room/usual"
+    usual=$((usual + 1))
+    answers "$room/usual" "${words[@]}"
+    [[ "$given " == "refused ${line%% *} "* ]] || fault "usual, '$line': the sample host answers '$given'"
+    [ "$given" = "$other" ] || fault "usual, '$line': the readers answer '$given' and '$other'"
+done <tests/refusals/usual
+
 # Every number has its section, and those that a file gets their file.
 for number in {1..34} 100 101; do
     grep -q "^## $number: " docs/REFUSALS.md || fault "docs/REFUSALS.md has no section for $number"
@@ -71,5 +87,5 @@ answers "$room/long" sheet
 [ "$given" = "refused 1 0" ] && [ "$other" = "refused 1 0" ] || fault "of 16,777,217 bytes the readers answer '$given' and '$other'"
 ${emulator:+"$emulator"} "$made/refusals" <examples/strip.gbr || faults=$((faults + 1))
 
-echo "refusals: $tried files, each also with each of its $left_out commands left out; $faults faults"
+echo "refusals: $tried files, each also with each of its $left_out commands left out; $usual usual mistakes; $faults faults"
 [ "$faults" -eq 0 ]
