@@ -18,6 +18,7 @@ for name in listing verify mend imager; do
     [ -x "$prefix/bin/$name" ] || fault "no bin/$name"
     [ -f "$prefix/share/man/man1/$name.1" ] || fault "no manual page of $name"
 done
+command -v groff >/dev/null || echo "SKIPPED: no groff, so the form of the manual pages is not tried"
 for page in "$prefix"/share/man/man1/*.1; do
     [ -x "$prefix/bin/$(basename "$page" .1)" ] || fault "$(basename "$page") is of no program"
     ! command -v groff >/dev/null || [ -z "$(groff -man -ww -z "$page" 2>&1)" ] || fault "$(basename "$page") is not well-formed"
@@ -39,6 +40,7 @@ if command -v pkg-config >/dev/null; then
     flags=$(pkg-config --cflags frinzavoe)
     libraries=$(pkg-config --libs frinzavoe)
 else
+    echo "SKIPPED: no pkg-config, so frinzavoe.pc is not tried"
     flags=-I$prefix/include/frinzavoe
     libraries="-L$prefix/lib -lfrinzavoe"
 fi

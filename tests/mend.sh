@@ -22,6 +22,8 @@ ${emulator:+"$emulator"} "$made/mending"
 if [ -z "$emulator" ] && host/build tests/mending.c "$made/mending-asan" -fsanitize=address -g 2>/dev/null; then
     "$made/mending-asan" >/dev/null
     echo "mend: the same under AddressSanitizer"
+else
+    echo "SKIPPED: AddressSanitizer does not run here"
 fi
 imager() { ${emulator:+"$emulator"} "$made/imager" "$@"; }
 mend() { ${emulator:+"$emulator"} "$made/mend" "$@"; }
