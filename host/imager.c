@@ -1,4 +1,5 @@
 /* The sample host: asks the proved reader about a layer file, and prints what it answers.
+ * What a refusal means it says on standard error too, but for batch, mends and cuts.
  *
  *   imager list [--room E,A,M,N]        the listing's lines
  *   imager sheet [--room E,A,M,N]       sheet, unit, total, entries, apertures, macros, numbers used, decimals rounded
@@ -27,6 +28,7 @@
 #include <string.h>
 
 #include "mending.h"
+#include "refusals.h"
 #include "store.h"
 
 enum { RUN = 65536, HASHED = 2000, LINE = 512 };
@@ -170,6 +172,7 @@ static int refused(const struct store *s)
         return 0;
     print_refusal(s, '\t');
     putchar('\n');
+    tell_refusal("imager", s->number);
     return 1;
 }
 
@@ -183,8 +186,20 @@ static void list(const struct store *s)
 
 static void sheet(const struct store *s)
 {
+    if (refused(s))
+        return;
     print_sheet(s, '\t');
     putchar('\n');
+}
+
+/* A number other than 0, with no place. */
+static int answered(uint64_t number)
+{
+    if (number == SHEET_ACCEPTED)
+        return 1;
+    printf("refused\t%" PRIu64 "\t0\n", number);
+    tell_refusal("imager", number);
+    return 0;
 }
 
 static void items(const struct store *s, uint64_t k, uint64_t count)
@@ -195,18 +210,10 @@ static void items(const struct store *s, uint64_t k, uint64_t count)
     if (sheet_total(s->head, s->entries, s->entries_words, s->apertures, s->apertures_words, &total) != SHEET_ACCEPTED)
         fail("the store is no sheet");
     if (k >= total) {
-        printf("refused\t%d\t0\n", SHEET_PAST);
+        answered(SHEET_PAST);
         return;
     }
     each_line(s, k, count < total - k ? k + count : total, print_line, stdout);
-}
-
-/* A number other than 0, with no place. */
-static int answered(uint64_t number)
-{
-    if (number != SHEET_ACCEPTED)
-        printf("refused\t%" PRIu64 "\t0\n", number);
-    return number == SHEET_ACCEPTED;
 }
 
 static void address(const struct store *s, uint64_t k)
@@ -274,10 +281,12 @@ static void attribute(struct bytes file, const char *mode, int of_aperture, size
         number = sheet_aperture_attribute(book.edition, book.letters, file.at, file.count, place, text, strlen(name), &at, &count);
     else
         number = sheet_object_attribute(book.edition, book.letters, file.at, file.count, place, text, strlen(name), &at, &count);
-    if (number == SHEET_ACCEPTED)
+    if (number == SHEET_ACCEPTED) {
         printf("%s\t%" PRIu64 "\t%" PRIu64 "\n", mode, at, count);
-    else
-        printf("refused\t%" PRIu64 "\n", number);
+        return;
+    }
+    printf("refused\t%" PRIu64 "\n", number);
+    tell_refusal("imager", number);
 }
 
 /* A signature is judged whatever the file's length. */
@@ -287,6 +296,7 @@ static void verify(struct bytes file)
     uint64_t place, number = sheet_signature(book.edition, book.letters, file.at, file.count, &place, digest);
     if (number != SHEET_ACCEPTED) {
         printf("refused\t%" PRIu64 "\t%" PRIu64 "\n", number, place);
+        tell_refusal("imager", number);
         return;
     }
     printf("signed\t");
@@ -318,12 +328,13 @@ static void batch_line(const char *name, const struct room *room)
     free(file.at);
 }
 
-/* For each file named on standard input, its line. */
+/* For each file named on standard input, its line, written whole, so that several batches may write to one file. */
 static void each_file(void (*tell)(const char *, const struct room *), const struct room *room)
 {
     char *name = NULL;
     size_t size = 0;
     ssize_t n;
+    setvbuf(stdout, NULL, _IOLBF, 65536);
     while ((n = getline(&name, &size, stdin)) >= 0) {
         if (n > 0 && name[n - 1] == '\n')
             name[n - 1] = 0;
@@ -370,6 +381,8 @@ static void mend(struct bytes file, int raw, const struct room *room)
     } else {
         print_mended(&m, '\t', '\n');
         putchar('\n');
+        if (m.number != SHEET_ACCEPTED)
+            tell_refusal("imager", m.number);
     }
     give_back_mended(&m);
 }

@@ -10,6 +10,7 @@
 #include <string.h>
 
 #include "mending.h"
+#include "refusals.h"
 
 /* No more numbers than these are lent; sheet.h says why there is no room that is always enough. */
 static const size_t most_numbers = (size_t)1 << 24;
@@ -39,6 +40,7 @@ static struct room room_for(size_t n)
 
 static void tell(uint64_t kind, uint64_t place, const uint8_t *file, size_t count)
 {
+    uint64_t gone = count - place;
     fprintf(stderr, "mend: at byte %" PRIu64 ": ", place);
     switch (kind) {
     case SHEET_DROP_REPEAT:
@@ -46,26 +48,19 @@ static void tell(uint64_t kind, uint64_t place, const uint8_t *file, size_t coun
                 (const char *)file + place + 1);
         break;
     case SHEET_ADD_END:
-        fprintf(stderr, "the file stops without its end; M02* is added behind the last whole command\n");
+        fprintf(stderr, "the file stops without its end; M02* is added after the last whole command\n");
         break;
     case SHEET_DROP_TAIL:
-        fprintf(stderr, "what follows that command is no whole command; %" PRIu64 " bytes are taken off\n", (uint64_t)count - place);
+        fprintf(stderr, "what follows that command is no whole command; %" PRIu64 " byte%s taken off\n", gone, gone == 1 ? " is" : "s are");
         break;
     default:
-        fprintf(stderr, "more follows the command that ends the file; %" PRIu64 " bytes are taken off\n", (uint64_t)count - place);
+        fprintf(stderr, "more follows the command that ends the file; %" PRIu64 " byte%s taken off\n", gone, gone == 1 ? " is" : "s are");
     }
 }
 
 static int refuse(uint64_t number)
 {
-    const char *why = "the edition or the rule of letters is not known";
-    if (number == SHEET_TOO_LONG)
-        why = "the file is longer than 16,777,216 bytes";
-    else if (number == SHEET_UNMENDED)
-        why = "it is broken in a way that may not be mended; ask the sender for it again";
-    else if (number == SHEET_ROOM)
-        why = "there is not enough room for what it draws";
-    fprintf(stderr, "mend: not mended (%" PRIu64 "): %s\n", number, why);
+    fprintf(stderr, "mend: not mended (%" PRIu64 "): %s\n", number, refusal_sentence(number));
     return 1;
 }
 

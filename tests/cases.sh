@@ -33,7 +33,7 @@ for expected in "$room"/cases/*.expected "$room"/cases-02/*.expected; do
         continue # the listing program stops there (tests/compare.sh), the sample host does not
     fi
     [[ ${words[*]} != *"--edition old"* ]] || old=$((old + 1))
-    if answer "${words[@]}" <"$file" >"$room/given" && cmp -s "$room/given" "$expected"; then
+    if answer "${words[@]}" <"$file" >"$room/given" 2>/dev/null && cmp -s "$room/given" "$expected"; then
         agree=$((agree + 1))
     else
         differ=$((differ + 1))

@@ -107,7 +107,7 @@ by_mode() { # FOR COUNT WORDS
     rm -rf "$room/made"
     "$second" make 7 "$count" "$room/made" --for "$for"
     for file in "$room"/made/*.gbr; do
-        if cmp -s <("${imager[@]}" "$@" <"$file") <("$second" "$@" <"$file"); then
+        if cmp -s <("${imager[@]}" "$@" <"$file" 2>/dev/null) <("$second" "$@" <"$file"); then
             agree=$((agree + 1))
         else
             differ=$((differ + 1))
@@ -127,7 +127,7 @@ for layers in kicad-layers old-layers; do
     if [ -f "$archive" ]; then
         tar xzf "$archive" -C "$room/$layers" || exit 1
     else
-        echo "compare: no $archive, none tried"
+        echo "SKIPPED: no $archive beside the repository, so no real layer"
     fi
 done
 find "$room/cases" "$room/cases-02" -name '*.gbr' | sort >"$room/all_cases"

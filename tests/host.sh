@@ -14,10 +14,14 @@ ${emulator:+"$emulator"} "$made/host"
 if [ -z "$emulator" ] && host/build tests/host.c "$made/host-asan" -fsanitize=address -g 2>/dev/null; then
     "$made/host-asan"
     echo "host: the same under AddressSanitizer"
+else
+    echo "SKIPPED: AddressSanitizer does not run here"
 fi
 if command -v g++ >/dev/null; then
     printf '#include "sheet.h"\nint main() { struct sheet_item t = {}; return (int)t.kind + (int)sheet_entries_for(0); }\n' >"$room/plus.cc"
     g++ -std=c++11 -Wall -Wextra -Werror -fsyntax-only -I host "$room/plus.cc"
+else
+    echo "SKIPPED: no g++, so the header is not tried from C++"
 fi
 
 # What the short call reads has changed (document 02, [10]): nothing of ours calls it but its own test.
@@ -72,4 +76,6 @@ if [ -f ../shared/corpus/kicad-layers.tgz ]; then
     tar xzf ../shared/corpus/kicad-layers.tgz -C "$room/layers"
     find "$room/layers" -type f -size -200k | sort >"$room/kicad"
     agree "$room/kicad"
+else
+    echo "SKIPPED: no ../shared/corpus/kicad-layers.tgz beside the repository, so no real layer"
 fi

@@ -22,6 +22,8 @@ ${emulator:+"$emulator"} "$made/mending"
 if [ -z "$emulator" ] && host/build tests/mending.c "$made/mending-asan" -fsanitize=address -g 2>/dev/null; then
     "$made/mending-asan" >/dev/null
     echo "mend: the same under AddressSanitizer"
+else
+    echo "SKIPPED: AddressSanitizer does not run here"
 fi
 imager() { ${emulator:+"$emulator"} "$made/imager" "$@"; }
 mend() { ${emulator:+"$emulator"} "$made/mend" "$@"; }
@@ -92,7 +94,7 @@ cut_layers() { # LAYERS [TERMS]
     local layers=$1 archive=../shared/corpus/$1.tgz layer
     shift
     if [ ! -f "$archive" ]; then
-        echo "mend: no $archive, no layer is cut"
+        echo "SKIPPED: no $archive beside the repository, so no real layer is cut"
         return 0
     fi
     mkdir "$room/$layers"
