@@ -1,4 +1,4 @@
--- What the call for a placement list answers, and what it leaves (02, [4]; decisions 240 to 251): over the plain expansion of the file and the
+-- What the call for a placement list answers, and what it leaves (02, [4]; decisions 580 to 591): over the plain expansion of the file and the
 -- attributes at each item's place, whatever the order in which the code looks.
 use Prim.Native.Nat.{ℕ, _/_}
 use mathlib.Core.Path.{_≡_}

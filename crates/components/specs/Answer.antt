@@ -1,4 +1,4 @@
--- What the call answers of an accepted file (02, [4], Refusals; decisions 240, 249 to 251).
+-- What the call answers of an accepted file (02, [4], Refusals; decisions 580, 589 to 591).
 use Prim.Native.Nat.{ℕ, _+_}
 use mathlib.Core.Bool.{Bool, cond, not}
 use mathlib.Core.List.{List, [], _∷_}

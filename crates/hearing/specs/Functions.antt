@@ -1,4 +1,4 @@
--- What an aperture is for, by a number: 1 mains, 2 pins, 3 outlines, 0 anything else (02, [4]; decision 241).
+-- What an aperture is for, by a number: 1 mains, 2 pins, 3 outlines, 0 anything else (02, [4]; decision 581).
 use Prim.Native.Nat.{ℕ}
 use mathlib.Core.Path.{_≡_}
 use mathlib.Core.Bool.{cond}

@@ -1,4 +1,4 @@
--- What a note says of the texts of an item (02, [4]; decision 243).
+-- What a note says of the texts of an item (02, [4]; decision 583).
 use Prim.Native.Nat.{ℕ}
 use mathlib.Core.List.{List}
 use Rattle.components.specs.Values.{field}

@@ -18,6 +18,9 @@ ghost use Rattle.address.specs.Answers.{replyOf};
 ghost use Rattle.addressing.specs.Answers.{addressNumber, addressWords};
 ghost use Rattle.summary.specs.Answers.{outcomeOf, outcomeNumber, summed};
 ghost use Rattle.digest.specs.Md5.{md5};
+ghost use Rattle.numbered.specs.Placing.{PlacesBy};
+ghost use Rattle.roster.specs.Lists.{answered};
+ghost use Rattle.assembly.specs.Placement.{workOf};
 ghost use Rattle.host.specs.Mends.{MendsInto};
 ghost use Rattle.host.specs.Reads.{ReadsInto};
 ghost use Rattle.host.specs.Widths.{ItemsAre, EntriesAre, AperturesAre, MacrosAre, RowsAre, ScratchIs};
@@ -336,6 +339,52 @@ pub extern "C" fn sheet_scratch_words() -> usize
     ensures { λ r. ⌜ ScratchIs r ⌝ }
 {
     summary::SCRATCH_WORDS
+}
+
+// Lists the parts of a component layer by the edition and the rule of letters that the numbers name: the bytes of the list in out, and how
+// many; or the number with its place, or 101, and zeros in out. The stores are left as a reading leaves them.
+#[no_mangle]
+pub extern "C" fn sheet_placement(
+    edition: u64,
+    letters: u64,
+    file: &[u8],
+    head: &mut [u64; 8],
+    entries: &mut [u64],
+    apertures: &mut [u64],
+    macros: &mut [u64],
+    numbers: &mut [i64],
+    notes: &mut [u64],
+    names: &mut [u64],
+    roles: &mut [u64],
+    pins: &mut [u64],
+    out: &mut [u8],
+    place: &mut u64,
+    bytes: &mut u64,
+) -> u64
+    ensures { λ r. ⌜ PlacesBy (choiceOf edition letters)
+        (lentOf (now (file .entry)) (now (entries .entry)) (now (apertures .entry)) (now (macros .entry)) (now (numbers .entry)))
+        (lentOf (now (file .entry)) (now (entries .exit)) (now (apertures .exit)) (now (macros .exit)) (now (numbers .exit))) (now (head .exit))
+        (workOf (now (notes .entry)) (now (names .entry)) (now (roles .entry)) (now (pins .entry))) (length (now (out .entry))) (now (out .exit))
+        (answered r (now (place .exit)) (now (bytes .exit))) ⌝ }
+{
+    let a = numbered::placement(
+        edition,
+        letters,
+        file,
+        head,
+        entries,
+        apertures,
+        macros,
+        numbers,
+        notes,
+        names,
+        roles,
+        pins,
+        out,
+    );
+    *place = a.place as u64;
+    *bytes = a.bytes as u64;
+    a.number
 }
 
 // Mends a file by the edition and the rule of letters that the numbers name: the mended file in out, its changes in report, two words each, kind and

@@ -1,4 +1,4 @@
--- The attributes that a placement list asks of a file (02, [4]; decisions 240 to 243): the object attributes at the place of an item, the
+-- The attributes that a placement list asks of a file (02, [4]; decisions 580 to 583): the object attributes at the place of an item, the
 -- `.AperFunction` of an aperture, and the layer's `.FileFunction`.
 use Prim.Native.Nat.{ℕ}
 use Prim.Native.String.{String}
@@ -30,7 +30,7 @@ use Rattle.layer.specs.declared.Made.the-variants.{Item, Aperture, File,
 unfoldable pub valueOf : List ℕ → Answer → Value
 valueOf file r = cond (eqb (r .number) 0) (values.held (take (r .length) (drop (r .place) file))) values.none
 
--- "Object attributes of an item: those at its place" (decision 242)
+-- "Object attributes of an item: those at its place" (decision 582)
 unfoldable pub objectAt : Book → List ℕ → ℕ → String → Value
 objectAt book file place name = valueOf file (attributeOf book file kind.Object place (text name))
 
@@ -64,7 +64,7 @@ functionIn file n s (c ∷ cs) =
 unfoldable pub functionOf : Book → List ℕ → ℕ → Value
 functionOf book file n = functionIn file n Silent (commandsOf book file .commands)
 
--- a TF that says that the layer is a component layer: "the first field of the TF's value is Component" (decision 240)
+-- a TF that says that the layer is a component layer: "the first field of the TF's value is Component" (decision 580)
 unfoldable pub declaresAs : List ℕ → Made → Bool
 declaresAs t Item = false
 declaresAs t (Aperture n) = false

@@ -1,5 +1,5 @@
 -- The parts of a component layer: the items of its plain expansion, each with its role and its texts (02, [4]: "The list is over plain expanded
--- items"; decisions 241 and 242).
+-- items"; decisions 581 and 582).
 use Prim.Native.Nat.{ℕ}
 use mathlib.Core.List.{List, map}
 use Rattle.book.specs.declared.Book.{Book}

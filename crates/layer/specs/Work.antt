@@ -1,4 +1,4 @@
--- What a file's commands need of the work room (decision 551): a note for each D01 and D03, a record for each TO of `.C` or `.P`, which name a
+-- What a file's commands need of the work room (decision 592): a note for each D01 and D03, a record for each TO of `.C` or `.P`, which name a
 -- designator, and one for each AD.
 use Prim.Native.Nat.{ℕ, _+_}
 use Prim.Native.String.{String}

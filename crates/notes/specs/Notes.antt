@@ -1,4 +1,4 @@
--- What is noted of each D01 and D03, in records of thirteen words in the order of their places (decision 551).
+-- What is noted of each D01 and D03, in records of thirteen words in the order of their places (decision 592).
 use Prim.Native.Nat.{ℕ, _*_, _/_, _<_, _≤_}
 use mathlib.Core.Path.{_≡_}
 use mathlib.Core.Bool.{cond}

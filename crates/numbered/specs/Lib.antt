@@ -1,3 +1,4 @@
 pub mod Choice
 pub mod Calls
 pub mod Mending
+pub mod Placing

@@ -10,6 +10,8 @@ ghost use Rattle.reader.specs.Reads.{Reads};
 ghost use Rattle.numbered.specs.Choice.{withLetters, choiceOf, shortChoice};
 ghost use lib.ListN.{length};
 ghost use Rattle.numbered.specs.Mending.{MendsBy};
+ghost use Rattle.numbered.specs.Placing.{PlacesBy};
+ghost use Rattle.assembly.specs.Placement.{workOf};
 ghost use Rattle.numbered.specs.Calls.{attributeBy, signatureBy, readingBy, roundedBy};
 
 // The book that is named, or none.
@@ -187,6 +189,52 @@ pub fn mend(
         Choice::Unknown => {
             mender::clear(out, report, head, e, a, m, numbers);
             mender::Answer::Refused { number: 101 }
+        }
+    }
+}
+
+// The placement list of a component layer, likewise; numbers that name no book leave zeros in the output and in the stores.
+pub fn placement(
+    edition: u64,
+    letters: u64,
+    file: &[u8],
+    head: &mut [u64; 8],
+    e: &mut [u64],
+    a: &mut [u64],
+    m: &mut [u64],
+    numbers: &mut [i64],
+    notes: &mut [u64],
+    names: &mut [u64],
+    roles: &mut [u64],
+    pins: &mut [u64],
+    out: &mut [u8],
+) -> roster::Answer
+    ensures { λ r. ⌜ PlacesBy (choiceOf edition letters)
+        (lentOf (now (file .entry)) (now (e .entry)) (now (a .entry)) (now (m .entry)) (now (numbers .entry)))
+        (lentOf (now (file .entry)) (now (e .exit)) (now (a .exit)) (now (m .exit)) (now (numbers .exit))) (now (head .exit))
+        (workOf (now (notes .entry)) (now (names .entry)) (now (roles .entry)) (now (pins .entry))) (length (now (out .entry))) (now (out .exit)) r ⌝ }
+{
+    let c = choice_of(edition, letters);
+    match c {
+        Choice::By(book) => assembly::placement(
+            book,
+            file,
+            head,
+            e,
+            a,
+            m,
+            numbers,
+            notes,
+            names,
+            roles,
+            pins,
+            out,
+        ),
+        Choice::Unknown => {
+            mending::clear_bytes(out);
+            *head = [0u64; 8];
+            reader::clear(e, a, m, numbers);
+            roster::refused(101, 0)
         }
     }
 }

@@ -1,4 +1,4 @@
--- What the list of a component layer comes to, behind 34 and the room for the notes (02, [4]; decisions 249 to 251).
+-- What the list of a component layer comes to, behind 34 and the room for the notes (02, [4]; decisions 589 to 591).
 use Prim.Native.Nat.{ℕ}
 use mathlib.Core.Path.{_≡_}
 use mathlib.Core.Bool.{cond, not}

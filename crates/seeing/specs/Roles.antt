@@ -1,4 +1,4 @@
--- The role of an item by its kind and by the number of what its aperture is for (02, [4]; decision 241).
+-- The role of an item by its kind and by the number of what its aperture is for (02, [4]; decision 581).
 use Prim.Native.Nat.{ℕ}
 use mathlib.Core.Bool.{cond}
 use lib.Dec.{eqb}
