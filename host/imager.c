@@ -11,6 +11,7 @@
  *   imager numbers                      a line for each AD: its aperture, then the numbers kept
  *   imager attribute TA|TO PLACE NAME   attribute, place, length of the value (`attr` answers with attr)
  *   imager verify                       signed and the digest that the file bears
+ *   imager placement [--out BYTES]      the placement list of a component layer, in room for so many bytes of it
  *   imager mend [--raw] [--room E,A,M,N]
  *                                       a line for each change, kind and place, then bytes, how many, MD5 of the mended file; or
  *                                       unchanged; with --raw the mended file
@@ -413,10 +414,68 @@ static void cuts(struct bytes file, uint64_t count, const struct room *room)
     }
 }
 
+/* What a placement list is lent beside the stores, and what was answered. */
+struct placed {
+    uint64_t *notes, *names, *roles, *pins;
+    uint8_t *list;
+    size_t room;
+    uint64_t number, place, bytes;
+};
+
+/* Lists a file's parts over a store and in room for so many bytes; pins is how many links are lent. */
+static void place_into(struct placed *p, struct store *s, struct bytes file, size_t pins)
+{
+    size_t notes = sheet_notes_for(file.count) * SHEET_NOTE_WORDS, names = sheet_names_for(file.count) * SHEET_NAME_WORDS;
+    size_t roles = sheet_roles_for(file.count) * SHEET_ROLE_WORDS, links = pins * SHEET_PIN_WORDS;
+    p->notes = lend(notes, sizeof *p->notes);
+    p->names = lend(names, sizeof *p->names);
+    p->roles = lend(roles, sizeof *p->roles);
+    p->pins = lend(links, sizeof *p->pins);
+    p->list = lend(p->room, 1);
+    p->number = sheet_placement(book.edition, book.letters, file.at, file.count, s->head, s->entries, s->entries_words, s->apertures,
+                                s->apertures_words, s->macros, s->macros_words, s->numbers, s->numbers_count, p->notes, notes, p->names,
+                                names, p->roles, roles, p->pins, links, p->list, p->room, &p->place, &p->bytes);
+}
+
+static void give_back_placed(struct placed *p)
+{
+    free(p->notes);
+    free(p->names);
+    free(p->roles);
+    free(p->pins);
+    free(p->list);
+}
+
+/* Without --out room is lent anew, four times as much, as long as the list does not fit. */
+static void placement(struct bytes file, const uint64_t *out)
+{
+    enum { FIRST = 65536, MOST = 1 << 30 };
+    struct store s = read_sheet(file, NULL);
+    if (!refused(&s)) {
+        uint64_t total = s.head[SHEET_HEAD_TOTAL];
+        struct placed p = {.room = out ? (size_t)*out : FIRST};
+        place_into(&p, &s, file, (size_t)(total < most_numbers ? total : most_numbers));
+        while (!out && p.number == SHEET_ROOM && p.room < MOST) {
+            size_t room = 4 * p.room;
+            give_back_placed(&p);
+            p = (struct placed){.room = room};
+            place_into(&p, &s, file, (size_t)(total < most_numbers ? total : most_numbers));
+        }
+        if (p.number == SHEET_ACCEPTED) {
+            fwrite(p.list, 1, (size_t)p.bytes, stdout);
+        } else {
+            printf("refused\t%" PRIu64 "\t%" PRIu64 "\n", p.number, p.place);
+            tell_refusal("imager", p.number);
+        }
+        give_back_placed(&p);
+    }
+    give_back(&s);
+}
+
 static int usage(void)
 {
     fputs("usage: imager list|sheet|batch|mends [--room E,A,M,N], mend [--raw] [--room E,A,M,N], cuts COUNT [--room E,A,M,N], items K COUNT, address K, number COPY [POSITION..], summary [--rows N], "
-          "numbers, attribute TA|TO PLACE NAME, verify; all with [--edition new|old] [--letters old|new]\n", stderr);
+          "numbers, attribute TA|TO PLACE NAME, verify, placement [--out BYTES]; all with [--edition new|old] [--letters old|new]\n", stderr);
     return 2;
 }
 
@@ -508,6 +567,13 @@ int main(int argc, char **argv)
     if (is(mode, "verify") && argc == 2) {
         struct bytes file = bytes_of(stdin, SIZE_MAX - 1);
         verify(file);
+        free(file.at);
+        return 0;
+    }
+    int some_bytes = argc == 4 && is(argv[2], "--out") && whole(argv[3], &count) && count < SIZE_MAX;
+    if (is(mode, "placement") && (argc == 2 || some_bytes)) {
+        struct bytes file = all_of(stdin);
+        placement(file, some_bytes ? &count : NULL);
         free(file.at);
         return 0;
     }

@@ -60,6 +60,9 @@ enum sheet_number {
     SHEET_NOT_HELD = 23,        /* attribute name not held there */
     SHEET_OTHER_DIGEST = 24,    /* the signature is not the digest of the file (document 02, [2]) */
     SHEET_UNSIGNED = 25,        /* no signature just before M02 */
+    SHEET_PART_UNNAMED = 26,    /* in a placement list, a main or an outline without `.C`, or a pin without `.P`; place of the item ([4]) */
+    SHEET_PART_REPEATS = 27,    /* the designator of a main repeats; place of its second main */
+    SHEET_OUTLINE = 28,         /* an outline is not closed; place of its last item */
     SHEET_OWN_MOVE = 29,        /* in a region, a first D01 without a D02 since its G36; after 11 and before 12; of the newer edition alone
                                    (document 02, [7]) */
     SHEET_UNREAD = 30,          /* AS, MI, OF, SF, IP, IR, KO, LN or SM, or FS with 7 places, which are not read of the old book; right after
@@ -67,6 +70,7 @@ enum sheet_number {
     SHEET_QUADRANT = 31,        /* no centre of a single quadrant arc remains, or two tie; right after 12; of the old edition alone */
     SHEET_NO_ADDRESS = 32,      /* an address that names nothing (document 02, [12]) */
     SHEET_UNMENDED = 33,        /* a file that is still refused when mended, other than by 17 (document 02, [13]) */
+    SHEET_NOT_COMPONENT = 34,   /* the layer's .FileFunction is not Component ([4]) */
     SHEET_NO_BOOK = 101         /* a number names no edition or no rule of letters; before all else, place 0 (decisions 420 and 514) */
 };
 
@@ -309,6 +313,35 @@ uint64_t sheet_mend(uint64_t edition, uint64_t letters, const uint8_t *file, siz
                     uint64_t *report, size_t report_words, uint64_t *head, uint64_t *entries, size_t entries_words,
                     uint64_t *apertures, size_t apertures_words, uint64_t *macros, size_t macros_words, int64_t *numbers,
                     size_t numbers_count, uint64_t *bytes, uint64_t *changes, uint64_t *unit, uint64_t *rounded);
+
+/* The room of a placement list beside that of a reading, for a file of n bytes: a note for each D01 and D03, which has 3 bytes at least; a
+ * name for each TO of `.C` or `.P` (`%TO.C*%`); a role for each AD or AB opening; and a link for each pin of the expansion whose designator
+ * has a main. No more pins than the sheet has items, copies counted; where a host lends fewer it may be answered 17. */
+#define SHEET_NOTE_WORDS 13
+#define SHEET_NAME_WORDS 8
+#define SHEET_ROLE_WORDS 8
+#define SHEET_PIN_WORDS 2
+static inline size_t sheet_notes_for(size_t n) { return n / 3; }
+static inline size_t sheet_names_for(size_t n) { return n / 7; }
+static inline size_t sheet_roles_for(size_t n) { return n / 8; }
+
+/* The placement list of a component layer, for the assembly bench (document 02, [4]): a line for each main, with designator, x, y, rotation,
+ * value, footprint and mount, parted by tabs, then one for each of its pins, a tab first, with number, x and y; x and y in millionths of the
+ * unit. The file is read by the call itself.
+ *   edition, letters              the edition and the rule of letters
+ *   file, file_bytes              the file, any bytes
+ *   head .. numbers_count         as in sheet_read_as
+ *   notes, names, roles, pins     words of work room, with anything in them, and nothing said of them afterwards
+ *   list, list_bytes              room for so many bytes of the list
+ *   place, bytes                  one word each: where it is refused, 0 where it is not; how many bytes the list has
+ * Answers 0 (then the list stands in its first bytes and zeros after it, and the stores hold the sheet); or what sheet_read_as answers with
+ * its place; 34; 17 for work room that is too short; 26, 27 or 28 with the place of the first item at fault; 17 where the list does not
+ * fit: in this order, or 101 before all (then the list is all zeros, bytes is 0, and the stores are as the reading leaves them). */
+uint64_t sheet_placement(uint64_t edition, uint64_t letters, const uint8_t *file, size_t file_bytes, uint64_t *head, uint64_t *entries,
+                         size_t entries_words, uint64_t *apertures, size_t apertures_words, uint64_t *macros, size_t macros_words,
+                         int64_t *numbers, size_t numbers_count, uint64_t *notes, size_t notes_words, uint64_t *names, size_t names_words,
+                         uint64_t *roles, size_t roles_words, uint64_t *pins, size_t pins_words, uint8_t *list, size_t list_bytes,
+                         uint64_t *place, uint64_t *bytes);
 
 /* The MD5 of some bytes (RFC 1321), to tell one file from another.
  *   digest    SHEET_DIGEST_BYTES bytes */
