@@ -97,7 +97,7 @@ module _ (book : Book) (l l′ : Lent) (head : List ℕ) (w : Work) (room : ℕ)
   unfolding refusalFor listFor
   places-read {s} e same given =
       let k : Lists (refusalIn book (l .file) w room s) (partsIn book (l .file) s) room out r =
-          subst (λ (n : ℕ). Lists (refusalIn book (l .file) w n s) (partsIn book (l .file) s) n out r) same given in
+      subst (λ (n : ℕ). Lists (refusalIn book (l .file) w n s) (partsIn book (l .file) s) n out r) same given in
       let f : refusalFor book (l .file) w room (reading.reading book (roomOf l) (l .file)) ≡ refusalIn book (l .file) w room s = ap (refusalFor book (l .file) w room) e in
       let all : listFor book (l .file) w room (reading.reading book (roomOf l) (l .file)) ≡ outputOf (refusalIn book (l .file) w room s) (partsIn book (l .file) s) = ap (listFor book (l .file) w room) e in
       record {

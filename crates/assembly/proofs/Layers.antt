@@ -1,19 +1,17 @@
 -- The sheet of an accepted file with the notes of its commands is a component layer as the passes find it.
 -- Assumes nothing.
-use Prim.Native.Nat.{ℕ, _+_, _*_, _/_, _≤_, _<_}
+use Prim.Native.Nat.{ℕ, _/_, _<_}
 use mathlib.Core.Path.{_≡_, refl, sym, ap, _∙_, subst}
 use mathlib.Core.Bool.{Bool, true, false}
 use mathlib.Core.List.{List}
 use native.Mathlib.Omega.{arith}
 use borrow.Author.Tests.{ltb-false}
-use lib.Dec.{ltb}
-use lib.ListN.{length, getD, take, replicate}
+use lib.ListN.{length, getD, replicate}
 use Rattle.base.specs.Or.{_or_}
 use Rattle.base.specs.Bytes.{sameBytes}
 use Rattle.base.proofs.Lists.{same-refl}
 use Rattle.book.specs.declared.Book.{Book}
 use Rattle.place.specs.Item.{zeroItem}
-use Rattle.place.specs.Mark.{plain}
 use Rattle.place.specs.declared.Item.{Item}
 use Rattle.commands.specs.Commands.{commandsOf}
 use Rattle.index.specs.Tree.{recordWidth}
@@ -22,11 +20,10 @@ use Rattle.tables.specs.Macros.{macroOf}
 use Rattle.sheet.specs.Containers.{topOf}
 use Rattle.sheet.specs.Meaning.{sheetItems, flagWord}
 use Rattle.sheet.specs.declared.Container.{Container}
-use Rattle.components.specs.Parts.{Part}
 use Rattle.components.specs.Faults.{hasMain}
-use Rattle.notes.specs.Notes.{noteWidth, noteRoom, noteOf}
+use Rattle.notes.specs.Notes.{noteWidth, noteOf}
 use Rattle.layer.specs.Parts.{partsOf}
-use Rattle.noting.specs.Holds.{Makes, Roomy, Holds, Noted}
+use Rattle.noting.specs.Holds.{Makes, Roomy, Holds}
 use Rattle.noting.specs.declared.Noting.{Noting}
 use Rattle.origins.proofs.Origins.{made-by}
 use Rattle.seeing.specs.Layer.{Layer, parts}

@@ -1,22 +1,22 @@
 -- What an accepted reading says of the file's commands, and what the reader's answer says of the reading.
 -- Assumes nothing.
 use Prim.Native.Nat.{ℕ}
-use mathlib.Core.Path.{_≡_, refl, sym, ap, _∙_, subst}
-use mathlib.Core.Bool.{Bool, true, false, cond}
+use mathlib.Core.Path.{_≡_, refl, sym, _∙_}
+use mathlib.Core.Bool.{Bool, true, false}
 use mathlib.Core.List.{List, [], _∷_}
 use native.Mathlib.Omega.{arith}
 use borrow.Author.Tests.{eqb-true}
 use lib.Dec.{eqb}
 use Rattle.book.specs.declared.Book.{Book}
 use Rattle.scan.specs.Permitted.{fits}
-use Rattle.commands.specs.Commands.{Sequence, commandsOf}
+use Rattle.commands.specs.Commands.{commandsOf}
 use Rattle.commands.specs.declared.Placed.{Placed}
 use Rattle.commands.specs.declared.Refusal.{Refusal}
 use Rattle.reading.specs.State.{Room, State}
 use Rattle.reading.specs.Reading as reading
 use Rattle.reading.specs.Reading.{accepted, refused, stepAt, readOn}
 use Rattle.progress.specs.Lent.{Lent, roomOf}
-use Rattle.reader.specs.Reads.{Reads, AsLong}
+use Rattle.reader.specs.Reads.{Reads}
 use Rattle.reader.specs.Leaves.{Leaves}
 use Rattle.reader.specs.declared.Answer as code
 use Rattle.reader.specs.declared.Answer.the-variants as answer

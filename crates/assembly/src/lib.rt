@@ -80,6 +80,17 @@ pub fn placement(
     let r = reader::read_as(book, file, head, e, a, m, numbers);
     match r {
         reader::Answer::Refused { number, place } => roster::refused(number, place),
-        reader::Answer::Accepted { .. } => assemble(book, file, head, e, a, notes, names, roles, pins, out),
+        reader::Answer::Accepted { .. } => assemble(
+            book,
+            file,
+            head,
+            e,
+            a,
+            notes,
+            names,
+            roles,
+            pins,
+            out,
+        ),
     }
 }

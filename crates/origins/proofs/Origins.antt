@@ -15,9 +15,9 @@ use Rattle.commands.specs.Commands.{commandsOf}
 use Rattle.commands.specs.declared.Placed.{Placed}
 use Rattle.commands.specs.declared.Refusal.{Refusal}
 use Rattle.reading.specs.State.{Room, State, begun}
-use Rattle.reading.specs.Reading.{Answer, accepted, refused, stepAt, readOn, reading}
+use Rattle.reading.specs.Reading.{accepted, refused, stepAt, readOn, reading}
 use Rattle.noting.specs.Holds.{Makes, here, there}
-use Rattle.origins.proofs.Plain.{Each, each-at, AllMarked, unmarked, plain-each}
+use Rattle.origins.proofs.Plain.{each-at, AllMarked, unmarked, plain-each}
 use Rattle.origins.proofs.Steps.{step-marked}
 
 module _ (P : ℕ → Type 0) (room : Room) (file : List ℕ) where
@@ -34,7 +34,7 @@ module _ (P : ℕ → Type 0) (room : Room) (file : List ℕ) where
   marked-on (c ∷ cs) f s s′ e made w =
       go (eqb (stepAt room file c s .fault) 0) e
       (λ q. marked-on cs f (stepAt room file c s .next) s′ q (λ p m. made p (there m))
-        (step-marked P room (slice (c .from) (c .end) file) (c .place) (c .command) s (λ i. made (c .place) (here i refl)) w))
+      (step-marked P room (slice (c .from) (c .end) file) (c .place) (c .command) s (λ i. made (c .place) (here i refl)) w))
     where
       go : (t : Bool) → elim t [ true ↦ readOn room file cs f (stepAt room file c s .next) | false ↦ refused (stepAt room file c s .fault) (c .place) ] ≡ accepted s′ →
           (readOn room file cs f (stepAt room file c s .next) ≡ accepted s′ → AllMarked P (s′ .marks)) → AllMarked P (s′ .marks)

@@ -3,11 +3,9 @@
 use Prim.Native.Nat.{ℕ}
 use mathlib.Core.Path.{_≡_, refl}
 use mathlib.Core.Bool.{Bool, true, false, cond}
-use mathlib.Core.List.{List, [], _∷_, _++_}
-use Rattle.points.specs.declared.Point.{Point}
+use mathlib.Core.List.{List, [], _∷_}
 use Rattle.command.specs.declared.Axis.{Axis}
 use Rattle.command.specs.declared.Offset.{Offset}
-use Rattle.command.specs.declared.Setting.{Setting}
 use Rattle.command.specs.declared.Operation.{Operation}
 use Rattle.command.specs.declared.Operation.the-variants as operation
 use Rattle.command.specs.declared.Definition.{Definition}
@@ -57,7 +55,7 @@ use Rattle.reading.specs.Steps.{
 }
 use Rattle.layer.specs.Made.{madeByOperation, madeOf}
 use Rattle.layer.specs.declared.Made.the-variants.{Item}
-use Rattle.origins.proofs.Plain.{Marked, draws, contours, edges, flashes, opens, closes, AllMarked, unmarked, marked-more, marks-append}
+use Rattle.origins.proofs.Plain.{draws, contours, edges, flashes, opens, closes, AllMarked, unmarked, marked-more, marks-append}
 
 module _ (P : ℕ → Type 0) (room : Room) (t : List ℕ) (place : ℕ) where
   draw-marked : (g : Graphics) (x y : Axis) (o : Offset) → P place → AllMarked P (drawMarks g x y o place)

@@ -14,7 +14,6 @@ use Rattle.base.specs.Or.{_or_}
 use Rattle.base.specs.Bytes.{sameBytes}
 use Rattle.base.proofs.Lists.{same-is, same-refl}
 use Rattle.index.specs.Tree.{recordWidth}
-use Rattle.index.specs.Names.{nameOf}
 use Rattle.sheet.specs.Meaning.{flagWord}
 use Rattle.sheet.specs.declared.Container.{Container}
 use Rattle.components.specs.Values.{Value, field, isHeld}
@@ -129,8 +128,8 @@ module _ {e a : List ℕ} {top : Container} {notes : List ℕ} {operations : ℕ
       at-word j v true f =
           let same = eqb-true j d f in
           let there : getD (withWord names (suc d) mainWord 1) (j * recordWidth + mainWord) 0 ≡ 1 =
-              ap (λ (x : ℕ). getD (withWord names (suc d) mainWord 1) (x * recordWidth + mainWord) 0) same
-              ∙ set-here names d mainWord 1 (omega arith) (omega arith) (let i = g .inside in omega arith) in
+          ap (λ (x : ℕ). getD (withWord names (suc d) mainWord 1) (x * recordWidth + mainWord) 0) same
+          ∙ set-here names d mainWord 1 (omega arith) (omega arith) (let i = g .inside in omega arith) in
           there ∙ sym (ap flagWord (now-is j true (ap (λ (x : List ℕ). sameBytes (designator p) x) (ap (l .name) same ∙ q) ∙ same-refl (designator p)) ∙ or-true _))
       at-word j v false f =
           let ne = eqb-false j d f in

@@ -6,8 +6,8 @@ use mathlib.Core.Bool.{Bool, true, false, cond, not, false≢true}
 use mathlib.Core.List.{List, [], _∷_}
 use native.Mathlib.Numerals.{add-one}
 use native.Mathlib.Omega.{arith}
-use lib.Dec.{eqb, leb}
-use lib.ListN.{length, take, drop, getD, set, length-set, drop-of-length-le}
+use lib.Dec.{eqb}
+use lib.ListN.{length, drop, getD, set, length-set, drop-of-length-le}
 use lib.Seq.{drop-cons, take-length, getD-set-same, getD-set-other}
 use borrow.Author.Tests.{eq-eqb, ne-eqb, eqb-true, eqb-false, le-leb, lt-leb}
 use Rattle.base.specs.And.{_and_}
@@ -19,7 +19,7 @@ use Rattle.index.specs.Names.{nameOf}
 use Rattle.sheet.specs.Meaning.{flagWord}
 use Rattle.sheet.specs.declared.Container.{Container}
 use Rattle.components.specs.Values.{Value, field, isHeld}
-use Rattle.components.specs.Parts.{Part, Texts, isPin, designatorAs, designator, nothing}
+use Rattle.components.specs.Parts.{Part, isPin, designatorAs, designator, nothing}
 use Rattle.components.specs.Outlines.{at}
 use Rattle.components.specs.Faults.{lacksAs, lacks, hasMain}
 use Rattle.components.specs.Numbers.{numbersFrom, aPinOf}
@@ -37,7 +37,7 @@ use Rattle.seeing.specs.declared.Seen.{Seen}
 use Rattle.seeing.proofs.Sights.{parts-many}
 use Rattle.passes.specs.Words.{wordOf, withWord, mainWord, pinWord, pinAs, withLink}
 use Rattle.passes.specs.Marks.{Marked}
-use Rattle.passes.specs.Links.{Sound, Linked, Links}
+use Rattle.passes.specs.Links.{Sound, Links}
 use Rattle.passes.proofs.Words.{flag-one, set-name, set-other, set-elsewhere, set-here, set-long}
 
 -- ---- a link more in the room
@@ -64,7 +64,6 @@ module _ (pins : List ℕ) (links k next : ℕ) (room : links < length pins / li
 pub link-long : (pins : List ℕ) (links k next : ℕ) → length (withLink pins links k next) ≡ length pins
 unfolding withLink
 link-long pins links k next = length-set (set pins (links * linkWidth) k) (links * linkWidth + 1) next ∙ length-set pins (links * linkWidth) k
-
 
 -- ---- how many are listed
 
@@ -197,16 +196,21 @@ module _ {e a : List ℕ} {top : Container} {notes : List ℕ} {operations : ℕ
       chain-here : Chain pins-now (suc links) (getD names-now (i * recordWidth + pinWord) 0) (numbersFrom (aPinOf (l .name i)) k (drop k ps))
       unfolding wordOf
       chain-here =
-          rw (set-here names i pinWord (links + 1) (omega arith) (omega arith) (let n = w .inside in omega arith), add-one links,
-            numbers-add (aPinOf (l .name i)) ps k h (pin-of (l .name i) true (ap (sameBytes (designator p)) same ∙ same-refl (designator p)) pin))
+          rw (
+            set-here names i pinWord (links + 1) (omega arith) (omega arith) (let n = w .inside in omega arith),
+            add-one links,
+            numbers-add (aPinOf (l .name i)) ps k h (pin-of (l .name i) true (ap (sameBytes (designator p)) same ∙ same-refl (designator p)) pin),
+          )
           (chain-grows (link-stays pins links k (wordOf names (suc i) pinWord) room) (link-number pins links k (wordOf names (suc i) pinWord) room)
-            (link-next pins links k (wordOf names (suc i) pinWord) room) (w .chains i u has))
+          (link-next pins links k (wordOf names (suc i) pinWord) room) (w .chains i u has))
 
       chain-there : (j : ℕ) → j < l .used → hasMain (l .name j) ps ≡ true → (j ≡ i → ⊥) →
           Chain pins-now (suc links) (getD names-now (j * recordWidth + pinWord) 0) (numbersFrom (aPinOf (l .name j)) k (drop k ps))
       chain-there j v z ne =
-          rw (set-elsewhere names i pinWord (links + 1) (omega arith) (omega arith) j ne,
-            numbers-skip (aPinOf (l .name j)) ps k h (pin-of (l .name j) false (other-name i j u v same ne) pin))
+          rw (
+            set-elsewhere names i pinWord (links + 1) (omega arith) (omega arith) j ne,
+            numbers-skip (aPinOf (l .name j)) ps k h (pin-of (l .name j) false (other-name i j u v same ne) pin),
+          )
           (chain-stays (link-stays pins links k (wordOf names (suc i) pinWord) room) (w .chains j v z))
 
       linking-more : Linking names-now pins-now (suc links) k

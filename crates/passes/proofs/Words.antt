@@ -1,7 +1,7 @@
 -- What an item is noted by: its role's designator, and whether it lacks the attribute that it must have.
 -- Assumes nothing.
 use Prim.Native.Nat.{ℕ, zero, suc, _+_, _*_, _-_, _≤_, _<_}
-use mathlib.Core.Path.{_≡_, refl, sym, ap, _∙_}
+use mathlib.Core.Path.{_≡_, refl, ap, _∙_}
 use mathlib.Core.Bool.{Bool, true, false, not}
 use mathlib.Core.List.{List}
 use native.Mathlib.Omega.{arith}
@@ -14,7 +14,7 @@ use Rattle.index.specs.Names.{nameOf}
 use Rattle.sheet.specs.Meaning.{flagWord}
 use Rattle.sheet.specs.declared.Container.{Container}
 use Rattle.components.specs.Values.{Value, isHeld}
-use Rattle.components.specs.Parts.{Part, Texts}
+use Rattle.components.specs.Parts.{Texts}
 use Rattle.components.specs.Outlines.{at}
 use Rattle.components.specs.Faults.{lacksAs, lacks}
 use Rattle.components.specs.Pass.{metOf}

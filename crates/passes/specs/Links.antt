@@ -1,8 +1,8 @@
 -- The pass that links the pins of each main, from the last item to the first.
 use Prim.Native.Nat.{ℕ, _+_, _*_, _/_, _≤_, _<_}
 use mathlib.Core.Path.{_≡_}
-use mathlib.Core.Bool.{Bool, true, false, cond}
-use mathlib.Core.List.{List, []}
+use mathlib.Core.Bool.{Bool, true, false}
+use mathlib.Core.List.{List}
 use lib.Dec.{leb}
 use lib.ListN.{length, getD}
 use Rattle.index.specs.Tree.{recordWidth}
@@ -15,7 +15,6 @@ use Rattle.components.specs.Answer.{listedPins}
 use Rattle.components.specs.Chain.{linkWidth, Chain}
 use Rattle.seeing.specs.Layer.{Layer, parts}
 use Rattle.passes.specs.Words.{pinWord}
-use Rattle.passes.specs.Marks.{Marked}
 
 module _ {e a : List ℕ} {top : Container} {notes : List ℕ} {operations : ℕ} {roles : List ℕ} {roled : ℕ} (l : Layer e a top notes operations roles roled) where
   -- no item lacks the attribute that it must have

@@ -1,7 +1,6 @@
 -- The pass that finds the first item at fault: behind it each designator says whether it has a main.
 use Prim.Native.Nat.{ℕ, _+_, _*_, _≤_, _<_}
 use mathlib.Core.Path.{_≡_}
-use mathlib.Core.Bool.{Bool, cond}
 use mathlib.Core.List.{List}
 use lib.ListN.{length, take, getD}
 use Rattle.index.specs.Tree.{recordWidth}

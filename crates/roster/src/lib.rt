@@ -68,7 +68,19 @@ pub fn list(
         return refused(f.number, sheet::index(f.place));
     }
     if passes::link_pins(e, a, top, notes, operations, roles, roled, names, pins) {
-        let pen = writing::put_list(file, e, a, top, notes, operations, roles, roled, names, pins, out);
+        let pen = writing::put_list(
+            file,
+            e,
+            a,
+            top,
+            notes,
+            operations,
+            roles,
+            roled,
+            names,
+            pins,
+            out,
+        );
         return finished(out, pen);
     }
     refused(17, 0)

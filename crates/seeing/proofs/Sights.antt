@@ -1,14 +1,13 @@
 -- What is seen of an item is its part: the descent finds the item, the notes its texts, the table its role.
 -- Assumes nothing.
 use Prim.Native.Nat.{ℕ, _≤_, _<_}
-use mathlib.Core.Path.{_≡_, refl, sym, ap, _∙_, subst}
-use mathlib.Core.List.{List, map}
+use mathlib.Core.Path.{_≡_, sym, ap, _∙_, subst}
+use mathlib.Core.List.{List}
 use native.Mathlib.Omega.{arith}
 use lib.ListN.{length, getD, length-map}
 use Rattle.base.proofs.Run.{nth-map}
 use Rattle.place.specs.Item.{zeroItem}
 use Rattle.place.specs.declared.Item.{Item}
-use Rattle.sheet.specs.Containers.{topOf}
 use Rattle.sheet.specs.Meaning.{items, sheetItems}
 use Rattle.sheet.specs.declared.Container.{Container}
 use Rattle.sheet.proofs.Expand.{length-sheet}
@@ -22,12 +21,10 @@ use Rattle.notes.specs.Notes.{noteOf, Sought, Found}
 use Rattle.notes.specs.declared.Note.{Note}
 use Rattle.layer.specs.Attributes.{textsAt, functionOf}
 use Rattle.layer.specs.Parts.{partsOf}
-use Rattle.hearing.specs.Functions.{functionNumber}
 use Rattle.hearing.specs.Means.{Means}
 use Rattle.noting.specs.Holds.{roleNumber}
 use Rattle.seeing.specs.Roles.{roleBy}
 use Rattle.seeing.specs.Layer.{Layer, parts, SeenIs}
-use Rattle.seeing.specs.declared.Seen.{Seen}
 use Rattle.seeing.proofs.Roles.{role-by}
 
 module _ {e a : List ℕ} {top : Container} {notes : List ℕ} {operations : ℕ} {roles : List ℕ} {roled : ℕ} (l : Layer e a top notes operations roles roled) where
@@ -70,8 +67,8 @@ module _ {e a : List ℕ} {top : Container} {notes : List ℕ} {operations : ℕ
       seen-is {f} {r} {i} {n} function role found note =
           let b = l .book in
           let w : Means (l .file) (l .name) (l .used) n (textsAt b (l .file) (u .place)) =
-              subst (λ (p : ℕ). Means (l .file) (l .name) (l .used) n (textsAt b (l .file) p)) (found .is)
-              (subst (λ (x : Note). Means (l .file) (l .name) (l .used) x (textsAt b (l .file) (noteOf notes i .place))) (sym note) (l .means i (found .inside))) in
+          subst (λ (p : ℕ). Means (l .file) (l .name) (l .used) n (textsAt b (l .file) p)) (found .is)
+          (subst (λ (x : Note). Means (l .file) (l .name) (l .used) x (textsAt b (l .file) (noteOf notes i .place))) (sym note) (l .means i (found .inside))) in
           let p = ap (partOf (functionOf b (l .file)) (textsAt b (l .file))) item-is ∙ sym part-is in
           record {
             role = role ∙ ap (roleBy (u .kind)) (function ∙ l .functions (u .aperture)) ∙ role-by (u .kind) (functionOf b (l .file) (u .aperture)) ∙ ap (λ (x : Part). x .role) p;

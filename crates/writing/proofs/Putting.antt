@@ -19,7 +19,6 @@ use Rattle.sheet.specs.declared.Container.{Container}
 use Rattle.components.specs.Parts.{Part, isMain, designator}
 use Rattle.components.specs.Outlines.{at}
 use Rattle.components.specs.Faults.{hasMain}
-use Rattle.components.specs.Records.{mainRecord, pinRecord}
 use Rattle.components.specs.Placements.{each, entryFor, listOf}
 use Rattle.components.specs.Numbers.{numbersFrom, aPinOf, pinsBy}
 use Rattle.components.specs.Written.{Wrote}

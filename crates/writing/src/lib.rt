@@ -104,7 +104,20 @@ fn put_entry(
 {
     let next = put_main(file, names, out, pen, s, d);
     let first = passes::word_of(names, d, 3);
-    put_pins(file, e, a, top, notes, operations, roles, roled, pins, first, out, next)
+    put_pins(
+        file,
+        e,
+        a,
+        top,
+        notes,
+        operations,
+        roles,
+        roled,
+        pins,
+        first,
+        out,
+        next,
+    )
 }
 
 // Puts the whole list.
@@ -135,7 +148,22 @@ pub fn put_list(
         if d == 0 {
             k += 1;
         } else {
-            q = put_entry(file, e, a, top, notes, operations, roles, roled, names, pins, out, q, s, d);
+            q = put_entry(
+                file,
+                e,
+                a,
+                top,
+                notes,
+                operations,
+                roles,
+                roled,
+                names,
+                pins,
+                out,
+                q,
+                s,
+                d,
+            );
             k += 1;
         }
     }

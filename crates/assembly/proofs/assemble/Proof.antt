@@ -1,21 +1,15 @@
+-- `assembly::assemble` meets its contract: the notes and the sheet make a layer (`layered`), and one law for each way out.
+-- Assumes nothing.
 use mathlib.Core.Bool.{true, false}
-use mathlib.Core.Path.{_≡_, refl, sym, ap, _∙_}
-use Prim.Native.Nat.{ℕ}
+use mathlib.Core.Path.{sym, _∙_}
 use lib.ListN.{length}
 use Rattle.assembly.proofs.Answers.{tight-is, component-is, other-layer, short-room, whole-list}
-use Rattle.assembly.proofs.Layers.{roomy, layer, parts-are, layered}
+use Rattle.assembly.proofs.Layers.{roomy, parts-are, layered}
 use Rattle.assembly.proofs.Sheets.{no-fault, it-fits}
 use Rattle.assembly.specs.Placement.{workOf}
 use borrow.Author.Needs.{needs}
 use Rattle.assembly.proofs.assemble.Statement.{statement}
 use Rattle.assembly.proofs.assemble.Tie as tie
-use Rattle.assembly.proofs.assemble.Reads as reads
-use Rattle.assembly.proofs.assemble.Lts as lts
-use Rattle.assembly.proofs.is_tight.Reads as is-tight-reads
-use Rattle.noting.proofs.note_all.Reads as note-all-reads
-use Rattle.roster.proofs.list.Reads as list-reads
-use Rattle.roster.proofs.refused.Reads as refused-reads
-use Rattle.sheet.proofs.top_of.Reads as top-of-reads
 
 note-all-requires : tie.Need-note-all-requires
 note-all-requires c κs = let w = c .before .before .before .before .before .before .before .before .before .before .before .pre .0 in (it-fits _ (w .room) _ (w .state) (w .accepts), no-fault _ (w .room) _ (w .state) (w .accepts))

@@ -1,11 +1,9 @@
-use mathlib.Core.Path.{_≡_, refl, sym, ap, _∙_}
+-- `assembly::is_tight` meets its contract: the three tests, joined.
+-- Assumes nothing.
 use Rattle.assembly.specs.Placement.{isTightFor}
 use borrow.Author.Needs.{needs}
 use Rattle.assembly.proofs.is_tight.Statement.{statement}
 use Rattle.assembly.proofs.is_tight.Tie as tie
-use Rattle.assembly.proofs.is_tight.Reads as reads
-use Rattle.assembly.proofs.is_tight.Lts as lts
-use Rattle.base.proofs.either.Reads as either-reads
 
 either-requires : tie.Need-either-requires
 either-requires c κs = search needs

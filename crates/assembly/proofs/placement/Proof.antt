@@ -1,18 +1,14 @@
-use mathlib.Core.Path.{_≡_, refl, sym, ap, _∙_}
+-- `assembly::placement` meets its contract: what the reader answers says which reading it is, and the rest is a refusal or `assemble`'s answer.
+-- Assumes nothing.
+use mathlib.Core.Path.{sym, ap, _∙_}
 use Prim.Native.Nat.{ℕ}
-use lib.ListN.{length, replicate}
+use lib.ListN.{replicate}
 use Rattle.assembly.proofs.Answers.{places-refused, places-read}
 use Rattle.assembly.proofs.Sheets.{is-refused, is-accepted, sheeted}
 use Rattle.progress.specs.Lent.{lentOf}
 use borrow.Author.Needs.{needs}
 use Rattle.assembly.proofs.placement.Statement.{statement}
 use Rattle.assembly.proofs.placement.Tie as tie
-use Rattle.assembly.proofs.placement.Reads as reads
-use Rattle.assembly.proofs.placement.Lts as lts
-use Rattle.assembly.proofs.assemble.Reads as assemble-reads
-use Rattle.mending.proofs.clear_bytes.Reads as clear-bytes-reads
-use Rattle.reader.proofs.read_as.Reads as read-as-reads
-use Rattle.roster.proofs.refused.Reads as refused-reads
 
 clear-bytes-requires : tie.Need-clear-bytes-requires
 clear-bytes-requires c κs = search needs

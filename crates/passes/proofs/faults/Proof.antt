@@ -1,28 +1,19 @@
+-- `passes::faults` meets its contract: the loop's invariant is `Passing`: what is left of the pass finds what the whole finds, and the records say which mains came.
+-- Assumes nothing.
 use Rattle.seeing.proofs.Sights.{few-items}
 use borrow.Author.Needs.{needs}
 use lib.Dec.{eqb}
 use lib.ListN.{length}
-use Prim.Native.Nat.{ℕ, _+_, _*_, _-_, _≤_}
-use mathlib.Core.Path.{_≡_, refl, sym, ap, _∙_}
+use Prim.Native.Nat.{ℕ, _-_, _≤_}
+use mathlib.Core.Path.{_≡_, refl, ap, _∙_}
 use native.Mathlib.Omega.{arith}
 use Rattle.seeing.specs.Layer.{Layer}
 use Rattle.passes.proofs.Mains.{Passing, passing-start, passing-out, passing-on, passing-end}
 use Rattle.passes.proofs.Words.{met-is}
 use Rattle.passes.specs.Marks.{Marked}
-use Rattle.passes.specs.Words.{wordOf, withWord, withLink, mainAs}
+use Rattle.passes.specs.Words.{wordOf, withWord}
 use Rattle.passes.proofs.faults.Statement.{statement}
 use Rattle.passes.proofs.faults.Tie as tie
-use Rattle.passes.proofs.faults.Reads as reads
-use Rattle.passes.proofs.faults.Lts as lts
-use Rattle.judging.proofs.end_fault.Reads as end-fault-reads
-use Rattle.judging.proofs.outline_after.Reads as outline-after-reads
-use Rattle.judging.proofs.step_fault.Reads as step-fault-reads
-use Rattle.passes.proofs.main_of.Reads as main-of-reads
-use Rattle.passes.proofs.met.Reads as met-reads
-use Rattle.passes.proofs.no_outline.Reads as no-outline-reads
-use Rattle.passes.proofs.set_word.Reads as set-word-reads
-use Rattle.passes.proofs.word_of.Reads as word-of-reads
-use Rattle.seeing.proofs.see.Reads as see-reads
 
 abbrev Inv-loop : tie.InvT-loop
 Inv-loop e a top notes operations roles roled names₀ o₀ k₀ names o k = (k ≤ top .items) × (length names ≡ length names₀) × ((l : Layer e a top notes operations roles roled) → Marked l names₀ 0 → Passing l names o k)

@@ -1,10 +1,10 @@
+-- `passes::lacks` meets its contract: case by case.
+-- Assumes nothing.
 use mathlib.Core.Path.{sym, ap}
 use Rattle.passes.specs.Words.{lacksBy}
 use borrow.Author.Needs.{needs}
 use Rattle.passes.proofs.lacks.Statement.{statement}
 use Rattle.passes.proofs.lacks.Tie as tie
-use Rattle.passes.proofs.lacks.Reads as reads
-use Rattle.passes.proofs.lacks.Lts as lts
 
 enum-told : tie.Need-enum-told
 enum-told c = search needs

@@ -1,22 +1,17 @@
+-- `passes::link_pins` meets its contract: the loop's invariant is `Linking`: the items from k on are linked.
+-- Assumes nothing.
 use lib.ListN.{length}
-use Prim.Native.Nat.{ℕ, _+_, _*_, _-_, _/_, _≤_, _<_}
-use mathlib.Core.Path.{_≡_, refl, sym, ap, _∙_, subst}
+use Prim.Native.Nat.{ℕ, _+_, _-_, _≤_}
+use mathlib.Core.Path.{_≡_, refl, _∙_, subst}
 use native.Mathlib.Omega.{arith}
 use Rattle.seeing.proofs.Sights.{few-items}
 use Rattle.seeing.specs.Layer.{Layer, parts}
 use Rattle.passes.proofs.Pins.{Linking, linking-start, linking-end, meets-other, meets-pin, meets-full}
 use Rattle.passes.specs.Links.{Sound}
 use Rattle.passes.specs.Marks.{Marked}
-use Rattle.passes.specs.Words.{wordOf, withWord, pinAs}
 use borrow.Author.Needs.{needs}
 use Rattle.passes.proofs.link_pins.Statement.{statement}
 use Rattle.passes.proofs.link_pins.Tie as tie
-use Rattle.passes.proofs.link_pins.Reads as reads
-use Rattle.passes.proofs.link_pins.Lts as lts
-use Rattle.passes.proofs.pin_of.Reads as pin-of-reads
-use Rattle.passes.proofs.put_link.Reads as put-link-reads
-use Rattle.passes.proofs.word_of.Reads as word-of-reads
-use Rattle.seeing.proofs.see.Reads as see-reads
 
 abbrev Inv-loop : tie.InvT-loop
 Inv-loop e a top notes operations roles roled names₀ pins₀ k₀ links₀ names pins k links = (k ≤ top .items) × (length names ≡ length names₀) × (length pins ≡ length pins₀) × (links + k ≤ top .items) × ((l : Layer e a top notes operations roles roled) → Sound l → Marked l names₀ (length (parts l)) → Linking l names pins links k)

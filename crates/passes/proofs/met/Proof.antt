@@ -1,10 +1,9 @@
+-- `passes::met` meets its contract: part by part.
+-- Assumes nothing.
 use Rattle.passes.specs.Words.{metBy}
 use borrow.Author.Needs.{needs}
 use Rattle.passes.proofs.met.Statement.{statement}
 use Rattle.passes.proofs.met.Tie as tie
-use Rattle.passes.proofs.met.Reads as reads
-use Rattle.passes.proofs.met.Lts as lts
-use Rattle.passes.proofs.lacks.Reads as lacks-reads
 
 lacks-requires : tie.Need-lacks-requires
 lacks-requires c κs = search needs

@@ -1,10 +1,10 @@
+-- `passes::pin_of` meets its contract: case by case.
+-- Assumes nothing.
 use mathlib.Core.Path.{sym, ap}
 use Rattle.passes.specs.Words.{pinAs}
 use borrow.Author.Needs.{needs}
 use Rattle.passes.proofs.pin_of.Statement.{statement}
 use Rattle.passes.proofs.pin_of.Tie as tie
-use Rattle.passes.proofs.pin_of.Reads as reads
-use Rattle.passes.proofs.pin_of.Lts as lts
 
 enum-told : tie.Need-enum-told
 enum-told c = search needs

@@ -1,16 +1,12 @@
-use mathlib.Core.List.{List}
+-- `passes::put_link` meets its contract: the two words of a link are stored one after the other, and the designator leads to it.
+-- Assumes nothing.
 use lib.ListN.{set}
-use Prim.Native.Nat.{ℕ, _+_, _*_}
-use mathlib.Core.Path.{_≡_, refl, sym, ap, _∙_}
-use Rattle.passes.specs.Words.{wordOf, withWord, withLink}
+use Prim.Native.Nat.{_+_, _*_}
+use mathlib.Core.Path.{_∙_}
+use Rattle.passes.specs.Words.{withLink}
 use borrow.Author.Needs.{needs}
 use Rattle.passes.proofs.put_link.Statement.{statement}
 use Rattle.passes.proofs.put_link.Tie as tie
-use Rattle.passes.proofs.put_link.Reads as reads
-use Rattle.passes.proofs.put_link.Lts as lts
-use Rattle.base.proofs.put.Reads as put-reads
-use Rattle.passes.proofs.set_word.Reads as set-word-reads
-use Rattle.passes.proofs.word_of.Reads as word-of-reads
 
 mul-put : tie.Need-mul-put
 mul-put c = search needs

@@ -1,3 +1,5 @@
+-- `passes::set_word` meets its contract: a number above 0 is one more than that of its record, and past the room nothing changes.
+-- Assumes nothing.
 use lib.ListN.{set}
 use Prim.Native.Nat.{ℕ, _+_, _*_}
 use mathlib.Core.Path.{sym, ap, _∙_}
@@ -7,10 +9,6 @@ use Rattle.passes.specs.Words.{withWord}
 use borrow.Author.Needs.{needs}
 use Rattle.passes.proofs.set_word.Statement.{statement}
 use Rattle.passes.proofs.set_word.Tie as tie
-use Rattle.passes.proofs.set_word.Reads as reads
-use Rattle.passes.proofs.set_word.Lts as lts
-use Rattle.base.proofs.put.Reads as put-reads
-use Rattle.sheet.proofs.index.Reads as index-reads
 
 returns : tie.Need-returns
 unfolding withWord

@@ -1,3 +1,5 @@
+-- `passes::word_of` meets its contract: a number above 0 is one more than that of its record, and past the room there is none.
+-- Assumes nothing.
 use lib.ListN.{getD}
 use Prim.Native.Nat.{ℕ, _+_, _*_}
 use mathlib.Core.Path.{sym, ap, _∙_}
@@ -7,10 +9,6 @@ use Rattle.passes.specs.Words.{wordOf}
 use borrow.Author.Needs.{needs}
 use Rattle.passes.proofs.word_of.Statement.{statement}
 use Rattle.passes.proofs.word_of.Tie as tie
-use Rattle.passes.proofs.word_of.Reads as reads
-use Rattle.passes.proofs.word_of.Lts as lts
-use Rattle.base.proofs.word_at.Reads as word-at-reads
-use Rattle.sheet.proofs.index.Reads as index-reads
 
 returns : tie.Need-returns
 unfolding wordOf

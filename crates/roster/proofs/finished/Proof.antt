@@ -1,12 +1,10 @@
+-- `roster::finished` meets its contract: the pen says whether all was written.
+-- Assumes nothing.
 use mathlib.Core.Bool.{true, false, true≢false, false≢true}
-use mathlib.Core.Path.{_≡_, refl, sym, ap, _∙_}
+use mathlib.Core.Path.{refl, sym, _∙_}
 use borrow.Author.Needs.{needs}
 use Rattle.roster.proofs.finished.Statement.{statement}
 use Rattle.roster.proofs.finished.Tie as tie
-use Rattle.roster.proofs.finished.Reads as reads
-use Rattle.roster.proofs.finished.Lts as lts
-use Rattle.mending.proofs.clear_bytes.Reads as clear-bytes-reads
-use Rattle.roster.proofs.refused.Reads as refused-reads
 
 clear-bytes-requires : tie.Need-clear-bytes-requires
 clear-bytes-requires c κs = search needs

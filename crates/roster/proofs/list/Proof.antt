@@ -1,7 +1,7 @@
-use mathlib.Core.Bool.{true, false}
-use mathlib.Core.Path.{_≡_, refl, sym, ap, _∙_}
+-- `roster::list` meets its contract: one law for each way out (`item-lists`, `pins-list`, `finished-lists`).
+-- Assumes nothing.
+use mathlib.Core.Path.{sym, ap, _∙_}
 use Prim.Native.Nat.{ℕ, _/_}
-use lib.ListN.{length}
 use lib.Dec.{ltb}
 use Rattle.seeing.specs.Layer.{parts}
 use Rattle.components.specs.Chain.{linkWidth}
@@ -11,14 +11,6 @@ use Rattle.roster.specs.Lists.{answered}
 use borrow.Author.Needs.{needs}
 use Rattle.roster.proofs.list.Statement.{statement}
 use Rattle.roster.proofs.list.Tie as tie
-use Rattle.roster.proofs.list.Reads as reads
-use Rattle.roster.proofs.list.Lts as lts
-use Rattle.passes.proofs.faults.Reads as faults-reads
-use Rattle.passes.proofs.link_pins.Reads as link-pins-reads
-use Rattle.roster.proofs.finished.Reads as finished-reads
-use Rattle.roster.proofs.refused.Reads as refused-reads
-use Rattle.sheet.proofs.index.Reads as index-reads
-use Rattle.writing.proofs.put_list.Reads as put-list-reads
 
 faults-requires : tie.Need-faults-requires
 faults-requires c κs = search needs

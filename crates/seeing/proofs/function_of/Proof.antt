@@ -1,17 +1,12 @@
-use mathlib.Core.Path.{_≡_, sym, ap, _∙_}
+-- `seeing::function_of` meets its contract: the search finds the record with the number, whose second word says what the aperture is for.
+-- Assumes nothing.
+use mathlib.Core.Path.{sym, ap, _∙_}
 use native.Mathlib.Omega.{arith}
-use Rattle.index.specs.declared.Search.the-variants.{At}
-use Rattle.index.specs.declared.Search.{Search}
-use Rattle.index.specs.Numbers.{numbered}
 use Rattle.noting.proofs.Roles.{number-found}
 use Rattle.noting.specs.Holds.{wordAt, roleNumber}
 use borrow.Author.Needs.{needs}
 use Rattle.seeing.proofs.function_of.Statement.{statement}
 use Rattle.seeing.proofs.function_of.Tie as tie
-use Rattle.seeing.proofs.function_of.Reads as reads
-use Rattle.seeing.proofs.function_of.Lts as lts
-use Rattle.base.proofs.word_at.Reads as word-at-reads
-use Rattle.index.proofs.search_number.Reads as search-number-reads
 
 search-number-requires : tie.Need-search-number-requires
 search-number-requires c κs = search needs

@@ -1,10 +1,9 @@
+-- `seeing::is_drawn` meets its contract: the three kinds are those of a line and of two arcs.
+-- Assumes nothing.
 use Rattle.components.specs.Parts.{isDrawn}
 use borrow.Author.Needs.{needs}
 use Rattle.seeing.proofs.is_drawn.Statement.{statement}
 use Rattle.seeing.proofs.is_drawn.Tie as tie
-use Rattle.seeing.proofs.is_drawn.Reads as reads
-use Rattle.seeing.proofs.is_drawn.Lts as lts
-use Rattle.base.proofs.either.Reads as either-reads
 
 either-requires : tie.Need-either-requires
 either-requires c κs = search needs

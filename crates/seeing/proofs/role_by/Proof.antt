@@ -1,3 +1,5 @@
+-- `seeing::role_by` meets its contract: the tests that led to each way out pick the definition's case.
+-- Assumes nothing.
 use mathlib.Core.Bool.{true, false}
 use mathlib.Core.Path.{_≡_}
 use lib.Dec.{eqb}
@@ -7,10 +9,6 @@ use Rattle.seeing.specs.Roles.{roleBy}
 use borrow.Author.Needs.{needs}
 use Rattle.seeing.proofs.role_by.Statement.{statement}
 use Rattle.seeing.proofs.role_by.Tie as tie
-use Rattle.seeing.proofs.role_by.Reads as reads
-use Rattle.seeing.proofs.role_by.Lts as lts
-use Rattle.base.proofs.both.Reads as both-reads
-use Rattle.seeing.proofs.is_drawn.Reads as is-drawn-reads
 
 both-requires : tie.Need-both-requires
 both-requires c κs = search needs

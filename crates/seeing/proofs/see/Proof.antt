@@ -1,14 +1,9 @@
+-- `seeing::see` meets its contract: the descent finds the item, the notes its texts, the table its role (`seen-is`).
+-- Assumes nothing.
 use Rattle.seeing.proofs.Sights.{asks-item, seeks-note, seen-is}
 use borrow.Author.Needs.{needs}
 use Rattle.seeing.proofs.see.Statement.{statement}
 use Rattle.seeing.proofs.see.Tie as tie
-use Rattle.seeing.proofs.see.Reads as reads
-use Rattle.seeing.proofs.see.Lts as lts
-use Rattle.descend.proofs.item_at.Reads as item-at-reads
-use Rattle.notes.proofs.find.Reads as find-reads
-use Rattle.notes.proofs.note_at.Reads as note-at-reads
-use Rattle.seeing.proofs.function_of.Reads as function-of-reads
-use Rattle.seeing.proofs.role_by.Reads as role-by-reads
 
 item-at-requires : tie.Need-item-at-requires
 item-at-requires c κs = asks-item (c .before .before .before .before .pre .0) _ (c .before .before .before .before .pre .1)

@@ -1,19 +1,10 @@
-use Prim.Native.Nat.{ℕ}
-use mathlib.Core.List.{List}
-use mathlib.Core.Path.{sym}
-use Rattle.seeing.specs.Layer.{parts}
+-- `writing::put_entry` meets its contract: the main's record, and its pins' behind it.
+-- Assumes nothing.
 use Rattle.writing.proofs.Putting.{penned}
-use Rattle.writing.specs.Rows.{pinsAt}
-use Rattle.writing.specs.Walks.{Walks, Walking}
 use Rattle.components.proofs.Written.{behind}
 use borrow.Author.Needs.{needs}
 use Rattle.writing.proofs.put_entry.Statement.{statement}
 use Rattle.writing.proofs.put_entry.Tie as tie
-use Rattle.writing.proofs.put_entry.Reads as reads
-use Rattle.writing.proofs.put_entry.Lts as lts
-use Rattle.passes.proofs.word_of.Reads as word-of-reads
-use Rattle.writing.proofs.put_main.Reads as put-main-reads
-use Rattle.writing.proofs.put_pins.Reads as put-pins-reads
 
 put-main-requires : tie.Need-put-main-requires
 put-main-requires c κs = search needs

@@ -1,22 +1,19 @@
+-- `writing::put_list` meets its contract: the loop's invariant is that the entries of the first k items are written.
+-- Assumes nothing.
 use lib.ListN.{length, take}
-use Prim.Native.Nat.{ℕ, _+_, _-_, _≤_}
+use Prim.Native.Nat.{_-_, _≤_}
 use mathlib.Core.Bool.{false}
-use mathlib.Core.Path.{_≡_, refl, sym, ap, _∙_}
+use mathlib.Core.Path.{_≡_, refl, _∙_}
 use native.Mathlib.Omega.{arith}
 use Rattle.writing.proofs.Putting.{walks-pins, walking-pins, entry-more, entry-none, list-start, list-end}
 use Rattle.writing.specs.Ready.{Ready}
 use Rattle.seeing.proofs.Sights.{few-items}
-use Rattle.seeing.specs.Layer.{Layer, parts}
+use Rattle.seeing.specs.Layer.{parts}
 use Rattle.components.specs.Written.{Wrote}
 use Rattle.components.specs.Placements.{each, entryFor}
 use borrow.Author.Needs.{needs}
 use Rattle.writing.proofs.put_list.Statement.{statement}
 use Rattle.writing.proofs.put_list.Tie as tie
-use Rattle.writing.proofs.put_list.Reads as reads
-use Rattle.writing.proofs.put_list.Lts as lts
-use Rattle.passes.proofs.main_of.Reads as main-of-reads
-use Rattle.seeing.proofs.see.Reads as see-reads
-use Rattle.writing.proofs.put_entry.Reads as put-entry-reads
 
 abbrev Inv-loop : tie.InvT-loop
 Inv-loop file e a top notes operations roles roled names pins out₀ q₀ k₀ out q k = (k ≤ top .items) × (length out ≡ length out₀) × ((w : Ready file e a top notes operations roles roled names pins) → Wrote out₀ out (record { at = 0; full = false }) q (each (entryFor (parts (w .layer))) (take k (parts (w .layer)))))

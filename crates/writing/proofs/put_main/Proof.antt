@@ -1,6 +1,6 @@
-use Prim.Native.Nat.{ℕ}
-use mathlib.Core.List.{List}
-use mathlib.Core.Path.{ap, _∙_}
+-- `writing::put_main` meets its contract: the record says where the designator lies, the note where the other texts do.
+-- Assumes nothing.
+use mathlib.Core.Path.{_∙_}
 use lib.Seq.{slice}
 use Rattle.writing.specs.Rows.{mainBy}
 use Rattle.components.specs.Records.{mainRow}
@@ -8,12 +8,6 @@ use Rattle.components.proofs.Written.{is-also}
 use borrow.Author.Needs.{needs}
 use Rattle.writing.proofs.put_main.Statement.{statement}
 use Rattle.writing.proofs.put_main.Tie as tie
-use Rattle.writing.proofs.put_main.Reads as reads
-use Rattle.writing.proofs.put_main.Lts as lts
-use Rattle.base.proofs.part.Reads as part-reads
-use Rattle.passes.proofs.word_of.Reads as word-of-reads
-use Rattle.rows.proofs.main_row.Reads as main-row-reads
-use Rattle.sheet.proofs.index.Reads as index-reads
 
 word-of-requires : tie.Need-word-of-requires
 word-of-requires c κs = search needs

@@ -1,3 +1,5 @@
+-- `writing::put_pin` meets its contract: the note says where the number lies.
+-- Assumes nothing.
 use Prim.Native.Nat.{ℕ}
 use mathlib.Core.List.{List}
 use mathlib.Core.Path.{ap}
@@ -7,10 +9,6 @@ use Rattle.components.proofs.Written.{is-also}
 use borrow.Author.Needs.{needs}
 use Rattle.writing.proofs.put_pin.Statement.{statement}
 use Rattle.writing.proofs.put_pin.Tie as tie
-use Rattle.writing.proofs.put_pin.Reads as reads
-use Rattle.writing.proofs.put_pin.Lts as lts
-use Rattle.base.proofs.part.Reads as part-reads
-use Rattle.rows.proofs.pin_row.Reads as pin-row-reads
 
 part-requires : tie.Need-part-requires
 part-requires c κs = search needs

@@ -1,24 +1,19 @@
+-- `writing::put_pins` meets its contract: the loop's invariant is `Putting`: what is written and what the link still leads to are the whole chain.
+-- Assumes nothing.
 use lib.ListN.{length, getD}
-use Prim.Native.Nat.{ℕ, _+_, _*_, _-_, _≤_, _<_}
+use Prim.Native.Nat.{ℕ, _+_, _*_, _-_}
 use mathlib.Core.List.{List}
-use mathlib.Core.Path.{_≡_, refl, sym, ap, _∙_}
+use mathlib.Core.Path.{_≡_, refl, ap, _∙_}
 use native.Mathlib.Omega.{arith}
 use Rattle.writing.proofs.Walks.{step, walking-on, Putting, putting-start, putting-on, putting-end}
 use Rattle.writing.proofs.Rows.{pin-is}
 use Rattle.writing.specs.Walks.{Walks, Walking}
 use Rattle.seeing.specs.Layer.{Layer, parts}
-use Rattle.components.specs.Chain.{linkWidth}
 use Rattle.components.specs.Outlines.{at}
 use Rattle.components.specs.Records.{pinRecord}
 use borrow.Author.Needs.{needs}
 use Rattle.writing.proofs.put_pins.Statement.{statement}
 use Rattle.writing.proofs.put_pins.Tie as tie
-use Rattle.writing.proofs.put_pins.Reads as reads
-use Rattle.writing.proofs.put_pins.Lts as lts
-use Rattle.base.proofs.word_at.Reads as word-at-reads
-use Rattle.seeing.proofs.see.Reads as see-reads
-use Rattle.sheet.proofs.index.Reads as index-reads
-use Rattle.writing.proofs.put_pin.Reads as put-pin-reads
 
 abbrev Inv-loop : tie.InvT-loop
 Inv-loop file e a top notes operations roles roled pins first out₀ link₀ q₀ out link q = Walking pins (top .items) link × (length out ≡ length out₀) × ((l : Layer e a top notes operations roles roled) → l .file ≡ file → (ks : List ℕ) → Walks pins (top .items) first ks → Putting pins (top .items) (λ k. pinRecord (at (parts l) k)) ks out₀ out q₀ q link)
