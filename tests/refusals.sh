@@ -79,7 +79,7 @@ done <tests/refusals/usual
 # Every number has its section, and those that a file gets their file.
 for number in {1..34} 100 101; do
     grep -q "^## $number: " docs/REFUSALS.md || fault "docs/REFUSALS.md has no section for $number"
-    case $number in 1 | 21 | 26 | 27 | 28 | 34 | 100 | 101) continue ;; esac
+    case $number in 1 | 21 | 100 | 101) continue ;; esac
     grep -q "^$number " tests/refusals/answers || fault "no file gets $number"
 done
 head -c 16777217 /dev/zero >"$room/long"
