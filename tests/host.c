@@ -1,5 +1,5 @@
 /* The calls for a host, tried from C: widths, every number of either edition, zeros to the full length, damaged stores, items in any
- * order, rooms, the short call. */
+ * order, rooms, many names, the short call. */
 #include <inttypes.h>
 #include <stddef.h>
 #include <stdio.h>
@@ -728,6 +728,32 @@ static void most_entries(void)
     }
 }
 
+/* 150,000 names, more than the look keeps at a time in little room (decision 255): none of them set twice, or one, at any distance, with
+ * all of the rest in the file between or behind. The answer is the same in any room. */
+static void many_names(void)
+{
+    enum { NAMES = 150000, EACH = 12 };
+    static const int again[] = {0, 20, 65536, 65537, 131072, 140000, 149999, 149999}, of[] = {0, 10, 65535, 0, 65536, 70000, 0, 149998};
+    static const size_t words[] = {7, 131071, 131072, NAMES * EACH / 3 * SHEET_ENTRY_WORDS};
+    char *file = malloc(NAMES * EACH + 64);
+    if (!file)
+        exit(1);
+    for (int i = 0; i < 8; i++) {
+        size_t start = strlen(strcpy(file, FS MO)), at = start;
+        for (int k = 0; k < NAMES; k++)
+            at += (size_t)sprintf(file + at, "%%TFn%06d*%%", k == again[i] ? of[i] : k);
+        at += (size_t)sprintf(file + at, "M02*");
+        for (int r = 0; r < 4; r++) {
+            struct lent l = rooms(words[r], 8, 8, 1);
+            read_with(&l, (const uint8_t *)file, at);
+            uint64_t place = again[i] ? start + (size_t)again[i] * EACH : 0;
+            expect(l.number == (again[i] ? SHEET_FILE_ATTRIBUTE : SHEET_ACCEPTED) && l.place == place, "another name is set twice", l.place);
+            expect(zeros(l.entries, 0, l.e), "names are left in the room for entries", words[r]);
+        }
+    }
+    free(file);
+}
+
 /* The short call names no edition, and reads the old one (document 02, [10]). */
 enum { SHORT_EDITION = SHEET_OLD_EDITION, OTHER_EDITION = 3 - SHORT_EDITION };
 
@@ -795,6 +821,7 @@ int main(void)
     films();
     old_calls();
     most_entries();
+    many_names();
     short_call();
     printf("host: %u tried, %u faults\n", tried, faults);
     return faults != 0;
