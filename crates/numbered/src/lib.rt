@@ -10,7 +10,7 @@ ghost use Rattle.reader.specs.Reads.{Reads};
 ghost use Rattle.numbered.specs.Choice.{withLetters, choiceOf, shortChoice};
 ghost use lib.ListN.{length};
 ghost use Rattle.numbered.specs.Mending.{MendsBy};
-ghost use Rattle.numbered.specs.Calls.{attributeBy, signatureBy, readingBy, roundedBy};
+ghost use Rattle.numbered.specs.Calls.{attributeBy, signatureBy, readingBy, roundedBy, labelNamedBy, labelAtBy};
 
 // The book that is named, or none.
 pub enum Choice {
@@ -188,5 +188,27 @@ pub fn mend(
             mender::clear(out, report, head, e, a, m, numbers);
             mender::Answer::Refused { number: 101 }
         }
+    }
+}
+
+// The file attribute of this name, likewise.
+pub fn label_named(edition: u64, letters: u64, file: &[u8], name: &[u8]) -> labels::Answer
+    ensures { λ r. ⌜ r ≡ labelNamedBy (choiceOf edition letters) (now (file .entry)) (now (name .entry)) ⌝ }
+{
+    let c = choice_of(edition, letters);
+    match c {
+        Choice::By(book) => labels::label_named(book, file, name),
+        Choice::Unknown => labels::refused(101),
+    }
+}
+
+// File attribute i, likewise.
+pub fn label_at(edition: u64, letters: u64, file: &[u8], i: usize) -> labels::Answer
+    ensures { λ r. ⌜ r ≡ labelAtBy (choiceOf edition letters) (now (file .entry)) i ⌝ }
+{
+    let c = choice_of(edition, letters);
+    match c {
+        Choice::By(book) => labels::label_at(book, file, i),
+        Choice::Unknown => labels::refused(101),
     }
 }
