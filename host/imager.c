@@ -336,7 +336,8 @@ static void apertures(const struct store *s)
 static void label(struct bytes file)
 {
     uint64_t at, count, value_at, value_count, number;
-    for (size_t i = 0; (number = sheet_label(letters, file.at, file.count, i, &at, &count, &value_at, &value_count)) == SHEET_ACCEPTED; i++) {
+    for (size_t i = 0; (number = sheet_label(book.edition, book.letters, file.at, file.count, i, &at, &count, &value_at, &value_count)) ==
+                       SHEET_ACCEPTED; i++) {
         fwrite(file.at + at, 1, count, stdout);
         putchar('\t');
         fwrite(file.at + value_at, 1, value_count, stdout);

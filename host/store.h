@@ -90,21 +90,22 @@ static inline void read_into(struct store *s, struct book book, const uint8_t *f
 struct layer {
     const uint8_t *file;
     size_t bytes;
-    uint64_t letters;
+    struct book book;
     struct store store;
 };
 
 /* Opens a layer: lends it room and reads it; store.number says whether it was accepted, or why not. Of entries, apertures and macros there is
  * room for every file of that length, of numbers at first for what layers seen so far use. 17 is answered by lending twice as many, until
  * they are enough; it stays where there is no more room to be had. */
-static inline struct layer open_layer(uint64_t letters, const uint8_t *file, size_t bytes)
+static inline struct layer open_layer(uint64_t edition, uint64_t letters, const uint8_t *file, size_t bytes)
 {
     struct layer l;
     struct room r = {0, 0, 0, 0};
     size_t most = 0;
     l.file = file;
     l.bytes = bytes;
-    l.letters = letters;
+    l.book.edition = edition;
+    l.book.letters = letters;
     if (bytes <= SHEET_FILE_LIMIT) {
         most = sheet_numbers_for(bytes);
         r.entries = sheet_entries_for(bytes);
@@ -117,7 +118,7 @@ static inline struct layer open_layer(uint64_t letters, const uint8_t *file, siz
         l.store.number = SHEET_ROOM;
         if (!is_lent(&l.store))
             return l;
-        read_into(&l.store, letters, file, bytes);
+        read_into(&l.store, l.book, file, bytes);
         if (l.store.number != SHEET_ROOM || r.numbers == most)
             return l;
         give_back(&l.store);
@@ -168,7 +169,7 @@ static inline uint64_t layer_primitives(const struct layer *l, uint64_t number, 
 /* A file attribute by its name, a string that ends with 0. */
 static inline uint64_t layer_attribute(const struct layer *l, const char *name, uint64_t *at, uint64_t *count)
 {
-    return sheet_file_attribute(l->letters, l->file, l->bytes, (const uint8_t *)name, strlen(name), at, count);
+    return sheet_file_attribute(l->book.edition, l->book.letters, l->file, l->bytes, (const uint8_t *)name, strlen(name), at, count);
 }
 
 /* Where the name and the value of a file attribute lie in the file. */
@@ -178,7 +179,8 @@ struct sheet_label {
 
 static inline uint64_t layer_label(const struct layer *l, size_t i, struct sheet_label *label)
 {
-    return sheet_label(l->letters, l->file, l->bytes, i, &label->name_at, &label->name_bytes, &label->value_at, &label->value_bytes);
+    return sheet_label(l->book.edition, l->book.letters, l->file, l->bytes, i, &label->name_at, &label->name_bytes, &label->value_at,
+                       &label->value_bytes);
 }
 
 #endif

@@ -58,7 +58,7 @@ static void print_labels(const struct layer *l)
 int main(void)
 {
     static uint8_t file[65536];
-    struct layer l = open_layer(SHEET_OLD_LETTERS, file, fread(file, 1, sizeof file, stdin));
+    struct layer l = open_layer(SHEET_NEW_EDITION, SHEET_OLD_LETTERS, file, fread(file, 1, sizeof file, stdin));
     struct sheet_shape shape;
     uint64_t unknown;
     printf("layer: %" PRIu64 " at %" PRIu64 "\n", l.store.number, l.store.place);

@@ -46,7 +46,7 @@ agree() { # WHAT [TERMS]
 }
 
 find tests/shapes examples -name '*.gbr' | sort | agree "examples"
-for terms in "" "--letters new"; do
+for terms in "" "--letters new" "--edition old"; do
     read -r -a terms <<<"$terms"
     rm -rf "$room/made"
     "$second" make 24 "$count" "$room/made" "${terms[@]}"
