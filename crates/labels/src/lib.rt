@@ -2,6 +2,7 @@
 ghost use mathlib.Core.Path.{_≡_};
 ghost use lib.ListN.{length};
 ghost use Prim.Native.Nat.{suc};
+ghost use Rattle.formats.specs.Format.{noFormat};
 ghost use Rattle.commands.specs.Commands.{commandsFrom};
 ghost use Rattle.labels.specs.Labels.{none, refused, valueIn, labelOf, told, toldOf, isNamed, closing, judged, answerIn, labelNamed, labelAt};
 ghost use Rattle.labels.specs.Pass.{Lies, NameLies, wants, met, leftAfter, firstWanted};
@@ -163,14 +164,14 @@ fn judged(number: u64, found: Found) -> Answer
 
 // The answer, in one pass over the file's commands.
 fn pass(book: Book, file: &[u8], named: bool, name: &[u8], i: usize) -> Answer
-    ensures { λ r. ⌜ r ≡ answerIn (now (file .entry)) (firstWanted (now (file .entry)) named (now (name .entry)) i) (commandsFrom book (suc (length (now (file .entry)))) 0 (now (file .entry)) 0) ⌝ }
+    ensures { λ r. ⌜ r ≡ answerIn (now (file .entry)) (firstWanted (now (file .entry)) named (now (name .entry)) i) (commandsFrom book (suc (length (now (file .entry)))) noFormat (now (file .entry)) 0) ⌝ }
 {
-    let mut n: usize = 0;
+    let mut format = formats::no_format();
     let mut at: usize = 0;
     let mut left = i;
     let mut found = Found::Nothing;
     loop {
-        let t = commands::turn_at(book, n, file, at);
+        let t = commands::turn_at(book, format, file, at);
         match t {
             Turn::Fault(f) => {
                 return judged(f.number, found);
@@ -182,13 +183,13 @@ fn pass(book: Book, file: &[u8], named: bool, name: &[u8], i: usize) -> Answer
             }
             Turn::More {
                 command,
-                n: m,
+                format: f,
                 next,
             } => {
                 let told = told_of(file, command);
                 found = met(file, named, name, left, told, found);
                 left = left_after(left, told);
-                n = m;
+                format = f;
                 at = next;
             }
         }
