@@ -45,7 +45,7 @@ pub drop-step : (left : ℕ) (p : Primitive) (ps : List Primitive) → 0 < left 
 drop-step zero p ps h = absurd (omega arith)
 drop-step (suc left) p ps h = let e : suc left - 1 ≡ left = omega arith in rw e
 
-pub drop-none : (left : ℕ) → drop left [] ≡ ([] : List Primitive)
+pub drop-none : (left : ℕ) → _≡_ {A = List Primitive} (drop left []) []
 drop-none zero = refl
 drop-none (suc left) = refl
 
