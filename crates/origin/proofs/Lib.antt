@@ -1,2 +1,5 @@
 pub mod Kept
 pub mod Cuts
+pub mod Led
+pub mod Low
+pub mod Steps
