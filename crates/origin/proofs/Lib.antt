@@ -3,3 +3,5 @@ pub mod Cuts
 pub mod Led
 pub mod Low
 pub mod Steps
+pub mod Stays
+pub mod Judged
