@@ -5,3 +5,4 @@ pub mod Low
 pub mod Steps
 pub mod Stays
 pub mod Judged
+pub mod Exposed
