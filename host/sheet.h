@@ -269,7 +269,7 @@ static inline size_t sheet_scratch_for(size_t apertures) { return apertures * SH
 uint64_t sheet_summary(const uint64_t *head, const uint64_t *entries, size_t entries_words, const uint64_t *apertures,
                        size_t apertures_words, uint64_t *scratch, size_t scratch_words, uint64_t *rows, size_t rows_words);
 
-/* What an aperture exposes, as its five words. Its numbers are among those that were lent to sheet_read: parameter j, with j below
+/* What an aperture exposes, as its five words. Its numbers are among those that were lent to sheet_read_as: parameter j, with j below
  * `count`, is numbers[first + j], in millionths of the unit, of a degree, or of one. */
 struct sheet_shape {
     uint64_t number;            /* the aperture's */
@@ -317,7 +317,7 @@ _Static_assert(sizeof(struct sheet_primitive) == SHEET_PRIMITIVE_WORDS * sizeof(
 /* The aperture with a number: as an item has it. It is found by the links that the reading left, in no more steps than a number has bits, so
  * that it may be asked for every item. Of a store that a reading left it is what AD's rules worked out of the file. Any words may be lent: what
  * a lookup goes by is looked at, and nothing else (docs/SHEET.md).
- *   head, apertures, apertures_words      as they were lent to sheet_read, or copies of them
+ *   head, apertures, apertures_words      as they were lent to sheet_read_as, or copies of them
  *   numbers, numbers_count                likewise
  *   shape                                 SHEET_SHAPE_WORDS words
  * Answers 0 (first + count is then no more than numbers_count); or 21, 8 where no aperture has the number, in this order, and zeros. */
