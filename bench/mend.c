@@ -1,26 +1,10 @@
 /* Times of mending, in one run, beside two readings of the mended file in the same room. Each time is the best of five. */
 #include <inttypes.h>
 #include <stdio.h>
-#include <time.h>
 
+#include "clock.h"
 #include "mending.h"
 #include "texts.h"
-
-enum { ROUNDS = 5 };
-static const struct book newer = {SHEET_NEW_EDITION, SHEET_OLD_LETTERS};
-
-static double now(void)
-{
-    struct timespec t;
-    clock_gettime(CLOCK_PROCESS_CPUTIME_ID, &t);
-    return (double)t.tv_sec + 1e-9 * (double)t.tv_nsec;
-}
-
-static void refuse(const char *what, uint64_t number)
-{
-    printf("%s: %" PRIu64 "\n", what, number);
-    exit(1);
-}
 
 /* What is mended needs so much room, told by a reading with plenty. */
 static struct room room_of(const struct mended *m)

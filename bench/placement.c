@@ -1,20 +1,10 @@
 /* Times of a placement list, in one run, beside a reading of the same file in the same room. Each time is the best of five. */
 #include <inttypes.h>
 #include <stdio.h>
-#include <time.h>
 
+#include "clock.h"
 #include "store.h"
 #include "texts.h"
-
-enum { ROUNDS = 5 };
-static const struct book newer = {SHEET_NEW_EDITION, SHEET_OLD_LETTERS};
-
-static double now(void)
-{
-    struct timespec t;
-    clock_gettime(CLOCK_PROCESS_CPUTIME_ID, &t);
-    return (double)t.tv_sec + 1e-9 * (double)t.tv_nsec;
-}
 
 /* So many components, each a main, four pins and an outline of four lines. */
 static struct text components(int count)

@@ -2,26 +2,12 @@
  * items in C. Each time is the best of five. */
 #include <inttypes.h>
 #include <stdio.h>
-#include <time.h>
 
+#include "clock.h"
 #include "store.h"
 #include "texts.h"
 
-enum { ROUNDS = 5, RUN = 65536, MOST = 1000000 };
-static const struct book newer = {SHEET_NEW_EDITION, SHEET_OLD_LETTERS};
-
-static double now(void)
-{
-    struct timespec t;
-    clock_gettime(CLOCK_PROCESS_CPUTIME_ID, &t);
-    return (double)t.tv_sec + 1e-9 * (double)t.tv_nsec;
-}
-
-static void refuse(const char *what, uint64_t number)
-{
-    printf("%s: %" PRIu64 "\n", what, number);
-    exit(1);
-}
+enum { RUN = 65536, MOST = 1000000 };
 
 static void define(struct text *t, int count)
 {

@@ -9,19 +9,7 @@
 #include <unistd.h>
 
 #include "../host/sheet.h"
-
-static unsigned faults;
-static unsigned tried;
-
-static void expect(int holds, const char *what, uint64_t of)
-{
-    tried++;
-    if (holds)
-        return;
-    faults++;
-    if (faults <= 20)
-        printf("host: %s (%" PRIu64 ")\n", what, of);
-}
+#include "expect.h"
 
 /* Words that end where the next page cannot be touched, so that a word past the end ends the program. */
 static uint64_t *fenced(size_t words)
@@ -798,6 +786,7 @@ static void constants(void)
 
 int main(void)
 {
+    test = "host";
     expect(sheet_entry_words() == SHEET_ENTRY_WORDS, "the width of an entry", sheet_entry_words());
     expect(sheet_aperture_words() == SHEET_APERTURE_WORDS, "the width of an aperture", sheet_aperture_words());
     expect(sheet_macro_words() == SHEET_MACRO_WORDS, "the width of a macro", sheet_macro_words());

@@ -5,19 +5,7 @@
 #include <string.h>
 
 #include "../host/mending.h"
-
-static unsigned faults;
-static unsigned tried;
-
-static void expect(int holds, const char *what, uint64_t of)
-{
-    tried++;
-    if (holds)
-        return;
-    faults++;
-    if (faults <= 20)
-        printf("mending: %s (%" PRIu64 ")\n", what, of);
-}
+#include "expect.h"
 
 /* So many bytes of room, words of report and records, all soiled. */
 struct rooms {
@@ -143,6 +131,7 @@ static void mends(struct book book, const char *file, const char *mended, uint64
 
 int main(void)
 {
+    test = "mending";
     static const char broken[] = FS MO BODY "G99*" FS;
     static const uint64_t none[] = {0, 3, 33, 101, UINT64_C(0x100000001), UINT64_MAX};
     mends(newer, FS MO BODY "M02*\r\n", FS MO BODY "M02*\r\n", 0);
