@@ -8,7 +8,10 @@
  *   imager number COPY [POSITION..]     number, that of the item with this address; positions not given are 0
  *   imager summary [--rows N]           a line for each aperture, its number first, and one for the regions: count, least x and y,
  *                                       greatest x and y
- *   imager numbers                      a line for each AD: its aperture, then the numbers kept
+ *   imager numbers                      a line for each AD: its aperture, then the numbers kept, a code before each primitive's
+ *   imager apertures                    a line for each aperture: its number, then C, R, O or P and the parameters, or macro and its
+ *                                       primitives, each a field of its code and parameters parted by spaces, or block
+ *   imager label                        a line for each file attribute: its name and its value
  *   imager attribute TA|TO PLACE NAME   attribute, place, length of the value (`attr` answers with attr)
  *   imager verify                       signed and the digest that the file bears
  *   imager placement [--out BYTES]      the placement list of a component layer, in room for so many bytes of it
@@ -20,8 +23,8 @@
  *   imager batch [--room E,A,M,N]       for each file named on standard input: name, sheet or refusal, hash of its first 2000 lines
  *
  * The file stands on standard input but for batch and mends; fields are parted by tabs. A refusal prints refused, number and place; of an
- * attribute, refused and number. Every mode takes --edition new|old and --letters old|new among its words: the newer edition and the old
- * letters where they are not said. */
+ * attribute or a label, refused and number. Every mode takes --edition new|old and --letters old|new among its words: the newer edition and
+ * the old letters where they are not said. */
 #include <errno.h>
 #include <inttypes.h>
 #include <stdio.h>
@@ -32,7 +35,7 @@
 #include "refusals.h"
 #include "store.h"
 
-enum { RUN = 65536, HASHED = 2000, LINE = 512 };
+enum { RUN = 65536, HASHED = 2000, LINE = 512, SHAPES = 64 };
 
 /* Without --room, no more numbers than these: the header says why there is no room that is always enough. */
 static const size_t most_numbers = (size_t)1 << 24;
@@ -235,6 +238,15 @@ static void item_number(const struct store *s, const uint64_t *words)
         printf("number\t%" PRIu64 "\n", k);
 }
 
+/* The shape of aperture record b. */
+static struct sheet_shape shape_of(const struct store *s, uint64_t b)
+{
+    struct sheet_shape shape;
+    if (sheet_shape_record(s->head, s->apertures, s->apertures_words, s->numbers, s->numbers_count, b, &shape.number) != SHEET_ACCEPTED)
+        fail("an aperture was refused");
+    return shape;
+}
+
 /* Room for rows as asked for, or for as many as there are. */
 static void summary(const struct store *s, const uint64_t *asked)
 {
@@ -249,7 +261,7 @@ static void summary(const struct store *s, const uint64_t *asked)
         for (size_t b = 0; b <= apertures; b++) {
             const struct sheet_row *r = &rows[b];
             if (b < apertures)
-                printf("%" PRIu64, s->apertures[b * SHEET_APERTURE_WORDS]);
+                printf("%" PRIu64, shape_of(s, b).number);
             else
                 printf("regions");
             printf("\t%" PRIu64 "\t%" PRId64 "\t%" PRId64 "\t%" PRId64 "\t%" PRId64 "\n", r->count, r->least_x, r->least_y,
@@ -259,19 +271,88 @@ static void summary(const struct store *s, const uint64_t *asked)
     free(scratch);
 }
 
+/* The primitives of a macro's aperture, each handed to a taker. */
+static void each_primitive(const struct store *s, const struct sheet_shape *shape, void (*take)(const struct store *, const struct sheet_primitive *))
+{
+    struct sheet_primitive primitives[SHAPES];
+    for (size_t i = 0; i < shape->primitives; i += SHAPES) {
+        if (sheet_primitives(s->head, s->apertures, s->apertures_words, s->numbers, s->numbers_count, shape->number, i, &primitives->code,
+                             SHAPES * SHEET_PRIMITIVE_WORDS) != SHEET_ACCEPTED)
+            fail("a run of primitives was refused");
+        for (size_t j = 0; j < SHAPES && i + j < shape->primitives; j++)
+            take(s, &primitives[j]);
+    }
+}
+
+static void print_numbers(const struct store *s, char part, uint64_t first, uint64_t count)
+{
+    for (uint64_t j = 0; j < count; j++)
+        printf("%c%" PRId64, part, s->numbers[first + j]);
+}
+
+static void primitive_numbers(const struct store *s, const struct sheet_primitive *p)
+{
+    printf("\t%" PRIu64, p->code);
+    print_numbers(s, '\t', p->first, p->count);
+}
+
+static void primitive_field(const struct store *s, const struct sheet_primitive *p)
+{
+    printf("\t%" PRIu64, p->code);
+    print_numbers(s, ' ', p->first, p->count);
+}
+
+/* A line for each AD. */
 static void numbers(const struct store *s)
 {
     if (refused(s))
         return;
-    for (uint64_t i = 0; i < s->head[SHEET_HEAD_APERTURES]; i++) {
-        const uint64_t *a = s->apertures + i * SHEET_APERTURE_WORDS;
-        if (a[1] == 6) /* a block keeps no numbers */
+    for (uint64_t b = 0; b < s->head[SHEET_HEAD_APERTURES]; b++) {
+        struct sheet_shape shape = shape_of(s, b);
+        if (shape.kind == SHEET_SHAPE_BLOCK) /* a block keeps no numbers */
             continue;
-        printf("%" PRIu64, a[0]);
-        for (uint64_t j = 0; j < a[3]; j++)
-            printf("\t%" PRId64, s->numbers[a[2] + j]);
+        printf("%" PRIu64, shape.number);
+        if (shape.kind == SHEET_SHAPE_MACRO)
+            each_primitive(s, &shape, primitive_numbers);
+        else
+            print_numbers(s, '\t', shape.first, shape.count);
         putchar('\n');
     }
+}
+
+/* A line for each aperture: by its number, as an item has it, the shape must be the one of its record. */
+static void apertures(const struct store *s)
+{
+    static const char *const kinds[] = {"none", "C", "R", "O", "P", "macro", "block"};
+    if (refused(s))
+        return;
+    for (uint64_t b = 0; b < s->head[SHEET_HEAD_APERTURES]; b++) {
+        struct sheet_shape shape = shape_of(s, b), found;
+        if (sheet_shape(s->head, s->apertures, s->apertures_words, s->numbers, s->numbers_count, shape.number, &found.number) !=
+                SHEET_ACCEPTED || memcmp(&found, &shape, sizeof shape) != 0)
+            fail("an aperture is not the one of its number");
+        printf("%" PRIu64 "\t%s", shape.number, kinds[shape.kind <= 6 ? shape.kind : 0]);
+        if (shape.kind == SHEET_SHAPE_MACRO)
+            each_primitive(s, &shape, primitive_field);
+        else
+            print_numbers(s, '\t', shape.first, shape.count);
+        putchar('\n');
+    }
+}
+
+/* A line for each file attribute: its name and its value. By its name the value must be the same one where the name stands once. */
+static void label(struct bytes file)
+{
+    uint64_t at, count, value_at, value_count, number;
+    for (size_t i = 0; (number = sheet_label(book.edition, book.letters, file.at, file.count, i, &at, &count, &value_at, &value_count)) ==
+                       SHEET_ACCEPTED; i++) {
+        fwrite(file.at + at, 1, count, stdout);
+        putchar('\t');
+        fwrite(file.at + value_at, 1, value_count, stdout);
+        putchar('\n');
+    }
+    if (number != SHEET_NOT_HELD)
+        printf("refused\t%" PRIu64 "\n", number);
 }
 
 static void attribute(struct bytes file, const char *mode, int of_aperture, size_t place, const char *name)
@@ -475,7 +556,7 @@ static void placement(struct bytes file, const uint64_t *out)
 static int usage(void)
 {
     fputs("usage: imager list|sheet|batch|mends [--room E,A,M,N], mend [--raw] [--room E,A,M,N], cuts COUNT [--room E,A,M,N], items K COUNT, address K, number COPY [POSITION..], summary [--rows N], "
-          "numbers, attribute TA|TO PLACE NAME, verify, placement [--out BYTES]; all with [--edition new|old] [--letters old|new]\n", stderr);
+          "numbers, apertures, label, attribute TA|TO PLACE NAME, verify, placement [--out BYTES]; all with [--edition new|old] [--letters old|new]\n", stderr);
     return 2;
 }
 
@@ -564,6 +645,12 @@ int main(int argc, char **argv)
         free(file.at);
         return 0;
     }
+    if (is(mode, "label") && argc == 2) {
+        struct bytes file = all_of(stdin);
+        label(file);
+        free(file.at);
+        return 0;
+    }
     if (is(mode, "verify") && argc == 2) {
         struct bytes file = bytes_of(stdin, SIZE_MAX - 1);
         verify(file);
@@ -585,7 +672,8 @@ int main(int argc, char **argv)
     int asks_items = is(mode, "items") && argc == 4 && whole(argv[2], &k) && whole(argv[3], &count);
     int some_rows = argc == 4 && is(argv[2], "--rows") && whole(argv[3], &count) && count < SHEET_FILE_LIMIT;
     int asks_summary = is(mode, "summary") && (argc == 2 || some_rows);
-    if (!asks_items && !asks_address && !asks_number && !asks_summary && !(is(mode, "numbers") && argc == 2))
+    int asks_apertures = is(mode, "apertures") && argc == 2;
+    if (!asks_items && !asks_address && !asks_number && !asks_summary && !asks_apertures && !(is(mode, "numbers") && argc == 2))
         return usage();
     struct bytes file = all_of(stdin);
     struct store s = read_sheet(file, NULL);
@@ -597,6 +685,8 @@ int main(int argc, char **argv)
         item_number(&s, words);
     else if (asks_summary)
         summary(&s, some_rows ? &count : NULL);
+    else if (asks_apertures)
+        apertures(&s);
     else
         numbers(&s);
     give_back(&s);

@@ -14,13 +14,22 @@
  *   - A call answers a number: 0, or why not (enum sheet_number). It sets everything that it was lent to be written, whatever it
  *     answers.
  *
- *   uint64_t head[SHEET_HEAD_WORDS], place, unit, rounded, item[SHEET_ITEM_WORDS];
- *   size_t e = sheet_entries_for(n) * SHEET_ENTRY_WORDS, a = sheet_apertures_for(n) * SHEET_APERTURE_WORDS;
- *   size_t m = sheet_macros_for(n) * SHEET_MACRO_WORDS, v = numbers;
- *   .. lend entries of e words, apertures of a, macros of m, numbers of v ..
- *   if (sheet_read_as(SHEET_NEW_EDITION, SHEET_OLD_LETTERS, file, n, head, entries, e, apertures, a, macros, m, values, v, &place,
- *                     &unit, &rounded) == SHEET_ACCEPTED)
- *       sheet_item(head, entries, e, apertures, a, 40000, item);
+ * A host that does not keep its rooms by itself includes store.h, which lends and frees them. A layer is then read, its items are walked in
+ * runs, the shape of each is looked up once, and its label is taken:
+ *
+ *   struct sheet_item items[64];
+ *   struct sheet_shape shape = {0};
+ *   uint64_t at, count;
+ *   struct layer l = open_layer(SHEET_NEW_EDITION, SHEET_OLD_LETTERS, file, n);
+ *   for (uint64_t k = 0; layer_items(&l, k, items, 64) == SHEET_ACCEPTED; k += 64)
+ *       for (size_t i = 0; i < 64 && items[i].kind != SHEET_ZERO_ITEM; i++) {
+ *           if (items[i].aperture != shape.number)
+ *               layer_shape(&l, items[i].aperture, &shape);
+ *           expose(&items[i], &shape, l.store.numbers + shape.first);
+ *       }
+ *   if (layer_attribute(&l, ".FileFunction", &at, &count) == SHEET_ACCEPTED)
+ *       print_label(file + at, count);
+ *   close_layer(&l);
  */
 #ifndef SHEET_H
 #define SHEET_H
@@ -42,7 +51,7 @@ enum sheet_number {
     SHEET_RANGE = 5,            /* number too long or outside its range; in the old edition also a point of 10^12 millionths or more in size */
     SHEET_FORMAT = 6,           /* FS or MO given twice, or missing at an operation or at M02 */
     SHEET_NOT_HERE = 7,         /* command not allowed here, or something open at M02 */
-    SHEET_NAME = 8,             /* aperture or macro unknown, or its number or name taken */
+    SHEET_NAME = 8,             /* aperture or macro unknown, or its number or name taken; no aperture has the number asked */
     SHEET_EXPRESSION = 9,       /* macro expression: zero divisor, or any operation's result of 10^12 millionths or more in size */
     SHEET_PARAMETER = 10,       /* parameter outside its rule */
     SHEET_STATE = 11,           /* operation does not fit the state */
@@ -54,10 +63,10 @@ enum sheet_number {
     SHEET_ROOM = 17,            /* room used up */
     SHEET_AFTER_END = 18,       /* any byte but CR or LF after M02, where 2 is not given; place of that byte */
     SHEET_FILE_ATTRIBUTE = 19,  /* file attribute name set twice */
-    SHEET_PAST = 20,            /* item asked at or past the total */
+    SHEET_PAST = 20,            /* item asked at or past the total, or primitive past an aperture's last */
     SHEET_NOT_SHEET = 21,       /* lent store is not a sheet */
     SHEET_NO_COMMAND = 22,      /* no command begins at the place asked */
-    SHEET_NOT_HELD = 23,        /* attribute name not held there */
+    SHEET_NOT_HELD = 23,        /* attribute name not held there, or no file attribute of the name or number asked */
     SHEET_OTHER_DIGEST = 24,    /* the signature is not the digest of the file (document 02, [2]) */
     SHEET_UNSIGNED = 25,        /* no signature just before M02 */
     SHEET_PART_UNNAMED = 26,    /* in a placement list, a main or an outline without `.C`, or a pin without `.P`; place of the item ([4]) */
@@ -105,6 +114,8 @@ enum sheet_kind {
 #define SHEET_ADDRESS_WORDS 10
 #define SHEET_ROW_WORDS 5
 #define SHEET_SCRATCH_WORDS 8
+#define SHEET_SHAPE_WORDS 5
+#define SHEET_PRIMITIVE_WORDS 3
 #define SHEET_DIGEST_BYTES 16
 #define SHEET_FILE_LIMIT 16777216
 
@@ -114,6 +125,8 @@ size_t sheet_macro_words(void);
 size_t sheet_item_words(void);
 size_t sheet_row_words(void);
 size_t sheet_scratch_words(void);
+size_t sheet_shape_words(void);
+size_t sheet_primitive_words(void);
 
 /* Words of the head, of use to a host after an accepted reading. */
 enum sheet_head_word {
@@ -261,6 +274,73 @@ static inline size_t sheet_scratch_for(size_t apertures) { return apertures * SH
 uint64_t sheet_summary(const uint64_t *head, const uint64_t *entries, size_t entries_words, const uint64_t *apertures,
                        size_t apertures_words, uint64_t *scratch, size_t scratch_words, uint64_t *rows, size_t rows_words);
 
+/* What an aperture exposes, as its five words. Its numbers are among those that were lent to sheet_read_as: parameter j, with j below
+ * `count`, is numbers[first + j], in millionths of the unit, of a degree, or of one. */
+struct sheet_shape {
+    uint64_t number;            /* the aperture's */
+    uint64_t kind;              /* enum sheet_shape_kind */
+    uint64_t first, count;      /* a template's parameters, in the order written; all numbers of a macro's primitives; 0 and 0 of a block */
+    uint64_t primitives;        /* how many a macro's aperture has; else 0 */
+};
+
+/* A template's parameters: the first ones, then those that may be left out, a hole's diameter the last of them. */
+enum sheet_shape_kind {
+    SHEET_NO_SHAPE = 0,
+    SHEET_SHAPE_C = 1,          /* a circle: diameter [, hole] */
+    SHEET_SHAPE_R = 2,          /* a rectangle: width, height [, hole] */
+    SHEET_SHAPE_O = 3,          /* an obround: width, height [, hole] */
+    SHEET_SHAPE_P = 4,          /* a polygon: outer diameter, vertices (in millionths too) [, rotation [, hole]] */
+    SHEET_SHAPE_MACRO = 5,      /* a macro's: sheet_primitives says which */
+    SHEET_SHAPE_BLOCK = 6       /* a block, whose items sheet_items puts out itself: no item has its number */
+};
+
+/* A primitive of a macro's aperture, as its three words: parameter j, with j below `count`, is numbers[first + j], in millionths. */
+struct sheet_primitive {
+    uint64_t code;              /* enum sheet_code */
+    uint64_t first, count;
+};
+
+/* What the parameters of each code are, in their order. Exposure is 0 or 1 (so 0 or 1000000), angles are in degrees. */
+enum sheet_code {
+    SHEET_NO_CODE = 0,
+    SHEET_CIRCLE = 1,           /* exposure, diameter, centre x, centre y [, rotation] */
+    SHEET_OUTLINE = 4,          /* exposure, n, start x, start y, n further points, the last of them the start again, rotation */
+    SHEET_POLYGON = 5,          /* exposure, vertices, centre x, centre y, diameter, rotation */
+    SHEET_THERMAL = 7,          /* centre x, centre y, outer diameter, inner diameter, gap, rotation */
+    SHEET_VECTOR_LINE = 20,     /* exposure, width, start x, start y, end x, end y, rotation */
+    SHEET_CENTER_LINE = 21      /* exposure, width, height, centre x, centre y, rotation */
+};
+
+#ifdef __cplusplus
+static_assert(sizeof(struct sheet_shape) == SHEET_SHAPE_WORDS * sizeof(uint64_t), "a shape is five words");
+static_assert(sizeof(struct sheet_primitive) == SHEET_PRIMITIVE_WORDS * sizeof(uint64_t), "a primitive is three words");
+#else
+_Static_assert(sizeof(struct sheet_shape) == SHEET_SHAPE_WORDS * sizeof(uint64_t), "a shape is five words");
+_Static_assert(sizeof(struct sheet_primitive) == SHEET_PRIMITIVE_WORDS * sizeof(uint64_t), "a primitive is three words");
+#endif
+
+/* The aperture with a number: as an item has it. It is found by the links that the reading left, in no more steps than a number has bits, so
+ * that it may be asked for every item. Of a store that a reading left it is what AD's rules worked out of the file. Any words may be lent: what
+ * a lookup goes by is looked at, and nothing else (docs/SHEET.md).
+ *   head, apertures, apertures_words      as they were lent to sheet_read_as, or copies of them
+ *   numbers, numbers_count                likewise
+ *   shape                                 SHEET_SHAPE_WORDS words
+ * Answers 0 (first + count is then no more than numbers_count); or 21, 8 where no aperture has the number, in this order, and zeros. */
+uint64_t sheet_shape(const uint64_t *head, const uint64_t *apertures, size_t apertures_words, const int64_t *numbers,
+                     size_t numbers_count, uint64_t number, uint64_t *shape);
+
+/* The aperture of record b, counted from 0 in the order in which the file defines them, up to head[SHEET_HEAD_APERTURES]: that of row b of
+ * the summary. Answers as sheet_shape, 8 where there are no more records. */
+uint64_t sheet_shape_record(const uint64_t *head, const uint64_t *apertures, size_t apertures_words, const int64_t *numbers,
+                            size_t numbers_count, uint64_t b, uint64_t *shape);
+
+/* Primitives i, i + 1, .. of the aperture with a number, in the order of the macro's blocks.
+ *   primitives, primitives_words    room for primitives_words / SHEET_PRIMITIVE_WORDS primitives, slot after slot
+ * Answers 0 (slots past the last, and words behind the last whole slot, are 0; runs join as those of items do); or 21, 8, 20 where i is
+ * not below its primitives, in this order, and zeros. */
+uint64_t sheet_primitives(const uint64_t *head, const uint64_t *apertures, size_t apertures_words, const int64_t *numbers,
+                          size_t numbers_count, uint64_t number, size_t i, uint64_t *primitives, size_t primitives_words);
+
 /* The value of an attribute at the command that begins at a place of the file: TA (taken at AD, at an AB opening and at a contour's
  * first D01) or TO.
  *   edition                 the edition
@@ -274,6 +354,22 @@ uint64_t sheet_aperture_attribute(uint64_t edition, uint64_t letters, const uint
                                   const uint8_t *name, size_t name_bytes, uint64_t *value_at, uint64_t *value_bytes);
 uint64_t sheet_object_attribute(uint64_t edition, uint64_t letters, const uint8_t *file, size_t file_bytes, size_t place,
                                 const uint8_t *name, size_t name_bytes, uint64_t *value_at, uint64_t *value_bytes);
+
+/* The value of a file attribute, TF, by its name: the first of that name, since a second is 19 where the file is read.
+ *   edition                 the edition
+ *   letters                 the rule of letters
+ *   file, file_bytes        the file, any bytes
+ *   name, name_bytes        the attribute's name, with its leading point if it has one
+ *   value_at, value_bytes   one word each: where the value lies in the file, and its length; 0 and 0 without one
+ * Answers 0; or 1 to 4, 18, 23, 30 (old edition) or 101, and zeros. */
+uint64_t sheet_file_attribute(uint64_t edition, uint64_t letters, const uint8_t *file, size_t file_bytes, const uint8_t *name,
+                              size_t name_bytes, uint64_t *value_at, uint64_t *value_bytes);
+
+/* File attribute i, counted from 0 in file order: where its name and its value lie in the file. Each call goes over the file once.
+ *   name_at, name_bytes, value_at, value_bytes    one word each
+ * Answers 0; or 1 to 4, 18, 23 where there are no more, 30 (old edition) or 101, and zeros. */
+uint64_t sheet_label(uint64_t edition, uint64_t letters, const uint8_t *file, size_t file_bytes, size_t i, uint64_t *name_at,
+                     uint64_t *name_bytes, uint64_t *value_at, uint64_t *value_bytes);
 
 /* Whether a file is signed: whether the `.MD5` just before M02 is the digest of what stands before it (document 02, [2]). In the old
  * edition M02 may be written `M2`.

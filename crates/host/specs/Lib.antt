@@ -1,3 +1,4 @@
 pub mod Mends
 pub mod Reads
+pub mod Shapes
 pub mod Widths

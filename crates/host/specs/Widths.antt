@@ -15,6 +15,10 @@ use Rattle.descend.specs.Slots.{itemWords}
 use Rattle.summaries.specs.declared.Row.{Row}
 use Rattle.summary.specs.Kept.{rowWords}
 use Rattle.summary.specs.Answers.{roomy}
+use Rattle.lookup.specs.declared.Primitive.{Primitive}
+use Rattle.lookup.specs.declared.Shape.{Shape}
+use Rattle.figures.specs.Runs.{primitiveWords}
+use Rattle.host.specs.Shapes.{shapeWords}
 
 pub record ItemsAre (r : ℕ) : Type 0 where
   pub words : (t : Item) → length (itemWords t) ≡ r
@@ -37,3 +41,9 @@ pub record RowsAre (r : ℕ) : Type 0 where
 
 pub record ScratchIs (r : ℕ) : Type 0 where
   pub room : (n words scratch : ℕ) → roomy n words scratch ≡ true → n ≤ scratch / r
+
+pub record ShapesAre (r : ℕ) : Type 0 where
+  pub words : (t : Shape) → length (shapeWords t) ≡ r
+
+pub record PrimitivesAre (r : ℕ) : Type 0 where
+  pub words : (t : Primitive) → length (primitiveWords t) ≡ r

@@ -1,7 +1,9 @@
 // The calls for a host program in C (host/sheet.h): numbers and slices alone. Each is one call of the crate that answers, with the
 // answer turned into document 01's number and its values stored where they are asked for.
+use command::Span;
 use descend::Fetch;
 use descend::Total;
+use lookup::Lookup;
 use reader::Answer;
 use sayings::Kind;
 use summary::Outcome;
@@ -11,7 +13,7 @@ ghost use Rattle.sayings.specs.declared.Kind.the-variants.{Aperture, Object};
 ghost use Rattle.progress.specs.Lent.{lentOf, roomOf};
 ghost use Rattle.reader.specs.Reads.{numberOf, placeOf, unitOf, roundedOf};
 ghost use Rattle.numbered.specs.Choice.{choiceOf, shortChoice};
-ghost use Rattle.numbered.specs.Calls.{attributeBy, signatureBy, readingBy, roundedBy};
+ghost use Rattle.numbered.specs.Calls.{attributeBy, signatureBy, readingBy, roundedBy, labelNamedBy, labelAtBy};
 ghost use Rattle.descend.specs.Answers.{totalOf, totalNumber, totalValue, answerOf, answerNumber, answerItem};
 ghost use Rattle.descend.specs.Slots.{itemWords, fetchOf, fetchNumber, fetched};
 ghost use Rattle.address.specs.Answers.{replyOf};
@@ -22,8 +24,11 @@ ghost use Rattle.numbered.specs.Placing.{PlacesBy};
 ghost use Rattle.roster.specs.Lists.{answered};
 ghost use Rattle.assembly.specs.Placement.{workOf};
 ghost use Rattle.host.specs.Mends.{MendsInto};
+ghost use Rattle.lookup.specs.Shapes.{lookupOf, recordOf, lookupNumber, lookupShape};
+ghost use Rattle.figures.specs.Runs.{fetchOf as primitiveFetch, fetchNumber as primitiveNumber, fetched as primitivesFetched};
 ghost use Rattle.host.specs.Reads.{ReadsInto};
-ghost use Rattle.host.specs.Widths.{ItemsAre, EntriesAre, AperturesAre, MacrosAre, RowsAre, ScratchIs};
+ghost use Rattle.host.specs.Shapes.{shapeWords, sizeOf};
+ghost use Rattle.host.specs.Widths.{ItemsAre, EntriesAre, AperturesAre, MacrosAre, RowsAre, ScratchIs, ShapesAre, PrimitivesAre};
 
 // The number of a reading's answer, and its place, unit and rounded decimals.
 fn told(a: Answer, place: &mut u64, unit: &mut u64, rounded: &mut u64) -> u64
@@ -454,4 +459,172 @@ pub extern "C" fn sheet_digest(bytes: &[u8], digest: &mut [u8; 16])
 {
     let d = digest::digest(bytes);
     *digest = d;
+}
+
+// Document 01's number of a lookup.
+fn lookup_number(l: Lookup) -> u64
+    ensures { λ r. ⌜ r ≡ lookupNumber l ⌝ }
+{
+    match l {
+        Lookup::Is(_) => 0,
+        Lookup::Unknown => 8,
+        Lookup::NotSheet => 21,
+    }
+}
+
+// The words of the aperture that is found, zeros without one.
+fn shape_words(l: Lookup) -> [u64; 5]
+    ensures { λ r. ⌜ r ≡ shapeWords (lookupShape l) ⌝ }
+{
+    match l {
+        Lookup::Is(s) => [
+            s.number,
+            s.kind,
+            s.first as u64,
+            s.count as u64,
+            s.primitives as u64,
+        ],
+        Lookup::Unknown => [0u64; 5],
+        Lookup::NotSheet => [0u64; 5],
+    }
+}
+
+// What the aperture with a number exposes, zeros where there is none.
+#[no_mangle]
+pub extern "C" fn sheet_shape(
+    head: &[u64; 8],
+    apertures: &[u64],
+    numbers: &[i64],
+    number: u64,
+    shape: &mut [u64; 5],
+) -> u64
+    ensures { λ r. ⌜ (r ≡ lookupNumber (lookupOf (now (head .entry)) (now (apertures .entry)) (now (numbers .entry)) number))
+        × (now (shape .exit) ≡ shapeWords (lookupShape (lookupOf (now (head .entry)) (now (apertures .entry)) (now (numbers .entry)) number))) ⌝ }
+{
+    let l = lookup::shape_of(head, apertures, numbers, number);
+    *shape = shape_words(l);
+    lookup_number(l)
+}
+
+// The same of aperture record b, in the order in which the file defines them.
+#[no_mangle]
+pub extern "C" fn sheet_shape_record(
+    head: &[u64; 8],
+    apertures: &[u64],
+    numbers: &[i64],
+    b: u64,
+    shape: &mut [u64; 5],
+) -> u64
+    ensures { λ r. ⌜ (r ≡ lookupNumber (recordOf (now (head .entry)) (now (apertures .entry)) (now (numbers .entry)) b))
+        × (now (shape .exit) ≡ shapeWords (lookupShape (recordOf (now (head .entry)) (now (apertures .entry)) (now (numbers .entry)) b))) ⌝ }
+{
+    let l = lookup::shape_at(head, apertures, numbers, b);
+    *shape = shape_words(l);
+    lookup_number(l)
+}
+
+// Document 01's number of a call for a run of primitives.
+fn primitives_number(f: figures::Fetch) -> u64
+    ensures { λ r. ⌜ r ≡ primitiveNumber f ⌝ }
+{
+    match f {
+        figures::Fetch::Done => 0,
+        figures::Fetch::Past => 20,
+        figures::Fetch::Unknown => 8,
+        figures::Fetch::NotSheet => 21,
+    }
+}
+
+// Primitives i, i + 1, .. of the aperture with a number, in as many slots as there is room for.
+#[no_mangle]
+pub extern "C" fn sheet_primitives(
+    head: &[u64; 8],
+    apertures: &[u64],
+    numbers: &[i64],
+    number: u64,
+    i: usize,
+    primitives: &mut [u64],
+) -> u64
+    ensures { λ r. ⌜ (r ≡ primitiveNumber (primitiveFetch (now (head .entry)) (now (apertures .entry)) (now (numbers .entry)) number i))
+        × (now (primitives .exit) ≡ primitivesFetched (now (head .entry)) (now (apertures .entry)) (now (numbers .entry)) number i (length (now (primitives .entry)))) ⌝ }
+{
+    let f = figures::primitives_of(head, apertures, numbers, number, i, primitives);
+    primitives_number(f)
+}
+
+// How many bytes a part of the file has.
+fn size_of(s: Span) -> u64
+    ensures { λ r. ⌜ r ≡ sizeOf s ⌝ }
+{
+    if s.from <= s.to {
+        return (s.to - s.from) as u64;
+    }
+    0
+}
+
+// The file attribute of this name: where its value stands in the file, and its length.
+#[no_mangle]
+pub extern "C" fn sheet_file_attribute(
+    edition: u64,
+    letters: u64,
+    file: &[u8],
+    name: &[u8],
+    at: &mut u64,
+    size: &mut u64,
+) -> u64
+    ensures { λ r. ⌜ (r ≡ labelNamedBy (choiceOf edition letters) (now (file .entry)) (now (name .entry)) .number)
+        × (now (at .exit) ≡ labelNamedBy (choiceOf edition letters) (now (file .entry)) (now (name .entry)) .label .value .from)
+        × (now (size .exit) ≡ sizeOf (labelNamedBy (choiceOf edition letters) (now (file .entry)) (now (name .entry)) .label .value)) ⌝ }
+{
+    let a = numbered::label_named(edition, letters, file, name);
+    let l = a.label;
+    let value = l.value;
+    *at = value.from as u64;
+    *size = size_of(value);
+    a.number
+}
+
+// File attribute i, in file order: where its name and its value stand in the file, and their lengths.
+#[no_mangle]
+pub extern "C" fn sheet_label(
+    edition: u64,
+    letters: u64,
+    file: &[u8],
+    i: usize,
+    name_at: &mut u64,
+    name_size: &mut u64,
+    at: &mut u64,
+    size: &mut u64,
+) -> u64
+    ensures { λ r. ⌜ (r ≡ labelAtBy (choiceOf edition letters) (now (file .entry)) i .number)
+        × (now («name_at» .exit) ≡ labelAtBy (choiceOf edition letters) (now (file .entry)) i .label .name .from)
+        × (now («name_size» .exit) ≡ sizeOf (labelAtBy (choiceOf edition letters) (now (file .entry)) i .label .name))
+        × (now (at .exit) ≡ labelAtBy (choiceOf edition letters) (now (file .entry)) i .label .value .from)
+        × (now (size .exit) ≡ sizeOf (labelAtBy (choiceOf edition letters) (now (file .entry)) i .label .value)) ⌝ }
+{
+    let a = numbered::label_at(edition, letters, file, i);
+    let l = a.label;
+    let name = l.name;
+    let value = l.value;
+    *name_at = name.from as u64;
+    *name_size = size_of(name);
+    *at = value.from as u64;
+    *size = size_of(value);
+    a.number
+}
+
+// The words of an aperture that is looked up.
+#[no_mangle]
+pub extern "C" fn sheet_shape_words() -> usize
+    ensures { λ r. ⌜ ShapesAre r ⌝ }
+{
+    5
+}
+
+// The words of a primitive in a run.
+#[no_mangle]
+pub extern "C" fn sheet_primitive_words() -> usize
+    ensures { λ r. ⌜ PrimitivesAre r ⌝ }
+{
+    figures::PRIMITIVE_WORDS
 }

@@ -1,3 +1,4 @@
 pub mod Seek
+pub mod Layers
 pub mod More
 pub mod NameKeys

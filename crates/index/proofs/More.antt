@@ -13,6 +13,7 @@ use lib.Seq.{getD-set-same, getD-set-other, set-getD}
 use borrow.Author.Tests.{eqb-true, eqb-false}
 use Rattle.index.specs.Tree.{recordWidth, linkWord, linkOf, next, lastLink, linked}
 use Rattle.index.specs.Indexed.{Leads, here, Indexed}
+use Rattle.index.specs.Layered.{Layered}
 use Rattle.index.specs.Numbers.{numberOf, Numbered}
 use Rattle.index.specs.Names.{nameOf, keyOf, Named}
 use Rattle.base.specs.Bytes.{sameBytes}
@@ -20,6 +21,7 @@ use Rattle.base.proofs.Lists.{same-is, same-refl}
 use Rattle.base.proofs.Run.{below-snoc}
 use lib.Seq.{slice}
 use Rattle.index.proofs.Seek.{LinkBelow, link-words, link-place, link-other, leads-kept, leads-new, last-is, last-free}
+use Rattle.index.proofs.Layers.{walk-starts, last-ends, layered-set, layered-first, layered-agree}
 
 module _ (s : List ℕ) (keyOf : ℕ → ℕ) (m : ℕ) (t : Indexed s keyOf (suc m)) (room : suc (suc m) * recordWidth ≤ length s)
     (free : (key : ℕ) → next s (suc m) key ≡ 0) (w : ℕ) (is : w ≡ lastLink s (suc m) 0 (keyOf (suc m))) where
@@ -98,6 +100,17 @@ indexed-more s keyOf keyOf′ zero w t room free is same =
 indexed-more s keyOf keyOf′ (suc m) w t room free is same =
     indexed-by (set s w (suc m)) keyOf keyOf′ (suc (suc m)) (λ j l. same j) (indexed-set s keyOf m t room free w is)
 
+-- and lies a layer deeper than the record that leads to it
+layered-more : (s : List ℕ) (keyOf keyOf′ : ℕ → ℕ) (used w : ℕ) → Indexed s keyOf used → Layered s keyOf used → suc used * recordWidth ≤ length s
+    → ((key : ℕ) → next s used key ≡ 0) → w ≡ lastLink s used 0 (keyOf used) → ((j : ℕ) → keyOf j ≡ keyOf′ j) → Layered (set s w used) keyOf′ (suc used)
+layered-more s keyOf keyOf′ zero w t o room free is same =
+    subst (λ (l : List ℕ). Layered l keyOf′ 1) (sym (ap (λ (i : ℕ). set s i 0) is ∙ linked-first s (keyOf 0) (free (keyOf 0))))
+    (layered-first s keyOf′ 1 (λ i key l. below-snoc (λ i. next s i key ≡ 0) 0 (λ i l. absurd (omega arith)) (free key) i l))
+layered-more s keyOf keyOf′ (suc m) w t o room free is same =
+    let k = last-ends s keyOf (suc m) t o (suc m) (keyOf (suc m)) 0 (keyOf (suc m)) 0 (walk-starts s keyOf (suc m) t o (keyOf (suc m)) (omega arith)) (omega arith) in
+    layered-agree (set s w (suc m)) (set s w (suc m)) keyOf keyOf′ (suc (suc m)) (indexed-set s keyOf m t room free w is) (λ i key l. refl) (λ j l. same j)
+    (layered-set s keyOf m t o free w (new-link s keyOf m t room free w is) (rw (← is) at k))
+
 -- the link that is set holds none of a record's other words
 kept-word : (s : List ℕ) (keyOf : ℕ → ℕ) (used : ℕ) → Indexed s keyOf used → (j r : ℕ) → r < 6 → getD (linked s used (keyOf used)) (j * recordWidth + r) 0 ≡ getD s (j * recordWidth + r) 0
 unfolding lastLink linkWord
@@ -114,6 +127,7 @@ numbered-more s used t room free other =
     let same : (j : ℕ) → numberOf s j ≡ numberOf l j = λ j. sym (rw (add-zero (j * recordWidth)) at (kept-word s (numberOf s) used (t .tree) j 0 (omega arith))) in
     record {
       tree = indexed-more s (numberOf s) (numberOf l) used _ (t .tree) room free refl same;
+      layers = layered-more s (numberOf s) (numberOf l) used _ (t .tree) (t .layers) room free refl same;
       distinct = λ i j a b e. distinct-more (λ i j. numberOf s i ≡ numberOf s j) used (λ i j e. sym e) (t .distinct) other i j a b (same i ∙ e ∙ sym (same j));
     }
 
@@ -139,7 +153,7 @@ indexed-none : (s : List ℕ) (keyOf : ℕ → ℕ) → Indexed s keyOf 0
 indexed-none s keyOf = record { inside = omega arith; later = λ i key l. absurd (omega arith); found = λ j l. absurd (omega arith) }
 
 pub numbered-none : (s : List ℕ) → Numbered s 0
-numbered-none s = record { tree = indexed-none s (numberOf s); distinct = λ i j l. absurd (omega arith) }
+numbered-none s = record { tree = indexed-none s (numberOf s); layers = layered-first s (numberOf s) 0 (λ i key l. absurd (omega arith)); distinct = λ i j l. absurd (omega arith) }
 
 pub named-none : (file s : List ℕ) → Named file s 0
 named-none file s = record { tree = indexed-none s (λ i. keyOf (nameOf file s i)); distinct = λ i j l. absurd (omega arith) }

@@ -9,6 +9,7 @@ use Rattle.index.specs.declared.Search.the-variants.{Free}
 use Rattle.index.specs.First.{firstOf}
 use Rattle.index.specs.Tree.{recordWidth, lastLink}
 use Rattle.index.specs.Indexed.{Indexed}
+use Rattle.index.specs.Layered.{Layered}
 
 abbrev pub numberOf : List ℕ → ℕ → ℕ
 numberOf s i = getD s (i * recordWidth) 0
@@ -17,7 +18,8 @@ numberOf s i = getD s (i * recordWidth) 0
 unfoldable pub numbered : List ℕ → ℕ → ℕ → Search
 numbered s used number = firstOf (λ i. eqb (numberOf s i) number) 0 used (Free (lastLink s used 0 number))
 
--- the numbers are a search tree, and no two records have one
+-- the numbers are a search tree, no deeper than they have bits, and no two records have one
 pub record Numbered (s : List ℕ) (used : ℕ) : Type 0 where
   pub tree : Indexed s (numberOf s) used
+  pub layers : Layered s (numberOf s) used
   pub distinct : (i j : ℕ) → i < used → j < used → numberOf s i ≡ numberOf s j → i ≡ j

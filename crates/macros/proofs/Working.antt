@@ -4,7 +4,7 @@ use Prim.Native.Nat.{ℕ, _+_, _-_, _^_, _<_, _≤_}
 use Prim.Native.Char.{code}
 use mathlib.Core.Path.{_≡_, refl, sym, ap, _∙_}
 use mathlib.Core.Bool.{Bool, true, false}
-use mathlib.Core.List.{List, []}
+use mathlib.Core.List.{List, [], _∷_}
 use native.Mathlib.Omega.{arith}
 use lib.IntN.{ℤ, pos}
 use lib.ListN.{length, take, drop, getD, set, length-set}
@@ -20,17 +20,20 @@ use Rattle.base.specs.Choose.{pick}
 use Rattle.base.proofs.Choose.{row-holds, row-fails}
 use Rattle.tokens.specs.LineEnds.{withoutLeading}
 use Rattle.expression.specs.Value.{valueOf}
+use Rattle.primitives.specs.Asked.{none, asked}
+use Rattle.primitives.specs.Heading.{heading}
 use Rattle.primitives.specs.Rules.{codeOf, keeps}
+use Rattle.primitives.specs.declared.Asked.{Asked}
 use Rattle.macros.specs.Pen.{penned, pens, laid}
 use Rattle.macros.specs.Says.{Comes, Gathers, Does, reckonedAs}
-use Rattle.macros.specs.Work.{Effect, behind, verdict, assigned, primitiveDone, assignmentDone, blockDone, workedOut, parametersIn, blocksIn}
+use Rattle.macros.specs.Work.{Effect, behind, verdict, assigned, valuesOf, primitiveDone, assignmentDone, blockDone, workedOut, parametersIn, blocksIn}
 use Rattle.macros.specs.declared.Done.{Done}
 use Rattle.macros.specs.declared.Gathered.{Gathered}
 use Rattle.macros.specs.declared.Pen.{Pen}
 use Rattle.macros.specs.declared.Worth.{Worth}
 use Rattle.macros.proofs.Gathering.{fine-value}
 use Rattle.macros.proofs.Settled.{fits-set}
-use Rattle.macros.proofs.Laid.{length-laid, pens-append, laid-append}
+use Rattle.macros.proofs.Laid.{length-laid, pens-append, laid-append, laid-last}
 
 pub record Working (all rest : Effect) (l₀ l : List ℤ) (p : Pen) (d : Done) : Type 0 where
   pub none : d .fault ≡ 0
@@ -113,29 +116,37 @@ working-starts l p d all e f g = record { none = e; fault = refl; variables = re
 
 -- ---- one block
 
-code-below : (x : Bool) (a b : ℕ) → a < 10 ^ 12 → b < 10 ^ 12 → pick x a b < 10 ^ 12
+code-below : (x : Bool) (a b : ℕ) → a < 100 → b < 100 → pick x a b < 100
 unfolding pick
 code-below true a b p q = p
 code-below false a b p q = q
 
-pub code-small : (t : List ℕ) → codeOf t < 10 ^ 12
+pub code-small : (t : List ℕ) → codeOf t < 100
 unfolding codeOf
 code-small t =
     code-below _ _ _ (omega arith) (code-below _ _ _ (omega arith) (code-below _ _ _ (omega arith) (code-below _ _ _ (omega arith) (code-below _ _ _ (omega arith) (code-below _ _ _ (omega arith) (omega arith))))))
 
-module _ (vs : List ℤ) (t : List ℕ) (comma c : ℕ) (l l₁ l′ : List ℤ) (p p₁ : Pen) (g : Gathered) (d : Done) where
-  pub primitive-does : comma ≡ place (code ",") t 0 → c ≡ codeOf (take comma t) → l₁ ≡ set l (p .at) (pos c) → p₁ ≡ penned (length l) p →
-      Gathers vs (parametersIn (drop comma t)) l₁ l′ p₁ g → Fits vs →
+counted : (q : Asked) (zs : List ℤ) → q ≡ asked none zs → q .count ≡ length zs
+unfolding asked
+counted q zs e = ap (λ x. x .count) e
+
+module _ (vs : List ℤ) (t : List ℕ) (comma c n : ℕ) (l l₁ l₂ l′ : List ℤ) (p p₁ : Pen) (g : Gathered) (d : Done) {z : ℤ} where
+  pub primitive-does : comma ≡ place (code ",") t 0 → c ≡ codeOf (take comma t) → l₁ ≡ set l (p .at) (pos 0) → p₁ ≡ penned (length l) p →
+      Gathers vs (parametersIn (drop comma t)) l₁ l₂ p₁ g → Fits vs → n ≡ heading c (g .asked .count) → l′ ≡ set l₂ (p .at) z → z ≡ pos n →
       d .fault ≡ verdict (g .fine) (keeps c (g .asked)) → d .variables .values ≡ vs → d .pen ≡ g .pen →
       Does (primitiveDone vs t) l l′ p d
-  unfolding primitiveDone pens laid
-  primitive-does ec ek el ep gg f df dv dp =
-      let n : length l₁ ≡ length l = ap length el ∙ length-set l (p .at) (pos c) in
+  unfolding primitiveDone pens
+  primitive-does ec ek el ep gg f en eh ez df dv dp =
+      let m : length l₁ ≡ length l = ap length el ∙ length-set l (p .at) (pos 0) in
+      let zs = valuesOf vs (parametersIn (drop comma t)) .values in
+      let q : g .asked .count ≡ length zs = counted (g .asked) zs (gg .asks) in
+      let k : l₂ ≡ laid (set l (p .at) (pos 0)) (penned (length l) p) zs = gg .stores ∙ rw (ep, el) in
+      let h : l′ ≡ laid l p (pos (heading c (length zs)) ∷ zs) = eh ∙ rw (k, ez, en, q) (laid-last l p (pos 0) (pos (heading c (length zs))) zs) in
       record {
         fault = rw (sym ec, sym ek, sym (gg .fine), sym (gg .asks)) df;
         variables = dv;
-        pen = dp ∙ gg .pen ∙ rw (n, ep, ec);
-        stores = gg .stores ∙ rw (ep, el, ek, ec);
+        pen = dp ∙ gg .pen ∙ rw (m, ep, ec);
+        stores = h ∙ rw (ek, ec);
         small = f;
       }
 

@@ -5,7 +5,7 @@ use mathlib.Core.Bool.{Bool, true, false, cond}
 use mathlib.Core.List.{List, [], _∷_, _++_}
 use lib.Dec.{eqb}
 use lib.IntN.{ℤ, pos}
-use lib.ListN.{take, drop, getD, set}
+use lib.ListN.{length, take, drop, getD, set}
 use Rattle.text.specs.First.{place, before, after}
 use Rattle.text.specs.Text.{byte}
 use Rattle.base.specs.Choose.{choose}
@@ -16,6 +16,7 @@ use Rattle.text.specs.Pieces.{pieces}
 use Rattle.tokens.specs.Tokens.{variableNumber}
 use Rattle.expression.specs.Value.{valueOf}
 use Rattle.primitives.specs.Asked.{none, asked}
+use Rattle.primitives.specs.Heading.{heading}
 use Rattle.primitives.specs.Rules.{codeOf, keeps}
 
 -- the texts of a primitive's parameters, from its first comma on; those of a macro's blocks, from the `*` before the first of them on
@@ -38,7 +39,8 @@ unfoldable pub valuesOf : List ℤ → List (List ℕ) → Values
 valuesOf variables [] = record { fine = true; values = [] }
 valuesOf variables (t ∷ ts) = onward (valueOf variables (withoutLeading t)) (valuesOf variables ts)
 
--- what a block does: its fault, 0 for none; the variables behind it; the numbers that it leaves, in millionths, a code as it is
+-- what a block does: its fault, 0 for none; the variables behind it; the numbers that it leaves: before the parameters, which
+-- are in millionths, one that says the code and how many they are
 pub record Effect : Type 0 where
   pub fault : ℕ
   pub variables : List ℤ
@@ -53,7 +55,7 @@ primitiveDone variables t =
     let comma : ℕ = place (code ",") t 0 in
     let vs : Values = valuesOf variables (parametersIn (drop comma t)) in
     let c : ℕ = codeOf (take comma t) in
-    record { fault = verdict (vs .fine) (keeps c (asked none (vs .values))); variables = variables; written = pos c ∷ vs .values }
+    record { fault = verdict (vs .fine) (keeps c (asked none (vs .values))); variables = variables; written = pos (heading c (length (vs .values))) ∷ vs .values }
 
 -- an assignment replaces the old value
 unfoldable pub assigned : List ℤ → ℕ → Reckoned → Effect

@@ -122,23 +122,25 @@ fn verdict(fine: bool, kept: bool) -> u64
     9
 }
 
-// A primitive: its code, then its parameters.
+// A primitive: its parameters, and before them its code and how many they are.
 fn primitive(t: &[u8], v: Variables, numbers: &mut [i64], p: Pen) -> Done
     requires { ⌜ Fits (v .values) ⌝ }
     ensures { λ r. ⌜ Does (primitiveDone (v .values) (now (t .entry))) (now (numbers .entry)) (now (numbers .exit)) p r ⌝ }
 {
     let comma = text::find(t, 0, b',');
     let code = primitives::code_of(base::up_to(t, comma));
-    let pen = write(
-        numbers,
-        p,
-        Amount {
-            millionths: ints::with_sign(false, code),
-        },
-    );
+    let pen = write(numbers, p, Amount { millionths: 0 });
     let g = values(t, comma, v, numbers, pen);
     let q = g.asked;
     let last = g.pen;
+    let n = primitives::heading(code, q.count);
+    write(
+        numbers,
+        p,
+        Amount {
+            millionths: ints::with_sign(false, n),
+        },
+    );
     Done {
         fault: verdict(g.fine, primitives::keeps_rule(code, q)),
         variables: v,

@@ -12,6 +12,7 @@ use Rattle.commands.specs.Rounded.{roundedIn}
 use Rattle.sayings.specs.declared.Kind.{Kind}
 use Rattle.attribute.specs.Attribute as attribute
 use Rattle.signature.specs.Signature as signature
+use Rattle.labels.specs.Labels as labels
 use Rattle.reading.specs.State.{Room}
 use Rattle.reading.specs.Reading.{reading}
 use Rattle.progress.specs.Lent.{Lent}
@@ -20,7 +21,7 @@ use Rattle.reader.specs.declared.Answer as code
 use Rattle.reader.specs.declared.Answer.the-variants as answer
 use Rattle.reader.specs.Short.{shortOf}
 use Rattle.numbered.specs.Choice.{bookOf, withLetters, choiceOf, shortChoice}
-use Rattle.numbered.specs.Calls.{attributeBy, signatureBy, readingBy, roundedBy}
+use Rattle.numbered.specs.Calls.{attributeBy, signatureBy, readingBy, roundedBy, labelNamedBy, labelAtBy}
 use Rattle.numbered.specs.declared.Choice.{Choice}
 use Rattle.numbered.specs.declared.Choice.the-variants.{By, Unknown}
 
@@ -76,6 +77,14 @@ module _ {c : Choice} {book : Book} (e : c ≡ By book) (file : List ℕ) where
   unfolding signatureBy
   signature-by = rw e
 
+  pub label-named-by : (name : List ℕ) → labels.labelNamed book file name ≡ labelNamedBy c file name
+  unfolding labelNamedBy
+  label-named-by name = rw e
+
+  pub label-at-by : (i : ℕ) → labels.labelAt book file i ≡ labelAtBy c file i
+  unfolding labelAtBy
+  label-at-by i = rw e
+
   pub reads-by : (room : Room) (w w′ : Lent) (head : List ℕ) (r : code.Answer) → Reads (roundedIn book file) (reading book room file) w w′ head r →
       Reads (roundedBy c file) (readingBy c room file) w w′ head r
   unfolding roundedBy readingBy
@@ -90,6 +99,14 @@ module _ {c : Choice} (e : c ≡ Unknown) (file : List ℕ) where
   pub signature-none : signature.refused 101 0 ≡ signatureBy c file
   unfolding signatureBy
   signature-none = rw e
+
+  pub label-named-none : (name : List ℕ) → labels.refused 101 ≡ labelNamedBy c file name
+  unfolding labelNamedBy
+  label-named-none name = rw e
+
+  pub label-at-none : (i : ℕ) → labels.refused 101 ≡ labelAtBy c file i
+  unfolding labelAtBy
+  label-at-none i = rw e
 
   pub reads-none : (room : Room) (w w′ : Lent) (head : List ℕ) → Zeroed w w′ head → Reads (roundedBy c file) (readingBy c room file) w w′ head (answer.Refused 101 0)
   unfolding roundedBy readingBy Reads

@@ -7,6 +7,8 @@ use Rattle.attribute.specs.Attribute as attribute
 use Rattle.attribute.specs.declared.Answer as attribute-answer
 use Rattle.signature.specs.Signature as signature
 use Rattle.signature.specs.declared.Answer as signature-answer
+use Rattle.labels.specs.Labels as labels
+use Rattle.labels.specs.declared.Answer as labels-answer
 use Rattle.reading.specs.State.{Room}
 use Rattle.reading.specs.Reading.{Answer, refused, reading}
 use Rattle.numbered.specs.declared.Choice.{Choice}
@@ -28,3 +30,11 @@ readingBy Unknown room file = refused 101 0
 unfoldable pub roundedBy : Choice → List ℕ → ℕ
 roundedBy (By book) file = roundedIn book file
 roundedBy Unknown file = 0
+
+unfoldable pub labelNamedBy : Choice → List ℕ → List ℕ → labels-answer.Answer
+labelNamedBy (By book) file name = labels.labelNamed book file name
+labelNamedBy Unknown file name = labels.refused 101
+
+unfoldable pub labelAtBy : Choice → List ℕ → ℕ → labels-answer.Answer
+labelAtBy (By book) file i = labels.labelAt book file i
+labelAtBy Unknown file i = labels.refused 101

@@ -12,7 +12,7 @@ ghost use lib.ListN.{length};
 ghost use Rattle.numbered.specs.Mending.{MendsBy};
 ghost use Rattle.numbered.specs.Placing.{PlacesBy};
 ghost use Rattle.assembly.specs.Placement.{workOf};
-ghost use Rattle.numbered.specs.Calls.{attributeBy, signatureBy, readingBy, roundedBy};
+ghost use Rattle.numbered.specs.Calls.{attributeBy, signatureBy, readingBy, roundedBy, labelNamedBy, labelAtBy};
 
 // The book that is named, or none.
 pub enum Choice {
@@ -236,5 +236,27 @@ pub fn placement(
             reader::clear(e, a, m, numbers);
             roster::refused(101, 0)
         }
+    }
+}
+
+// The file attribute of this name, likewise.
+pub fn label_named(edition: u64, letters: u64, file: &[u8], name: &[u8]) -> labels::Answer
+    ensures { λ r. ⌜ r ≡ labelNamedBy (choiceOf edition letters) (now (file .entry)) (now (name .entry)) ⌝ }
+{
+    let c = choice_of(edition, letters);
+    match c {
+        Choice::By(book) => labels::label_named(book, file, name),
+        Choice::Unknown => labels::refused(101),
+    }
+}
+
+// File attribute i, likewise.
+pub fn label_at(edition: u64, letters: u64, file: &[u8], i: usize) -> labels::Answer
+    ensures { λ r. ⌜ r ≡ labelAtBy (choiceOf edition letters) (now (file .entry)) i ⌝ }
+{
+    let c = choice_of(edition, letters);
+    match c {
+        Choice::By(book) => labels::label_at(book, file, i),
+        Choice::Unknown => labels::refused(101),
     }
 }

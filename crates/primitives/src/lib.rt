@@ -7,6 +7,7 @@ ghost use lib.IntN.{natAbs};
 ghost use Rattle.ints.specs.Ints.{eqZ};
 ghost use Rattle.reckon.specs.Thermal.{thermalFits};
 ghost use Rattle.primitives.specs.Asked.{none, asked, added};
+ghost use Rattle.primitives.specs.Heading.{heading};
 ghost use Rattle.primitives.specs.Rules.{exposure, wholeBetween, circle, vectorLine, centerLine, outline, polygon, thermal, codeOf, keeps};
 use decimal::Amount;
 
@@ -256,4 +257,15 @@ pub fn keeps_rule(code: u64, q: Asked) -> bool
         return is_center_line(q);
     }
     false
+}
+
+// The number that stands before a primitive's parameters: its code, and a hundred for each of them.
+pub fn heading(code: u64, count: u64) -> u64
+    requires { ⌜ code < 100 ⌝ }
+    ensures { λ r. ⌜ r ≡ heading code count ⌝ }
+{
+    if count <= 10005 {
+        return count * 100 + code;
+    }
+    code
 }

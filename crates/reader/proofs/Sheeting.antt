@@ -125,6 +125,7 @@ module _ (w : Lent) (p : Progress) (s : State) (k : Knows w p s) (kept : endFaul
     macros-used = sym macros-long;
     numbers-used = sym (k .numbers .long);
     apertures = rw apertures-long (k .apertures .records);
+    linked = rw apertures-long (k .apertures .indexed);
     macros = rw macros-long (k .macros .records);
     numbers = rw (k .numbers .long) (k .numbers .is);
     entries-behind = λ i l. ended .zeros i (rw (k .entries) l);

@@ -1,5 +1,6 @@
 -- What an accepted reading leaves in the lent words (docs/SHEET.md): a sheet, whose items are those of the file's marks with every
--- repeat and nested block written out, and their addresses those of the marks; the records of the apertures and the macros; the numbers. Unused room is zero.
+-- repeat and nested block written out, and their addresses those of the marks; the records of the apertures, which their links lead to, and of
+-- the macros; the numbers. Unused room is zero.
 use Rattle.running.specs.Units.{unitIn}
 use Prim.Native.Nat.{ℕ, _-_, _*_, _≤_}
 use mathlib.Core.Path.{_≡_}
@@ -9,6 +10,7 @@ use lib.IntN.{ℤ, pos}
 use lib.ListN.{length, getD, replicate}
 use Rattle.base.specs.Run.{run}
 use Rattle.place.specs.Mark.{plain}
+use Rattle.index.specs.Numbers.{Numbered}
 use Rattle.sheet.specs.Records.{entryWidth, apertureWidth, apertureOf}
 use Rattle.sheet.specs.Containers.{unitOf, entriesUsed, aperturesUsed}
 use Rattle.sheet.specs.Meaning.{sheetItems}
@@ -35,6 +37,7 @@ pub record Leaves (file head e a m : List ℕ) (n : List ℤ) (s : State) : Type
   pub macros-used : macrosUsed head ≡ length (s .macros)
   pub numbers-used : numbersUsed head ≡ length (s .numbers)
   pub apertures : run (λ i. asRead (apertureOf a i) ∷ []) 0 (length (s .apertures)) ≡ s .apertures
+  pub linked : Numbered a (length (s .apertures))
   pub macros : run (λ i. templateOf file (macroOf m i) ∷ []) 0 (length (s .macros)) ≡ s .macros
   pub numbers : n ≡ s .numbers ++ replicate (length n - length (s .numbers)) (pos 0)
   pub entries-behind : (k : ℕ) → s .entries * entryWidth ≤ k → getD e k 0 ≡ 0

@@ -1,4 +1,5 @@
-// Macros of document 002, KiCad's rounded rectangle and document 01's roundings, each with the numbers that were worked out by hand.
+// Macros of document 002, KiCad's rounded rectangle and document 01's roundings, each with the numbers that were worked out by hand: before the
+// parameters of a primitive a hundred for each of them, and the code.
 // The blocks stand behind the `*` of the macro's name, the parameters behind the comma of the AD.
 use command::Command;
 use command::Definition;
@@ -64,39 +65,39 @@ fn depth(name: &[u8], text: &[u8], expected: bool) {
 
 fn documents() {
     let rounded = [
-        21i64,
+        621i64,
         1000000,
         4000000,
         2000000,
         0,
         0,
         0,
-        21,
+        621,
         1000000,
         3000000,
         3000000,
         0,
         0,
         0,
-        1,
+        501,
         1000000,
         1000000,
         1500000,
         1000000,
         0,
-        1,
+        501,
         1000000,
         1000000,
         -1500000,
         1000000,
         0,
-        1,
+        501,
         1000000,
         1000000,
         -1500000,
         -1000000,
         0,
-        1,
+        501,
         1000000,
         1000000,
         1500000,
@@ -110,7 +111,7 @@ fn documents() {
         0,
         &rounded,
     );
-    let ring = [1i64, 1000000, 100000, 0, 0, 1, 0, 80000, 0, 0];
+    let ring = [401i64, 1000000, 100000, 0, 0, 401, 0, 80000, 0, 0];
     shape(
         b"DONUTVAR",
         b"*1,1,$1,$2,$3*1,0,$4,$2,$3",
@@ -119,7 +120,7 @@ fn documents() {
         &ring,
     );
     let triangle = [
-        4i64,
+        1104i64,
         1000000,
         3000000,
         1000000,
@@ -139,13 +140,13 @@ fn documents() {
         0,
         &triangle,
     );
-    let thermal = [7i64, 0, 0, 950000, 750000, 175000, 0];
+    let thermal = [607i64, 0, 0, 950000, 750000, 175000, 0];
     shape(b"Thermal", b"*7,0,0,0.95,0.75,0.175,0.0", b"", 0, &thermal);
 }
 
 fn others() {
     let kicad = [
-        4i64,
+        1304i64,
         1000000,
         4000000,
         -500000,
@@ -159,7 +160,7 @@ fn others() {
         -500000,
         400000,
         0,
-        1,
+        401,
         1000000,
         500000,
         -500000,
@@ -172,7 +173,7 @@ fn others() {
         0,
         &kicad,
     );
-    let thirds = [1i64, 1000000, 333333, 666667, -666667, 1];
+    let thirds = [501i64, 1000000, 333333, 666667, -666667, 1];
     shape(
         b"1/3, 2/3, -2/3, 0.0005x0.001",
         b"*1,1,1/3,2/3,-2/3,0.0005x0.001",
@@ -180,7 +181,7 @@ fn others() {
         0,
         &thirds,
     );
-    let ranks = [1i64, 1000000, 0, -4000000, 4000000, 1000000];
+    let ranks = [501i64, 1000000, 0, -4000000, 4000000, 1000000];
     shape(
         b"0.0005x0.000998, 1-2-3, 8/4x2, -1+2",
         b"*1,1,0.0005x0.000998,1-2-3,8/4x2,-1+2",

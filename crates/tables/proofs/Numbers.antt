@@ -11,6 +11,7 @@ use borrow.Author.Tests.{eq-eqb}
 use Rattle.index.specs.declared.Search.the-variants.{Free}
 use Rattle.index.specs.Tree.{recordWidth, next, lastLink, linked}
 use Rattle.index.specs.Numbers.{numberOf, numbered, Numbered}
+use Rattle.index.proofs.Layers.{layered-agree}
 use Rattle.index.proofs.More.{numbered-more}
 use Rattle.sheet.specs.Records.{stored}
 use Rattle.tables.specs.Added.{added}
@@ -34,6 +35,7 @@ pub numbered-agree : (s t : List ℕ) (used : ℕ) → Numbered s used → used 
     → ((j : ℕ) → j < used → numberOf t j ≡ numberOf s j) → Numbered t used
 numbered-agree s t used n long links same = record {
   tree = indexed-agree s t links (n .tree) (numberOf t) long (λ j l. sym (same j l));
+  layers = layered-agree s t (numberOf s) (numberOf t) used (n .tree) links (λ j l. sym (same j l)) (n .layers);
   distinct = λ i j a b e. n .distinct i j a b (sym (same i a) ∙ e ∙ same j b);
 }
 

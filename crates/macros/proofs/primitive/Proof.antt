@@ -1,15 +1,15 @@
--- `macros::primitive` meets its contract: its code is written first, then its parameters; `primitive-does` joins the two.
+-- `macros::primitive` meets its contract: its parameters are written first, and the number before them last; `primitive-does` joins the two.
 -- Assumes nothing.
-use Rattle.expression.proofs.Sizes.{stored-small}
-use Rattle.primitives.specs.Rules.{codeOf}
-use Rattle.macros.specs.Work.{verdict}
-use Rattle.macros.proofs.Working.{primitive-does, code-small, signed-plain}
-use Rattle.macros.proofs.Laid.{length-laid}
-use mathlib.Core.Path.{refl, ap, _∙_}
-use lib.ListN.{length, set, length-set}
-use lib.IntN.{natAbs}
-use Prim.Native.Nat.{_^_, _<_}
 use native.Mathlib.Omega.{arith}
+use Prim.Native.Nat.{_^_, _<_}
+use lib.IntN.{natAbs}
+use lib.ListN.{set}
+use mathlib.Core.Path.{_≡_, refl, ap, _∙_}
+use Rattle.macros.proofs.Working.{primitive-does, code-small, signed-plain}
+use Rattle.macros.specs.Work.{verdict}
+use Rattle.primitives.proofs.Headings.{heading-small}
+use Rattle.primitives.specs.Rules.{codeOf}
+use Rattle.expression.proofs.Sizes.{stored-small}
 use borrow.Author.Needs.{needs}
 use Rattle.macros.proofs.primitive.Statement.{statement}
 use Rattle.macros.proofs.primitive.Tie as tie
@@ -23,14 +23,20 @@ up-to-requires c κs = search needs
 code-of-requires : tie.Need-code-of-requires
 code-of-requires c κs = search needs
 
-with-sign-requires : tie.Need-with-sign-requires
-with-sign-requires c κs = let h = code-small (c .before .before .up-to .result .now) in omega (arith, c .before .code-of .ensures)
-
 write-requires : tie.Need-write-requires
 write-requires c κs = search needs
 
 values-requires : tie.Need-values-requires
-values-requires c κs = c .before .before .before .before .before .before .before .before .before .pre
+values-requires c κs = search needs
+
+heading-requires : tie.Need-heading-requires
+heading-requires c κs = let h = code-small (c .before .before .before .before .before .before .before .before .before .up-to .result .now) in omega (arith, c .before .before .before .before .before .before .before .before .code-of .ensures)
+
+with-sign-requires : tie.Need-with-sign-requires
+with-sign-requires c κs = let s = heading-small (c .before .before .before .before .before .before .before .before .before .before .code-of .result) (c .before .before .before .before .before .values .result .asked .count) (let h = code-small (c .before .before .before .before .before .before .before .before .before .before .before .up-to .result .now) in omega (arith, c .before .before .before .before .before .before .before .before .before .before .code-of .ensures)) in omega (arith, c .before .heading .ensures)
+
+write-requires-2 : tie.Need-write-requires-2
+write-requires-2 c κs = search needs
 
 keeps-rule-requires : tie.Need-keeps-rule-requires
 keeps-rule-requires c κs = search needs
@@ -39,17 +45,10 @@ verdict-requires : tie.Need-verdict-requires
 verdict-requires c κs = search needs
 
 same-length : tie.Need-same-length
-same-length c = (ap length (c .before .before .before .before .before .values .ensures .stores) ∙ length-laid _ _ _) ∙ (ap length (c .before .before .before .before .before .before .before .before .write .ensures .0) ∙ simp length-set)
+same-length c = search needs
 
 returns : tie.Need-returns
-returns c =
-    let a = c .before .before .before .before .before .before .before .before .before .before .before .before .before .before .before .args in
-    let r = c .before .before .before .before .before .before .before .before .before .with-sign in
-    let h : natAbs (r .result) < 10 ^ 12 = omega (arith, r .ensures .1, c .before .before .before .before .before .before .before .before .before .before .before .code-of .ensures, code-small (c .before .before .before .before .before .before .before .before .before .before .before .before .up-to .result .now)) in
-    let e = stored-small (r .result) h ∙ r .ensures .0 ∙ signed-plain (c .before .before .before .before .before .before .before .before .before .before .before .code-of .result) in
-    primitive-does (a .v .values) (a .t .now) (c .before .before .before .before .before .before .before .before .before .before .before .before .before .find .result) (c .before .before .before .before .before .before .before .before .before .before .before .code-of .result) (a .numbers .now) _ _ (a .p) (c .before .before .before .before .before .before .before .before .write .result) (c .before .before .before .before .before .values .result) _
-    (c .before .before .before .before .before .before .before .before .before .before .before .before .before .find .ensures) (c .before .before .before .before .before .before .before .before .before .before .before .code-of .ensures ∙ ap codeOf (c .before .before .before .before .before .before .before .before .before .before .before .before .up-to .ensures)) (c .before .before .before .before .before .before .before .before .write .ensures .0 ∙ ap (set (a .numbers .now) (a .p .at)) e) (c .before .before .before .before .before .before .before .before .write .ensures .1)
-    (c .before .before .before .before .before .values .ensures) (c .before .before .before .before .before .before .before .before .before .before .before .before .before .before .before .pre) (c .verdict .ensures ∙ ap (verdict (c .before .before .before .before .before .values .result .fine)) (c .before .keeps-rule .ensures)) refl refl
+returns c = let a = c .before .before .before .before .before .before .before .before .before .before .before .before .before .before .before .before .before .before .before .args in let r = c .before .before .before .before .with-sign in let k : c .before .before .before .before .before .before .before .before .before .before .before .before .before .before .before .code-of .result < 100 = let h = code-small (c .before .before .before .before .before .before .before .before .before .before .before .before .before .before .before .before .up-to .result .now) in omega (arith, c .before .before .before .before .before .before .before .before .before .before .before .before .before .before .before .code-of .ensures) in let s = heading-small (c .before .before .before .before .before .before .before .before .before .before .before .before .before .before .before .code-of .result) (c .before .before .before .before .before .before .before .before .before .before .values .result .asked .count) k in let h : natAbs (r .result) < 10 ^ 12 = omega (arith, r .ensures .1, c .before .before .before .before .before .before .heading .ensures) in let e = stored-small (r .result) h ∙ r .ensures .0 ∙ signed-plain (c .before .before .before .before .before .before .heading .result) in primitive-does (a .v .values) (a .t .now) (c .before .before .before .before .before .before .before .before .before .before .before .before .before .before .before .before .before .find .result) (c .before .before .before .before .before .before .before .before .before .before .before .before .before .before .before .code-of .result) (c .before .before .before .before .before .before .heading .result) (a .numbers .now) _ _ _ (a .p) (c .before .before .before .before .before .before .before .before .before .before .before .before .before .write .result) (c .before .before .before .before .before .before .before .before .before .before .values .result) _ (c .before .before .before .before .before .before .before .before .before .before .before .before .before .before .before .before .before .find .ensures) (c .before .before .before .before .before .before .before .before .before .before .before .before .before .before .before .code-of .ensures ∙ ap codeOf (c .before .before .before .before .before .before .before .before .before .before .before .before .before .before .before .before .up-to .ensures)) (c .before .before .before .before .before .before .before .before .before .before .before .before .before .write .ensures .0) (c .before .before .before .before .before .before .before .before .before .before .before .before .before .write .ensures .1) (c .before .before .before .before .before .before .before .before .before .before .values .ensures) (c .before .before .before .before .before .before .before .before .before .before .before .before .before .before .before .before .before .before .before .pre) (c .before .before .before .before .before .before .heading .ensures) (c .before .before .before .write2 .ensures .0) e (c .verdict .ensures ∙ ap (verdict (c .before .before .before .before .before .before .before .before .before .before .values .result .fine)) (c .before .keeps-rule .ensures)) refl refl
 
 pub primitive-spec : {M : Type 1} → statement M
 primitive-spec =
@@ -58,9 +57,11 @@ primitive-spec =
     find-requires
     up-to-requires
     code-of-requires
-    with-sign-requires
     write-requires
     values-requires
+    heading-requires
+    with-sign-requires
+    write-requires-2
     keeps-rule-requires
     verdict-requires
     same-length

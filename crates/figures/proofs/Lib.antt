@@ -1,0 +1,4 @@
+pub mod Answers
+pub mod Slots
+pub mod Sound
+pub mod Wholes

@@ -1,0 +1,5 @@
+pub mod Asked
+pub mod Examples
+pub mod Left
+pub mod Rules
+pub mod Turns

@@ -1,0 +1,19 @@
+-- `labels::is_named` meets its contract: the name is cut out and compared.
+-- Assumes nothing.
+use Rattle.labels.specs.Labels.{isNamed}
+use borrow.Author.Needs.{needs}
+use Rattle.labels.proofs.is_named.Statement.{statement}
+use Rattle.labels.proofs.is_named.Tie as tie
+
+part-requires : tie.Need-part-requires
+part-requires c κs = search needs
+
+is-requires : tie.Need-is-requires
+is-requires c κs = search needs
+
+returns : tie.Need-returns
+unfolding isNamed
+returns c = cc
+
+pub is-named-spec : {M : Type 1} → statement M
+is-named-spec = tie.close (tie.spec part-requires is-requires returns)

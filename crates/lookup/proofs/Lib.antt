@@ -1,0 +1,4 @@
+pub mod Cutting
+pub mod Leading
+pub mod Stores
+pub mod Tests
