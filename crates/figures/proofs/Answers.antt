@@ -26,9 +26,10 @@ module _ (head a : List ℕ) (n : List ℤ) (number i words : ℕ) (out : List �
     fetch-done at h q o =
         let d = lookup-sound head a n number s e in
         let l : List Primitive = primitivesIn n (s .first) (s .first + s .count) .list in
-        let few : i < length (primitivesBy n (Is s)) = omega (arith, h, d .count) in
-        (rw (e, lt-ltb i (length (primitivesBy n (Is s))) few) refl,
-        rw e (o ∙ ap (λ x. slots x 0 words) q ∙ slots-behind l i words ∙ ap (λ x. slots x i words) (sym (d .list (omega (arith, h))))))
+        let few : i < length (primitivesBy n (Is s)) = omega (arith, h, d .count) in (
+          rw (e, lt-ltb i (length (primitivesBy n (Is s))) few) refl,
+          rw e (o ∙ ap (λ x. slots x 0 words) q ∙ slots-behind l i words ∙ ap (λ x. slots x i words) (sym (d .list (omega (arith, h))))),
+        )
 
     pub fetch-past : s .primitives ≤ i → out ≡ replicate words 0 → (F.Past ≡ fetchOf head a n number i) × (out ≡ fetched head a n number i words)
     unfolding fetchOf fetchBy fetched

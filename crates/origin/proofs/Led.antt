@@ -34,7 +34,7 @@ module _ (a : List ℕ) (used : ℕ) (t : Numbered a used) (low : (i : ℕ) → 
           let l = t .tree .later i key h some in
           let sought : ℕ = numberOf a (next a i key) in
           let w : Walks a (numberOf a) used (t .tree) (t .layers) sought i (above 31 sought) 31 =
-            record { standing = h; rest = refl; deep = e; alike = rw e at (t .layers .alike i key h some) } in
+          record { standing = h; rest = refl; deep = e; alike = rw e at (t .layers .alike i key h some) } in
           let same = walk-deep a (numberOf a) used (t .tree) (t .layers) w (low (next a i key) (l .1)) (low i h) in
           let one = t .distinct (next a i key) i (l .1) h same in
           absurd (omega (arith, one, l .0))
