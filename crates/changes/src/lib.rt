@@ -240,8 +240,8 @@ fn going_to(p: Point, g: Graphics) -> Graphics
     graphics::with_point(Current { set: true, at: p }, g)
 }
 
-// D01.
-fn drawn(x: Axis, y: Axis, g: Graphics) -> Graphics
+// The state after a D01 that is accepted.
+pub fn after_draw(x: Axis, y: Axis, g: Graphics) -> Graphics
     requires { ⌜ Within (10 ^ 12) (target g x y) ⌝ }
     ensures { λ r. ⌜ r ≡ goingTo (target g x y) (withRegion (drawing (g .region) (g .point .at)) g) ⌝ }
 {
@@ -264,8 +264,8 @@ fn moved(x: Axis, y: Axis, g: Graphics) -> Graphics
     going_to(target(g, x, y), graphics::with_region(r, g))
 }
 
-// D03.
-fn flashed(x: Axis, y: Axis, g: Graphics) -> Graphics
+// The state after a D03 that is accepted.
+pub fn after_flash(x: Axis, y: Axis, g: Graphics) -> Graphics
     requires { ⌜ Within (10 ^ 12) (target g x y) ⌝ }
     ensures { λ r. ⌜ r ≡ goingTo (target g x y) g ⌝ }
 {
@@ -306,9 +306,9 @@ pub fn after_operation(o: Operation, g: Graphics) -> Graphics
     ensures { λ r. ⌜ r ≡ afterOperation o g ⌝ }
 {
     match o {
-        Operation::Draw { x, y, .. } => drawn(x, y, g),
+        Operation::Draw { x, y, .. } => after_draw(x, y, g),
         Operation::Move { x, y } => moved(x, y, g),
-        Operation::Flash { x, y } => flashed(x, y, g),
+        Operation::Flash { x, y } => after_flash(x, y, g),
     }
 }
 

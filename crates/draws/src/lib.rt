@@ -11,9 +11,7 @@ ghost use Rattle.progress.specs.Knows.{Known, StepsTo};
 ghost use Rattle.draws.specs.Draws.{leftOf, Leads, MayDraw, MayFlash};
 use build::Builder;
 use command::Axis;
-use command::Command;
 use command::Offset;
-use command::Operation;
 use progress::Progress;
 use progress::Stepped;
 use sheet::Container;
@@ -36,8 +34,7 @@ fn draw_item(e: &mut [u64], p: Progress, place: u64, x: Axis, y: Axis, o: Offset
     let b = p.builder;
     let t = marks::drawn(g, changes::target(g, x, y), o, place);
     let next = build::add_item(e, b, t);
-    let c = Command::Operate(Operation::Draw { x, y, centre: o });
-    progress::with_builder(next, progress::with_graphics(changes::after(c, g), p))
+    progress::with_builder(next, progress::with_graphics(changes::after_draw(x, y, g), p))
 }
 
 // A D01 in a region where a contour is open.
@@ -50,8 +47,7 @@ fn draw_edge(e: &mut [u64], p: Progress, place: u64, x: Axis, y: Axis, o: Offset
     let b = p.builder;
     let t = marks::edge(g, changes::target(g, x, y), o, place);
     let next = contours::add_edge(e, b, p.contour, t);
-    let c = Command::Operate(Operation::Draw { x, y, centre: o });
-    progress::with_builder(next, progress::with_graphics(changes::after(c, g), p))
+    progress::with_builder(next, progress::with_graphics(changes::after_draw(x, y, g), p))
 }
 
 // A D01 in a region where none is: the contour, and its first edge.
@@ -65,8 +61,7 @@ fn draw_contour(e: &mut [u64], p: Progress, place: u64, x: Axis, y: Axis, o: Off
     let begun = build::add_item(e, b, marks::contour(g, place));
     let t = marks::edge(g, changes::target(g, x, y), o, place);
     let next = contours::add_edge(e, begun, b.high, t);
-    let c = Command::Operate(Operation::Draw { x, y, centre: o });
-    let drawn = progress::with_builder(next, progress::with_graphics(changes::after(c, g), p));
+    let drawn = progress::with_builder(next, progress::with_graphics(changes::after_draw(x, y, g), p));
     progress::with_contour(b.high, drawn)
 }
 
@@ -103,8 +98,7 @@ fn flash_item(e: &mut [u64], p: Progress, place: u64, x: Axis, y: Axis) -> Progr
     let b = p.builder;
     let t = marks::flashed(g, changes::target(g, x, y), place);
     let next = build::add_item(e, b, t);
-    let c = Command::Operate(Operation::Flash { x, y });
-    progress::with_builder(next, progress::with_graphics(changes::after(c, g), p))
+    progress::with_builder(next, progress::with_graphics(changes::after_flash(x, y, g), p))
 }
 
 // A D03 with a block. Where its entries lie is its record's matter.
@@ -123,8 +117,7 @@ fn flash_block(e: &mut [u64], p: Progress, place: u64, x: Axis, y: Axis) -> Prog
         height: g.aperture.height,
     };
     let next = build::add_use(e, b, g.aperture.slot as u64, k, m, place);
-    let c = Command::Operate(Operation::Flash { x, y });
-    progress::with_builder(next, progress::with_graphics(changes::after(c, g), p))
+    progress::with_builder(next, progress::with_graphics(changes::after_flash(x, y, g), p))
 }
 
 // D03.

@@ -3,3 +3,4 @@ pub mod Examples
 pub mod Laws
 pub mod Raised
 pub mod Taken
+pub mod Exact

@@ -24,3 +24,8 @@ inForce f = cond (isFormat f) f (newer 6)
 -- "1 to n+m digits as written, 12 before FS"
 unfoldable pub placesOf : Format → ℕ
 placesOf f = f .integers + f .decimals
+
+-- the same where the value of a coordinate is that of its digits as they are written, for leading zeros are left out and six places stand
+-- behind the point; 0 in any other format
+unfoldable pub exactPlaces : Format → ℕ
+exactPlaces f = cond (not (inForce f .trailing) and eqb (inForce f .decimals) 6) (placesOf (inForce f)) 0

@@ -4,7 +4,7 @@ ghost use Prim.Native.Nat.{_*_, _-_, _^_, _<_, _≤_};
 ghost use lib.IntN.{ℤ, natAbs};
 ghost use lib.ListN.{length};
 ghost use Rattle.digits.specs.declared.answers.Coordinate.the-variants.{Value};
-ghost use Rattle.formats.specs.Format.{isFormat, noFormat, inForce, placesOf};
+ghost use Rattle.formats.specs.Format.{isFormat, noFormat, inForce, placesOf, exactPlaces};
 ghost use Rattle.formats.specs.Texts.{ofForm, newerFormat, oldFormat};
 ghost use Rattle.formats.specs.Values.{takenIn};
 ghost use Rattle.formats.specs.Raised.{Few, zerosBehind, raised};
@@ -146,6 +146,17 @@ fn places(f: Format) -> usize
     ensures { λ r. ⌜ r ≡ placesOf f ⌝ }
 {
     f.integers + f.decimals
+}
+
+// How many digits a coordinate may have whose value is that of its digits as they are written; 0 where zeros stand behind them.
+pub fn exact_places(f: Format) -> usize
+    ensures { λ r. ⌜ r ≡ exactPlaces f ⌝ }
+{
+    let g = in_force(f);
+    if base::both(!g.trailing, g.decimals == 6) {
+        return places(g);
+    }
+    0
 }
 
 // How much is missing of `all`, 0 where nothing is.

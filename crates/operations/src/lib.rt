@@ -3,6 +3,8 @@ ghost use mathlib.Core.Path.{_≡_};
 ghost use Prim.Native.Nat.{_≤_};
 ghost use lib.ListN.{getD};
 ghost use Rattle.digits.specs.Sign.{isSign};
+ghost use Rattle.formats.specs.Format.{exactPlaces};
+ghost use Rattle.formats.specs.declared.Format.{Format};
 ghost use Rattle.operations.specs.Coordinates.{given, fieldAt, fieldsIn};
 ghost use Rattle.operations.specs.Operations.{alone, broken, tooLong, axisOf, offsetOf, draw, move, flash, plain, operationCode, operationIn, operates, coded, operationOf};
 use command::Axis;
@@ -108,8 +110,50 @@ fn field_at(format: Format, letter: u8, s: &[u8], at: usize) -> TakenField
     }
 }
 
-// X, Y, I and J, in that order; the format is that of FS.
-fn fields_in(format: Format, s: &[u8]) -> Fields
+// The same in a format whose coordinates have so many digits and are worth them as they are written.
+fn exact_at(limit: usize, letter: u8, s: &[u8], at: usize) -> TakenField
+    requires { ⌜ (1 ≤ letter) × (1 ≤ limit) × (limit ≤ 12) ⌝ }
+    ensures { λ r. ⌜ ((f : Format) → limit ≡ exactPlaces f → r ≡ fieldAt f letter (now (s .entry)) at) ⌝ }
+{
+    if base::byte_at(s, at) == letter {
+        let taken = digits::coordinate_at(s, at + 1, limit);
+        let coordinate = taken.coordinate;
+        return TakenField {
+            field: as_given(sign_at(s, at + 1), coordinate),
+            next: taken.next,
+        };
+    }
+    TakenField {
+        field: Field {
+            given: false,
+            formless: false,
+            long: false,
+            signed: false,
+            value: 0,
+        },
+        next: at,
+    }
+}
+
+// X, Y, I and J, in that order, in such a format.
+fn exact_fields(limit: usize, s: &[u8]) -> Fields
+    requires { ⌜ (1 ≤ limit) × (limit ≤ 12) ⌝ }
+    ensures { λ r. ⌜ ((f : Format) → limit ≡ exactPlaces f → r ≡ fieldsIn f (now (s .entry))) ⌝ }
+{
+    let x = exact_at(limit, b'X', s, 0);
+    let y = exact_at(limit, b'Y', s, x.next);
+    let i = exact_at(limit, b'I', s, y.next);
+    let j = exact_at(limit, b'J', s, i.next);
+    let left = j.next < s.len();
+    let x = x.field;
+    let y = y.field;
+    let i = i.field;
+    let j = j.field;
+    Fields { x, y, i, j, left }
+}
+
+// X, Y, I and J, in that order, in any format.
+fn raised_fields(format: Format, s: &[u8]) -> Fields
     ensures { λ r. ⌜ r ≡ fieldsIn format (now (s .entry)) ⌝ }
 {
     let x = field_at(format, b'X', s, 0);
@@ -122,6 +166,17 @@ fn fields_in(format: Format, s: &[u8]) -> Fields
     let i = i.field;
     let j = j.field;
     Fields { x, y, i, j, left }
+}
+
+// X, Y, I and J, in that order; the format is that of FS. Most formats have nothing to raise, and are asked once.
+fn fields_in(format: Format, s: &[u8]) -> Fields
+    ensures { λ r. ⌜ r ≡ fieldsIn format (now (s .entry)) ⌝ }
+{
+    let n = formats::exact_places(format);
+    if n == 0 {
+        return raised_fields(format, s);
+    }
+    exact_fields(n, s)
 }
 
 // A coordinate that is none, or bytes left after them.
@@ -279,5 +334,12 @@ pub fn operation_code(s: &[u8]) -> u64
 pub fn operation_of(number: u64, format: Format, s: &[u8]) -> Command
     ensures { λ r. ⌜ r ≡ operationOf number format (now (s .entry)) ⌝ }
 {
-    operates(operation_in(number, format, base::up_to(s, text::before_last(s, 3))))
+    let f = fields_in(format, base::up_to(s, text::before_last(s, 3)));
+    if number == 1 {
+        return operates(drawn(f));
+    }
+    if number == 2 {
+        return operates(moved(f));
+    }
+    operates(flashed(f))
 }
