@@ -39,13 +39,6 @@ fn row(t: &[u8], w: &[u8], number: u64, other: u64) -> u64
     base::row(text::is(t, w), number, other)
 }
 
-// A row of a table of two writings.
-fn row_of_two(t: &[u8], v: &[u8], w: &[u8], number: u64, other: u64) -> u64
-    ensures { λ r. ⌜ r ≡ pick (sameBytes (now (t .entry)) (now (v .entry)) or sameBytes (now (t .entry)) (now (w .entry))) number other ⌝ }
-{
-    base::row(base::either(text::is(t, v), text::is(t, w)), number, other)
-}
-
 // The number of a G code from G36 on, 0 where it is none of the list.
 fn later_codes(t: &[u8]) -> u64
     ensures { λ r. ⌜ r ≡ laterCodes (now (t .entry)) ⌝ }
@@ -65,10 +58,16 @@ fn later_codes(t: &[u8]) -> u64
 fn code_of(t: &[u8]) -> u64
     ensures { λ r. ⌜ r ≡ codeOf (now (t .entry)) ⌝ }
 {
-    let later = later_codes(t);
-    let g03 = row_of_two(t, b"G03", b"G3", 3, later);
-    let g02 = row_of_two(t, b"G02", b"G2", 2, g03);
-    row_of_two(t, b"G01", b"G1", 1, g02)
+    if base::either(text::is(t, b"G01"), text::is(t, b"G1")) {
+        return 1;
+    }
+    if base::either(text::is(t, b"G02"), text::is(t, b"G2")) {
+        return 2;
+    }
+    if base::either(text::is(t, b"G03"), text::is(t, b"G3")) {
+        return 3;
+    }
+    later_codes(t)
 }
 
 // The text ends in one of two.
@@ -82,9 +81,16 @@ fn ends(s: &[u8], v: &[u8], w: &[u8]) -> bool
 fn operation_in(s: &[u8]) -> u64
     ensures { λ r. ⌜ r ≡ operationIn (now (s .entry)) ⌝ }
 {
-    let flash = base::row(ends(s, b"D03", b"D3"), 3, 0);
-    let moved = base::row(ends(s, b"D02", b"D2"), 2, flash);
-    base::row(ends(s, b"D01", b"D1"), 1, moved)
+    if ends(s, b"D01", b"D1") {
+        return 1;
+    }
+    if ends(s, b"D02", b"D2") {
+        return 2;
+    }
+    if ends(s, b"D03", b"D3") {
+        return 3;
+    }
+    0
 }
 
 // How many bytes the operation's code has at the end of a text: 2 or 3.
