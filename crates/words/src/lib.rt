@@ -1,8 +1,10 @@
 // Word commands: what the text up to `*` says, in each edition.
 ghost use mathlib.Core.Path.{_≡_};
+ghost use lib.Dec.{eqb};
 ghost use lib.ListN.{drop};
 ghost use Rattle.text.specs.Text.{_begins_};
 ghost use Rattle.base.specs.Choose.{pick};
+ghost use Rattle.command.specs.declared.Setting.the-variants.{Linear, Clockwise, Counterclockwise};
 ghost use Rattle.words.specs.Newer.{commentOf, selectOf, codeOf, newerWord};
 ghost use Rattle.words.specs.Old.{settingOf, operated, said};
 ghost use Rattle.words.specs.Words.{wordOf};
@@ -77,9 +79,9 @@ fn pick(test: bool, yes: Setting, no: Setting) -> Setting
     if test { yes } else { no }
 }
 
-// What a G code of the old book sets, by its number. Any but those of the list is 91.
-fn setting_of(code: u64) -> Setting
-    ensures { λ r. ⌜ r ≡ settingOf code ⌝ }
+// What a G code from G36 on sets: what is left of the table behind the rows of G01, G02 and G03. Any but those of the list is 91.
+fn later_setting_of(code: u64) -> Setting
+    ensures { λ r. ⌜ settingOf code ≡ pick (eqb code 1) Linear (pick (eqb code 2) Clockwise (pick (eqb code 3) Counterclockwise r)) ⌝ }
 {
     let g90 = pick(code == 90, Setting::Absolute, Setting::Incremental);
     let g75 = pick(code == 75, Setting::MultiQuadrant, g90);
@@ -87,10 +89,23 @@ fn setting_of(code: u64) -> Setting
     let g71 = pick(code == 71, Setting::CodedMillimetres, g74);
     let g70 = pick(code == 70, Setting::CodedInches, g71);
     let g37 = pick(code == 37, Setting::RegionEnd, g70);
-    let g36 = pick(code == 36, Setting::RegionStart, g37);
-    let g03 = pick(code == 3, Setting::Counterclockwise, g36);
-    let g02 = pick(code == 2, Setting::Clockwise, g03);
-    pick(code == 1, Setting::Linear, g02)
+    pick(code == 36, Setting::RegionStart, g37)
+}
+
+// What a G code of the old book sets, by its number. Any but those of the list is 91.
+fn setting_of(code: u64) -> Setting
+    ensures { λ r. ⌜ r ≡ settingOf code ⌝ }
+{
+    if code == 1 {
+        return Setting::Linear;
+    }
+    if code == 2 {
+        return Setting::Clockwise;
+    }
+    if code == 3 {
+        return Setting::Counterclockwise;
+    }
+    later_setting_of(code)
 }
 
 // An operation, alone where the code is 0, else behind that G code.

@@ -1,56 +1,31 @@
--- `words::setting_of` meets its contract: each row is one of `settingOf`.
+-- `words::setting_of` meets its contract: each test is that of a row of `settingOf`; behind the third the rest of the table answers.
 -- Assumes nothing.
+use mathlib.Core.Path.{refl, sym, _∙_}
+use borrow.Author.Tests.{eq-eqb, ne-eqb}
+use Rattle.base.proofs.Choose.{row-holds, row-fails}
 use Rattle.words.specs.Old.{settingOf}
 use borrow.Author.Needs.{needs}
 use Rattle.words.proofs.setting_of.Statement.{statement}
 use Rattle.words.proofs.setting_of.Tie as tie
 
-pick-requires : tie.Need-pick-requires
-pick-requires c κs = search needs
-
-pick-requires-2 : tie.Need-pick-requires-2
-pick-requires-2 c κs = search needs
-
-pick-requires-3 : tie.Need-pick-requires-3
-pick-requires-3 c κs = search needs
-
-pick-requires-4 : tie.Need-pick-requires-4
-pick-requires-4 c κs = search needs
-
-pick-requires-5 : tie.Need-pick-requires-5
-pick-requires-5 c κs = search needs
-
-pick-requires-6 : tie.Need-pick-requires-6
-pick-requires-6 c κs = search needs
-
-pick-requires-7 : tie.Need-pick-requires-7
-pick-requires-7 c κs = search needs
-
-pick-requires-8 : tie.Need-pick-requires-8
-pick-requires-8 c κs = search needs
-
-pick-requires-9 : tie.Need-pick-requires-9
-pick-requires-9 c κs = search needs
-
-pick-requires-10 : tie.Need-pick-requires-10
-pick-requires-10 c κs = search needs
-
 returns : tie.Need-returns
 unfolding settingOf
-returns c = simp (c .pick10 .ensures, c .before .pick9 .ensures, c .before .before .pick8 .ensures, c .before .before .before .pick7 .ensures, c .before .before .before .before .pick6 .ensures, c .before .before .before .before .before .pick5 .ensures, c .before .before .before .before .before .before .pick4 .ensures, c .before .before .before .before .before .before .before .pick3 .ensures, c .before .before .before .before .before .before .before .before .pick2 .ensures, c .before .before .before .before .before .before .before .before .before .pick .ensures)
+returns c = row-holds _ (eq-eqb _ _ (c .if1 .taken)) refl
+
+returns-2 : tie.Need-returns-2
+unfolding settingOf
+returns-2 c = row-fails _ (ne-eqb _ _ (c .before .if1 .left)) (row-holds _ (eq-eqb _ _ (c .if2 .taken)) refl)
+
+returns-3 : tie.Need-returns-3
+unfolding settingOf
+returns-3 c = row-fails _ (ne-eqb _ _ (c .before .before .if1 .left)) (row-fails _ (ne-eqb _ _ (c .before .if2 .left)) (row-holds _ (eq-eqb _ _ (c .if3 .taken)) refl))
+
+later-setting-of-requires : tie.Need-later-setting-of-requires
+later-setting-of-requires c κs = search needs
+
+returns-4 : tie.Need-returns-4
+returns-4 c = row-fails _ (ne-eqb _ _ (c .before .before .before .if1 .left)) (row-fails _ (ne-eqb _ _ (c .before .before .if2 .left)) (row-fails _ (ne-eqb _ _ (c .before .if3 .left)) refl)) ∙ sym (c .later-setting-of .ensures)
 
 pub setting-of-spec : {M : Type 1} → statement M
 setting-of-spec =
-    tie.close
-    (tie.spec
-    pick-requires
-    pick-requires-2
-    pick-requires-3
-    pick-requires-4
-    pick-requires-5
-    pick-requires-6
-    pick-requires-7
-    pick-requires-8
-    pick-requires-9
-    pick-requires-10
-    returns)
+    tie.close (tie.spec returns returns-2 returns-3 later-setting-of-requires returns-4)
