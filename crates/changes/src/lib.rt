@@ -83,7 +83,7 @@ pub fn starts_contour(r: Region) -> bool
 }
 
 // The region after a D01 from p on.
-fn drawing(r: Region, p: Point) -> Region
+pub fn drawing(r: Region, p: Point) -> Region
     ensures { λ t. ⌜ t ≡ drawing r p ⌝ }
 {
     if starts_contour(r) {
@@ -100,6 +100,18 @@ fn drawing(r: Region, p: Point) -> Region
         moved: r.moved,
         contour: r.on,
         first,
+    }
+}
+
+// The region after a D02.
+pub fn ended(r: Region) -> Region
+    ensures { λ t. ⌜ t ≡ ended r ⌝ }
+{
+    Region {
+        on: r.on,
+        moved: r.on,
+        contour: false,
+        first: Point { x: 0, y: 0 },
     }
 }
 
@@ -240,8 +252,8 @@ fn going_to(p: Point, g: Graphics) -> Graphics
     graphics::with_point(Current { set: true, at: p }, g)
 }
 
-// The state after a D01 that is accepted.
-pub fn after_draw(x: Axis, y: Axis, g: Graphics) -> Graphics
+// D01.
+fn drawn(x: Axis, y: Axis, g: Graphics) -> Graphics
     requires { ⌜ Within (10 ^ 12) (target g x y) ⌝ }
     ensures { λ r. ⌜ r ≡ goingTo (target g x y) (withRegion (drawing (g .region) (g .point .at)) g) ⌝ }
 {
@@ -255,17 +267,12 @@ fn moved(x: Axis, y: Axis, g: Graphics) -> Graphics
     requires { ⌜ Within (10 ^ 12) (target g x y) ⌝ }
     ensures { λ r. ⌜ r ≡ goingTo (target g x y) (withRegion (ended (g .region)) g) ⌝ }
 {
-    let r = Region {
-        on: g.region.on,
-        moved: g.region.on,
-        contour: false,
-        first: Point { x: 0, y: 0 },
-    };
-    going_to(target(g, x, y), graphics::with_region(r, g))
+    let r = g.region;
+    going_to(target(g, x, y), graphics::with_region(ended(r), g))
 }
 
-// The state after a D03 that is accepted.
-pub fn after_flash(x: Axis, y: Axis, g: Graphics) -> Graphics
+// D03.
+fn flashed(x: Axis, y: Axis, g: Graphics) -> Graphics
     requires { ⌜ Within (10 ^ 12) (target g x y) ⌝ }
     ensures { λ r. ⌜ r ≡ goingTo (target g x y) g ⌝ }
 {
@@ -306,9 +313,9 @@ pub fn after_operation(o: Operation, g: Graphics) -> Graphics
     ensures { λ r. ⌜ r ≡ afterOperation o g ⌝ }
 {
     match o {
-        Operation::Draw { x, y, .. } => after_draw(x, y, g),
+        Operation::Draw { x, y, .. } => drawn(x, y, g),
         Operation::Move { x, y } => moved(x, y, g),
-        Operation::Flash { x, y } => after_flash(x, y, g),
+        Operation::Flash { x, y } => flashed(x, y, g),
     }
 }
 

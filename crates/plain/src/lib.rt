@@ -5,30 +5,21 @@ ghost use mathlib.Core.Bool.{true};
 ghost use mathlib.Core.List.{List};
 ghost use Rattle.reading.specs.State.{State};
 ghost use Rattle.reading.specs.Apertures.{isAmong};
-ghost use Rattle.reading.specs.Steps.{fileAttributeStep, stepOf};
+ghost use Rattle.reading.specs.Steps.{fileAttributeStep, moveStep, stepOf};
 ghost use Rattle.progress.specs.Lent.{Lent};
-ghost use Rattle.progress.specs.Knows.{Knows, Follows, StepsTo};
-ghost use Rattle.plain.specs.Plain.{isPlain, operationFault, deedFault, faultOf};
+ghost use Rattle.progress.specs.Knows.{Knows, Follows, StepsTo, StrikesTo};
+ghost use Rattle.plain.specs.Plain.{isPlain, deedFault, faultOf};
+use command::Axis;
 use command::Command;
 use command::Deed;
-use command::Operation;
 use graphics::Graphics;
 use graphics::Level;
 use progress::Progress;
 use progress::Stepped;
+use progress::Stroke;
+use progress::Struck;
 
-// The number of the first rule that a D02 breaks, 0 where it keeps all.
-fn operation_fault(g: Graphics, o: Operation) -> u64
-    ensures { λ r. ⌜ r ≡ operationFault g o ⌝ }
-{
-    match o {
-        Operation::Move { x, y } => drawing::move_fault(g, x, y),
-        Operation::Draw { .. } => 0,
-        Operation::Flash { .. } => 0,
-    }
-}
-
-// TA, TO and TD, likewise.
+// The number of the first rule that a TA, TO or TD breaks, 0 where it keeps all.
 fn deed_fault(g: Graphics, d: Deed) -> u64
     ensures { λ r. ⌜ r ≡ deedFault g d ⌝ }
 {
@@ -50,7 +41,7 @@ pub fn fault_of(g: Graphics, l: Level, c: Command) -> u64
         Command::Note => 0,
         Command::End => rules::end_fault(g, l),
         Command::Set(s) => rules::setting_fault(g, s),
-        Command::Operate(o) => operation_fault(g, o),
+        Command::Operate(_) => 0,
         Command::Coded { .. } => 0,
         Command::Attribute(d) => deed_fault(g, d),
         Command::Select(_) => 0,
@@ -82,4 +73,23 @@ pub fn set_name(p: Progress, again: bool) -> Stepped
         return Stepped::Fault(fault);
     }
     Stepped::Next(p)
+}
+
+// D02.
+pub fn go(p: Progress, x: Axis, y: Axis) -> Struck
+    ensures { λ r. ⌜ StrikesTo (λ room s. moveStep x y s) (λ w. Unit) (λ w. w) p r ⌝ }
+{
+    let g = p.graphics;
+    let fault = drawing::move_fault(g, x, y);
+    if fault != 0 {
+        return Struck::Fault(fault);
+    }
+    let region = g.region;
+    let builder = p.builder;
+    Struck::Next(Stroke {
+        at: changes::target(g, x, y),
+        region: changes::ended(region),
+        builder,
+        contour: p.contour,
+    })
 }

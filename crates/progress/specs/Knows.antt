@@ -15,6 +15,9 @@ use Rattle.progress.specs.Contour.{Contour}
 use Rattle.progress.specs.declared.Progress.{Progress}
 use Rattle.progress.specs.declared.Stepped.{Stepped}
 use Rattle.progress.specs.declared.Stepped.the-variants.{Next, Fault}
+use Rattle.progress.specs.declared.Struck.{Struck}
+use Rattle.progress.specs.declared.Struck.the-variants as struck
+use Rattle.progress.specs.Strokes.{withStroke}
 
 pub record Knows (w : Lent) (p : Progress) (s : State) : Type 0 where
   pub graphics : p .graphics ≡ s .graphics
@@ -47,3 +50,12 @@ Follows K t (Fault n) = (t .fault ≡ n) × (1 ≤ n)
 -- from p on, r is what the step comes to, whatever true of what is lent reading knows; `left` is what is lent behind it
 abbrev pub StepsTo : (Room → State → Step) → (Lent → Type 0) → (Lent → Lent) → Progress → Stepped → Type 0
 StepsTo step lends left p r = (w : Lent) (s : State) → lends w → Knows w p s → Follows (Knows (left w)) (step (roomOf w) s) r
+
+-- the same of an operation: the step's number and what is known after its stroke, or the number of its fault
+unfoldable pub FollowsStroke : (Progress → State → Type 0) → Step → Progress → Struck → Type 0
+FollowsStroke K t p (struck.Next s) = Follows K t (Next (withStroke s p))
+FollowsStroke K t p (struck.Fault n) = Follows K t (Fault n)
+FollowsStroke K t p struck.Other = ⊥
+
+abbrev pub StrikesTo : (Room → State → Step) → (Lent → Type 0) → (Lent → Lent) → Progress → Struck → Type 0
+StrikesTo step lends left p r = (w : Lent) (s : State) → lends w → Knows w p s → FollowsStroke (Knows (left w)) (step (roomOf w) s) p r

@@ -1,4 +1,5 @@
 pub mod Parts
+pub mod Strokes
 pub mod Lent
 pub mod Levels
 pub mod Tables

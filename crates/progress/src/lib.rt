@@ -2,9 +2,13 @@
 ghost use mathlib.Core.Path.{_≡_};
 ghost use Rattle.progress.specs.Levels.{levelOf};
 ghost use Rattle.progress.specs.Parts.{withGraphics, withBuilder, withContour, withDepth, withRepeat, withApertures, withMacros, withNumbers};
+ghost use Rattle.progress.specs.Strokes.{withStroke};
 use build::Builder;
+use graphics::Current;
 use graphics::Graphics;
 use graphics::Level;
+use graphics::Region;
+use points::Point;
 
 // How far the entries are built, and where on their stack the open contour stands; how many blocks are open; of the open repeat its
 // copies and the sheet's items before it; how many apertures, macros and numbers are used.
@@ -24,6 +28,22 @@ pub struct Progress {
 pub enum Stepped {
     Next(Progress),
     Fault(u64),
+}
+
+// What an operation changes: the current point, the region, how far the entries are built, and where on their stack the open contour
+// stands.
+pub struct Stroke {
+    pub at: Point,
+    pub region: Region,
+    pub builder: Builder,
+    pub contour: usize,
+}
+
+// What an operation comes to: what it changes, or the number of the first rule that it breaks. `Other`: the command is no operation.
+pub enum Struck {
+    Next(Stroke),
+    Fault(u64),
+    Other,
 }
 
 // What stands open innermost, told by the height of the container that is built.
@@ -209,4 +229,22 @@ pub fn with_numbers(numbers: usize, p: Progress) -> Progress
         macros: p.macros,
         numbers,
     }
+}
+
+// After a stroke.
+pub fn with_stroke(s: Stroke, p: Progress) -> Progress
+    ensures { λ r. ⌜ r ≡ withStroke s p ⌝ }
+{
+    let at = s.at;
+    let region = s.region;
+    let builder = s.builder;
+    let point = Current { set: true, at };
+    let mut g = p.graphics;
+    g.point = point;
+    g.region = region;
+    let mut q = p;
+    q.graphics = g;
+    q.builder = builder;
+    q.contour = s.contour;
+    q
 }

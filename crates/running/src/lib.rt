@@ -16,6 +16,7 @@ use graphics::Header;
 use names::Sets;
 use progress::Progress;
 use progress::Stepped;
+use progress::Struck;
 
 // Where a name of TF is set twice first, the length of the file where none is, once that was looked for.
 pub enum Repeat {
@@ -178,25 +179,39 @@ pub fn run(
                 next,
             } => {
                 let said = command.command;
-                let counted = rounded + command::rounded_of(said);
-                let j = judge(book, file, command, set, repeat);
-                let Judged::Told { again, set: more } = j else {
-                    return Outcome::Asks;
-                };
-                let r = steps::step(file, e, a, m, numbers, p, command, again);
-                match r {
-                    Stepped::Fault(number) => {
-                        return Outcome::Ends(End::Fault(Refusal {
-                            number,
-                            place: command.place,
-                        }));
+                let place = command.place;
+                let g = p.graphics;
+                let fault = steps::code_fault(g, said);
+                p = steps::behind_code(said, p);
+                let struck = steps::operation(e, p, fault, place as u64, said);
+                match struck {
+                    Struck::Fault(number) => {
+                        return Outcome::Ends(End::Fault(Refusal { number, place }));
                     }
-                    Stepped::Next(q) => {
-                        p = q;
+                    Struck::Next(stroke) => {
+                        p = progress::with_stroke(stroke, p);
                         format = carried;
                         at = next;
-                        set = more;
-                        rounded = counted;
+                    }
+                    Struck::Other => {
+                        let counted = rounded + command::rounded_of(said);
+                        let j = judge(book, file, command, set, repeat);
+                        let Judged::Told { again, set: more } = j else {
+                            return Outcome::Asks;
+                        };
+                        let r = steps::step(file, e, a, m, numbers, p, command, again);
+                        match r {
+                            Stepped::Fault(number) => {
+                                return Outcome::Ends(End::Fault(Refusal { number, place }));
+                            }
+                            Stepped::Next(q) => {
+                                p = q;
+                                format = carried;
+                                at = next;
+                                set = more;
+                                rounded = counted;
+                            }
+                        }
                     }
                 }
             }

@@ -7,59 +7,55 @@ ghost use lib.Seq.{slice};
 ghost use Rattle.bounds.specs.Bounded.{DefinitionBounded, BracketBounded};
 ghost use Rattle.reading.specs.State.{State};
 ghost use Rattle.reading.specs.Steps.{operationStep, codedStep, definitionStep, bracketStep, deedStep};
-ghost use Rattle.progress.specs.Knows.{Knows, Known, Follows, StepsTo};
+ghost use Rattle.progress.specs.Knows.{Knows, Known, Follows, StepsTo, StrikesTo};
 ghost use Rattle.progress.specs.Lent.{Lent, lentOf, withEntries, withApertures, withMacros, withNumbers};
 ghost use Rattle.definitions.specs.Lends.{Lends};
-ghost use Rattle.steps.specs.Steps.{Sound, AgainBy, Reads};
+ghost use Rattle.steps.specs.Steps.{Sound, AgainBy, Reads, Operates};
 ghost use Rattle.steps.specs.Coded.{joined};
 use command::Bracket;
 use command::Command;
 use command::Deed;
 use command::Definition;
 use command::Operation;
-use command::Setting;
 use commands::Placed;
+use graphics::Graphics;
 use progress::Progress;
 use progress::Stepped;
+use progress::Struck;
+
+// The operation that a command has, alone or behind a G code; or it is none.
+pub enum Held {
+    Operation(Operation),
+    Nothing,
+}
 
 // D01, D02 and D03.
-fn operate(e: &mut [u64], p: Progress, place: u64, o: Operation) -> Stepped
+fn operate(e: &mut [u64], p: Progress, place: u64, o: Operation) -> Struck
     requires { ⌜ Known (λ w. w .entries ≡ now e) p ⌝ }
     ensures { λ r. ⌜ (length (now (e .exit)) ≡ length (now (e .entry)))
-        × StepsTo (λ room s. operationStep room place o s) (λ w. w .entries ≡ now (e .entry)) (withEntries (now (e .exit))) p r ⌝ }
+        × StrikesTo (λ room s. operationStep room place o s) (λ w. w .entries ≡ now (e .entry)) (withEntries (now (e .exit))) p r ⌝ }
 {
     match o {
         Operation::Draw { x, y, centre } => draws::draw(e, p, place, x, y, centre),
-        Operation::Move { .. } => plain::set(p, Command::Operate(o)),
+        Operation::Move { x, y } => plain::go(p, x, y),
         Operation::Flash { x, y } => draws::flash(e, p, place, x, y),
     }
 }
 
-// What a code and the operation behind it come to together: the fault tested first, or what is behind both.
-fn joined(fault: u64, r: Stepped) -> Stepped
+// What a code with this fault, 0 for none, and the operation behind it come to together: the fault tested first, or what is behind both.
+fn joined(fault: u64, r: Struck) -> Struck
     ensures { λ t. ⌜ t ≡ joined fault r ⌝ }
 {
     match r {
-        Stepped::Fault(n) => Stepped::Fault(faults::sooner(fault, n)),
-        Stepped::Next(p) => {
+        Struck::Fault(n) => Struck::Fault(faults::sooner(fault, n)),
+        Struck::Next(stroke) => {
             if fault == 0 {
-                return Stepped::Next(p);
+                return Struck::Next(stroke);
             }
-            Stepped::Fault(fault)
+            Struck::Fault(fault)
         }
+        Struck::Other => Struck::Other,
     }
-}
-
-// An operation behind a G code, in the state behind the code. What a refused one leaves in the entries is cleared by whoever refuses.
-fn operate_coded(e: &mut [u64], p: Progress, place: u64, code: Setting, o: Operation) -> Stepped
-    requires { ⌜ Known (λ w. w .entries ≡ now e) p ⌝ }
-    ensures { λ r. ⌜ (length (now (e .exit)) ≡ length (now (e .entry)))
-        × StepsTo (λ room s. codedStep room place code o s) (λ w. w .entries ≡ now (e .entry)) (withEntries (now (e .exit))) p r ⌝ }
-{
-    let g = p.graphics;
-    let fault = rules::setting_fault(g, code);
-    let behind = progress::with_graphics(changes::after_setting(code, g), p);
-    joined(fault, operate(e, behind, place, o))
 }
 
 // AD and AM, whose text is file[from..end].
@@ -128,6 +124,74 @@ fn attribute(p: Progress, d: Deed, again: bool) -> Stepped
     }
 }
 
+// The number of the first rule that the G code before an operation breaks, 0 where it keeps all or there is none.
+pub fn code_fault(g: Graphics, c: Command) -> u64
+    ensures { λ r. ⌜ r ≡ codeFault g c ⌝ }
+{
+    match c {
+        Command::Coded { code, .. } => rules::setting_fault(g, code),
+        Command::Broken(_) => 0,
+        Command::Note => 0,
+        Command::End => 0,
+        Command::Set(_) => 0,
+        Command::Operate(_) => 0,
+        Command::Select(_) => 0,
+        Command::Define(_) => 0,
+        Command::Contain(_) => 0,
+        Command::Attribute(_) => 0,
+    }
+}
+
+// How far reading has come after that code, and before its operation.
+pub fn behind_code(c: Command, p: Progress) -> Progress
+    ensures { λ r. ⌜ r ≡ behindCode c p ⌝ }
+{
+    let g = p.graphics;
+    match c {
+        Command::Coded { code, .. } => progress::with_graphics(changes::after_setting(code, g), p),
+        Command::Broken(_) => p,
+        Command::Note => p,
+        Command::End => p,
+        Command::Set(_) => p,
+        Command::Operate(_) => p,
+        Command::Select(_) => p,
+        Command::Define(_) => p,
+        Command::Contain(_) => p,
+        Command::Attribute(_) => p,
+    }
+}
+
+// The operation of a command, if it has one.
+fn held_in(c: Command) -> Held
+    ensures { λ r. ⌜ r ≡ heldIn c ⌝ }
+{
+    match c {
+        Command::Operate(o) => Held::Operation(o),
+        Command::Coded { operation, .. } => Held::Operation(operation),
+        Command::Broken(_) => Held::Nothing,
+        Command::Note => Held::Nothing,
+        Command::End => Held::Nothing,
+        Command::Set(_) => Held::Nothing,
+        Command::Select(_) => Held::Nothing,
+        Command::Define(_) => Held::Nothing,
+        Command::Contain(_) => Held::Nothing,
+        Command::Attribute(_) => Held::Nothing,
+    }
+}
+
+// The operation of a command, behind a code with this fault, 0 for none.
+pub fn operation(e: &mut [u64], p: Progress, fault: u64, place: u64, c: Command) -> Struck
+    requires { ⌜ Known (λ w. w .entries ≡ now e) p ⌝ }
+    ensures { λ r. ⌜ (length (now (e .exit)) ≡ length (now (e .entry)))
+        × Operates fault place (heldIn c) (now (e .entry)) (now (e .exit)) p r ⌝ }
+{
+    let held = held_in(c);
+    match held {
+        Held::Operation(o) => joined(fault, operate(e, p, place, o)),
+        Held::Nothing => Struck::Other,
+    }
+}
+
 // The command c; `again` says of a TF whether its name was set before.
 pub fn step(
     file: &[u8],
@@ -153,7 +217,6 @@ pub fn step(
     let end = c.end;
     let command = c.command;
     match command {
-        Command::Operate(o) => operate(e, p, place, o),
         Command::Select(n) => definitions::select(a, p, n),
         Command::Define(d) => define(file, a, m, numbers, p, from, end, d),
         Command::Contain(b) => contain(e, a, p, place, b),
@@ -162,6 +225,7 @@ pub fn step(
         Command::Note => plain::set(p, command),
         Command::End => plain::set(p, command),
         Command::Set(_) => plain::set(p, command),
-        Command::Coded { code, operation } => operate_coded(e, p, place, code, operation),
+        Command::Operate(_) => Stepped::Next(p),
+        Command::Coded { .. } => Stepped::Next(p),
     }
 }

@@ -9,9 +9,9 @@ use Rattle.changes.proofs.after_operation.Tie as tie
 enum-known-o : tie.Need-enum-known-o
 enum-known-o c = search needs
 
-after-draw-requires : tie.Need-after-draw-requires
+drawn-requires : tie.Need-drawn-requires
 unfolding goal
-after-draw-requires c κs = rw (c .before .o .given .1) at (c .before .before .before .pre)
+drawn-requires c κs = rw (c .before .o .given .1) at (c .before .before .before .pre)
 
 enum-known-o-2 : tie.Need-enum-known-o-2
 enum-known-o-2 c = search needs
@@ -23,13 +23,13 @@ moved-requires c κs = rw (c .before .o2 .given .1) at (c .before .before .befor
 enum-known-o-3 : tie.Need-enum-known-o-3
 enum-known-o-3 c = search needs
 
-after-flash-requires : tie.Need-after-flash-requires
+flashed-requires : tie.Need-flashed-requires
 unfolding goal
-after-flash-requires c κs = rw (c .before .o3 .given .1) at (c .before .before .before .pre)
+flashed-requires c κs = rw (c .before .o3 .given .1) at (c .before .before .before .pre)
 
 returns : tie.Need-returns
 unfolding afterOperation
-returns c = c .after-draw .ensures ∙ sym (ap (λ x. afterOperation x (c .before .before .before .before .args .g)) (c .before .before .o .given .1))
+returns c = c .drawn .ensures ∙ sym (ap (λ x. afterOperation x (c .before .before .before .before .args .g)) (c .before .before .o .given .1))
 
 returns-2 : tie.Need-returns-2
 unfolding afterOperation
@@ -37,18 +37,18 @@ returns-2 c = c .moved .ensures ∙ sym (ap (λ x. afterOperation x (c .before .
 
 returns-3 : tie.Need-returns-3
 unfolding afterOperation
-returns-3 c = c .after-flash .ensures ∙ sym (ap (λ x. afterOperation x (c .before .before .before .before .args .g)) (c .before .before .o3 .given .1))
+returns-3 c = c .flashed .ensures ∙ sym (ap (λ x. afterOperation x (c .before .before .before .before .args .g)) (c .before .before .o3 .given .1))
 
 pub after-operation-spec : {M : Type 1} → statement M
 after-operation-spec =
     tie.close
     (tie.spec
     enum-known-o
-    after-draw-requires
+    drawn-requires
     enum-known-o-2
     moved-requires
     enum-known-o-3
-    after-flash-requires
+    flashed-requires
     returns
     returns-2
     returns-3)

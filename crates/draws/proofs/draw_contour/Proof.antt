@@ -1,5 +1,5 @@
 -- `draws::draw_contour` meets its contract: the contour is put, and then its first edge.
-use Rattle.changes.specs.After.{afterOperation, after}
+use Rattle.changes.specs.After.{Reached, goal}
 use Rattle.drawing.proofs.Reached.{draw-reached, draw-near}
 use Rattle.draws.proofs.Known.{known-mode, known-items}
 use Rattle.draws.proofs.Drawn.{draw-has-room, contour-asks, contour-drawn}
@@ -23,8 +23,9 @@ edge-requires c κs = (known-mode _ _ (c .before .before .before .before .before
 add-edge-requires : tie.Need-add-edge-requires
 add-edge-requires c κs = contour-asks _ _ _ _ _ _ (c .before .before .before .before .before .before .before .before .before .before .before .pre .0) (c .before .before .before .before .before .before .before .before .before .before .before .pre .1) (c .before .before .before .before .before .before .contour .ensures) (c .before .before .before .before .before .add-item .ensures)
 
-after-draw-requires : tie.Need-after-draw-requires
-after-draw-requires c κs = draw-reached _ _ _ _ _ _ (c .before .before .before .before .before .before .before .before .before .before .before .before .before .before .pre .0 .none)
+after-requires : tie.Need-after-requires
+unfolding Reached goal
+after-requires c κs = draw-reached _ _ _ _ _ _ (c .before .before .before .before .before .before .before .before .before .before .before .before .before .before .pre .0 .none)
 
 with-graphics-requires : tie.Need-with-graphics-requires
 with-graphics-requires c κs = search needs
@@ -39,8 +40,7 @@ same-length : tie.Need-same-length
 same-length c = c .before .before .before .before .before .before .add-edge .kept .0 ∙ c .before .before .before .before .before .before .before .before .before .before .before .before .add-item .kept .0
 
 returns : tie.Need-returns
-unfolding after afterOperation
-returns c = contour-drawn _ _ _ _ _ _ (c .before .before .before .before .before .before .before .before .before .before .before .before .before .before .before .before .before .before .pre .0) (c .before .before .before .before .before .before .before .before .before .target .ensures) (c .before .before .before .after-draw .ensures) (c .before .before .with-graphics .ensures) (c .before .before .before .before .before .before .before .before .before .before .before .before .before .before .before .before .before .before .pre .1) (c .before .before .before .before .before .before .before .before .before .before .before .before .before .contour .ensures) (c .before .before .before .before .before .before .before .before .before .before .before .before .add-item .ensures) (c .before .before .before .before .before .before .before .before .edge .ensures) (c .before .before .before .before .before .before .add-edge .ensures) (c .before .with-builder .ensures) (c .with-contour .ensures)
+returns c = contour-drawn _ _ _ _ _ _ (c .before .before .before .before .before .before .before .before .before .before .before .before .before .before .before .before .before .before .pre .0) (c .before .before .before .before .before .before .before .before .before .target .ensures) (c .before .before .before .after .ensures) (c .before .before .with-graphics .ensures) (c .before .before .before .before .before .before .before .before .before .before .before .before .before .before .before .before .before .before .pre .1) (c .before .before .before .before .before .before .before .before .before .before .before .before .before .contour .ensures) (c .before .before .before .before .before .before .before .before .before .before .before .before .add-item .ensures) (c .before .before .before .before .before .before .before .before .edge .ensures) (c .before .before .before .before .before .before .add-edge .ensures) (c .before .with-builder .ensures) (c .with-contour .ensures)
 
 pub draw-contour-spec : {M : Type 1} → statement M
 draw-contour-spec =
@@ -51,7 +51,7 @@ draw-contour-spec =
     target-requires
     edge-requires
     add-edge-requires
-    after-draw-requires
+    after-requires
     with-graphics-requires
     with-builder-requires
     with-contour-requires

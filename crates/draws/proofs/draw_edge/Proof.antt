@@ -1,5 +1,5 @@
 -- `draws::draw_edge` meets its contract: one edge is counted and put.
-use Rattle.changes.specs.After.{afterOperation, after}
+use Rattle.changes.specs.After.{Reached, goal}
 use Rattle.drawing.proofs.Reached.{draw-reached, draw-near}
 use Rattle.draws.proofs.Known.{known-mode}
 use Rattle.draws.proofs.Drawn.{edge-asks, edge-drawn}
@@ -16,8 +16,9 @@ edge-requires c κs = (known-mode _ _ (c .before .before .before .before .pre .0
 add-edge-requires : tie.Need-add-edge-requires
 add-edge-requires c κs = edge-asks _ _ (c .before .before .before .before .before .before .args .place) _ _ _ (c .before .before .before .before .before .before .pre .0) (c .before .before .before .before .before .before .pre .1)
 
-after-draw-requires : tie.Need-after-draw-requires
-after-draw-requires c κs = draw-reached _ _ _ _ _ _ (c .before .before .before .before .before .before .before .before .before .pre .0 .none)
+after-requires : tie.Need-after-requires
+unfolding Reached goal
+after-requires c κs = draw-reached _ _ _ _ _ _ (c .before .before .before .before .before .before .before .before .before .pre .0 .none)
 
 with-graphics-requires : tie.Need-with-graphics-requires
 with-graphics-requires c κs = search needs
@@ -29,8 +30,7 @@ same-length : tie.Need-same-length
 same-length c = search needs
 
 returns : tie.Need-returns
-unfolding after afterOperation
-returns c = edge-drawn _ _ _ _ _ _ (c .before .before .before .before .before .before .before .before .before .before .before .before .pre .0) (c .before .before .before .before .before .before .before .before .target .ensures) (c .before .before .after-draw .ensures) (c .before .with-graphics .ensures) (c .before .before .before .before .before .before .before .before .before .before .before .before .pre .1) (c .before .before .before .before .before .before .before .edge .ensures) (c .before .before .before .before .before .add-edge .ensures) (c .with-builder .ensures)
+returns c = edge-drawn _ _ _ _ _ _ (c .before .before .before .before .before .before .before .before .before .before .before .before .pre .0) (c .before .before .before .before .before .before .before .before .target .ensures) (c .before .before .after .ensures) (c .before .with-graphics .ensures) (c .before .before .before .before .before .before .before .before .before .before .before .before .pre .1) (c .before .before .before .before .before .before .before .edge .ensures) (c .before .before .before .before .before .add-edge .ensures) (c .with-builder .ensures)
 
 pub draw-edge-spec : {M : Type 1} → statement M
 draw-edge-spec =
@@ -39,7 +39,7 @@ draw-edge-spec =
     target-requires
     edge-requires
     add-edge-requires
-    after-draw-requires
+    after-requires
     with-graphics-requires
     with-builder-requires
     same-length

@@ -1,5 +1,5 @@
 -- `draws::draw_item` meets its contract: one item is put.
-use Rattle.changes.specs.After.{afterOperation, after}
+use Rattle.changes.specs.After.{Reached, goal}
 use Rattle.drawing.proofs.Reached.{draw-reached, draw-near}
 use Rattle.draws.proofs.Known.{known-items}
 use Rattle.draws.proofs.Drawn.{draw-has-room, item-drawn}
@@ -16,8 +16,9 @@ drawn-requires c κs = rw (c .target .ensures) (draw-near _ _ _ _ _ _ (c .before
 add-item-requires : tie.Need-add-item-requires
 add-item-requires c κs = (draw-has-room _ _ (c .before .before .before .before .before .before .args .place) _ _ _ (c .before .before .before .before .before .before .pre .0), known-items _ _ (c .before .before .before .before .before .before .pre .0 .known))
 
-after-draw-requires : tie.Need-after-draw-requires
-after-draw-requires c κs = draw-reached _ _ _ _ _ _ (c .before .before .before .before .before .before .before .before .before .pre .0 .none)
+after-requires : tie.Need-after-requires
+unfolding Reached goal
+after-requires c κs = draw-reached _ _ _ _ _ _ (c .before .before .before .before .before .before .before .before .before .pre .0 .none)
 
 with-graphics-requires : tie.Need-with-graphics-requires
 with-graphics-requires c κs = search needs
@@ -29,8 +30,7 @@ same-length : tie.Need-same-length
 same-length c = search needs
 
 returns : tie.Need-returns
-unfolding after afterOperation
-returns c = item-drawn _ _ _ _ _ _ (c .before .before .before .before .before .before .before .before .before .before .before .before .pre .0) (c .before .before .before .before .before .before .before .before .target .ensures) (c .before .before .after-draw .ensures) (c .before .with-graphics .ensures) (c .before .before .before .before .before .before .before .before .before .before .before .before .pre .1) (c .before .before .before .before .before .before .before .drawn .ensures) (c .before .before .before .before .before .add-item .ensures) (c .with-builder .ensures)
+returns c = item-drawn _ _ _ _ _ _ (c .before .before .before .before .before .before .before .before .before .before .before .before .pre .0) (c .before .before .before .before .before .before .before .before .target .ensures) (c .before .before .after .ensures) (c .before .with-graphics .ensures) (c .before .before .before .before .before .before .before .before .before .before .before .before .pre .1) (c .before .before .before .before .before .before .before .drawn .ensures) (c .before .before .before .before .before .add-item .ensures) (c .with-builder .ensures)
 
 pub draw-item-spec : {M : Type 1} → statement M
 draw-item-spec =
@@ -39,7 +39,7 @@ draw-item-spec =
     target-requires
     drawn-requires
     add-item-requires
-    after-draw-requires
+    after-requires
     with-graphics-requires
     with-builder-requires
     same-length

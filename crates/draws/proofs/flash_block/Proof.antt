@@ -1,5 +1,5 @@
 -- `draws::flash_block` meets its contract: the flash of the block is put, and what it stands in is raised.
-use Rattle.changes.specs.After.{afterOperation, after}
+use Rattle.changes.specs.After.{Reached, goal}
 use Rattle.drawing.proofs.Reached.{flash-reached}
 use Rattle.draws.proofs.Flashed.{use-asks, block-flashed}
 use borrow.Author.Needs.{needs}
@@ -15,8 +15,9 @@ pose-requires c κs = search needs
 add-use-requires : tie.Need-add-use-requires
 add-use-requires c κs = use-asks _ _ (c .before .before .before .before .before .before .args .place) _ _ (c .before .before .before .before .before .before .pre .0) (c .before .before .before .before .before .before .pre .1)
 
-after-flash-requires : tie.Need-after-flash-requires
-after-flash-requires c κs = flash-reached _ _ _ _ _ (c .before .before .before .before .before .before .before .before .before .pre .0 .none)
+after-requires : tie.Need-after-requires
+unfolding Reached goal
+after-requires c κs = flash-reached _ _ _ _ _ (c .before .before .before .before .before .before .before .before .before .pre .0 .none)
 
 with-graphics-requires : tie.Need-with-graphics-requires
 with-graphics-requires c κs = search needs
@@ -28,8 +29,7 @@ same-length : tie.Need-same-length
 same-length c = search needs
 
 returns : tie.Need-returns
-unfolding after afterOperation
-returns c = block-flashed _ _ _ _ _ (c .before .before .before .before .before .before .before .before .before .before .before .before .pre .0) (c .before .before .before .before .before .before .before .before .target .ensures) (c .before .before .after-flash .ensures) (c .before .with-graphics .ensures) (c .before .before .before .before .before .before .before .before .before .before .before .before .pre .1) (c .before .before .before .before .before .before .before .pose .ensures) (c .before .before .before .before .before .add-use .ensures) (c .with-builder .ensures)
+returns c = block-flashed _ _ _ _ _ (c .before .before .before .before .before .before .before .before .before .before .before .before .pre .0) (c .before .before .before .before .before .before .before .before .target .ensures) (c .before .before .after .ensures) (c .before .with-graphics .ensures) (c .before .before .before .before .before .before .before .before .before .before .before .before .pre .1) (c .before .before .before .before .before .before .before .pose .ensures) (c .before .before .before .before .before .add-use .ensures) (c .with-builder .ensures)
 
 pub flash-block-spec : {M : Type 1} → statement M
 flash-block-spec =
@@ -38,7 +38,7 @@ flash-block-spec =
     target-requires
     pose-requires
     add-use-requires
-    after-flash-requires
+    after-requires
     with-graphics-requires
     with-builder-requires
     same-length

@@ -1,7 +1,7 @@
--- `changes::after_draw` meets its contract: the region and the point are those of a D01.
+-- `changes::drawn` meets its contract: the region and the point are those of a D01.
 use borrow.Author.Needs.{needs}
-use Rattle.changes.proofs.after_draw.Statement.{statement}
-use Rattle.changes.proofs.after_draw.Tie as tie
+use Rattle.changes.proofs.drawn.Statement.{statement}
+use Rattle.changes.proofs.drawn.Tie as tie
 
 target-requires : tie.Need-target-requires
 target-requires c κs = search needs
@@ -18,7 +18,7 @@ going-to-requires c κs = search needs
 returns : tie.Need-returns
 returns c = cc
 
-pub after-draw-spec : {M : Type 1} → statement M
-after-draw-spec =
+pub drawn-spec : {M : Type 1} → statement M
+drawn-spec =
     tie.close
     (tie.spec target-requires drawing-requires with-region-requires going-to-requires returns)
