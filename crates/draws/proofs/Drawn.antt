@@ -26,7 +26,7 @@ use Rattle.command.specs.declared.Offset.{Offset}
 use Rattle.command.specs.declared.Command.the-variants as command
 use Rattle.command.specs.declared.Operation.the-variants as operation
 use Rattle.graphics.specs.Graphics.{withPoint, withRegion}
-use Rattle.graphics.specs.declared.Graphics.{Graphics}
+use Rattle.graphics.specs.declared.Region.{Region}
 use Rattle.changes.specs.After.{target, goingTo, startsContour, drawing, afterOperation, after}
 use Rattle.arcs.specs.Near.{Near}
 use Rattle.arcs.proofs.Draws.{kind-most}
@@ -40,11 +40,12 @@ use Rattle.reading.specs.State.{State}
 use Rattle.reading.specs.Steps.{drawStep}
 use Rattle.progress.specs.Lent.{Lent, withEntries, roomOf}
 use Rattle.progress.specs.Levels.{levelAt, levelOf}
-use Rattle.progress.specs.Parts.{withGraphics, withBuilder, withContour}
 use Rattle.progress.specs.Contour.{Contour}
-use Rattle.progress.specs.Knows.{Knows, Known, StepsTo}
+use Rattle.progress.specs.Strokes.{withStroke}
+use Rattle.progress.specs.Knows.{Knows, Known, StrikesTo}
 use Rattle.progress.specs.declared.Progress.{Progress}
-use Rattle.progress.specs.declared.Stepped.the-variants.{Next, Fault}
+use Rattle.progress.specs.declared.Stroke.{Stroke}
+use Rattle.progress.specs.declared.Struck.the-variants.{Next, Fault}
 use Rattle.progress.proofs.Around.{start-low}
 use Rattle.progress.proofs.Levels.{items-few}
 use Rattle.draws.specs.Draws.{leftOf, Leads, MayDraw}
@@ -294,25 +295,27 @@ module _ (e : List ℕ) (p : Progress) (place : ℕ) (x y : Axis) (o : Offset) (
       rw (← lent, k .graphics)
       (contour-knows w p s k place x y o (rw (← lent) at (may .none)) (rw (k .graphics) at first))
 
-  module _ {end : Point} {t : Item} {e′ : List ℕ} {b′ : Builder} {g′ : Graphics} {q r : Progress} (end-is : end ≡ target (p .graphics) x y) (after-is : g′ ≡ after (command.Operate (operation.Draw x y o)) (p .graphics))
-      (q-is : q ≡ withGraphics g′ p) where
+  module _ {end : Point} {region : Region} {t : Item} {e′ : List ℕ} {b′ : Builder} (end-is : end ≡ target (p .graphics) x y)
+      (region-is : region ≡ drawing (p .graphics .region) (p .graphics .point .at)) where
     pub item-drawn : p .graphics .region .on ≡ false → t ≡ drawn (p .graphics) end o place →
         (b′ ≡ grown (p .builder) 1 (p .builder .height)) × (e′ ≡ pushed e (p .builder .high) (itemEntry (p .builder .items) t)) →
-        r ≡ withBuilder b′ q → leads e′ r
-    item-drawn outside t-is put r-is = rw (r-is, q-is, after-is, put .0, put .1, t-is, end-is) (item-leads outside)
+        leads e′ (withStroke (record { at = end; region = region; builder = b′; contour = p .contour }) p)
+    unfolding after afterOperation goingTo
+    item-drawn outside t-is put = rw (put .0, put .1, t-is, end-is, region-is) (item-leads outside)
 
     pub edge-drawn : (p .graphics .region .on ≡ true) × (startsContour (p .graphics .region) ≡ false) → t ≡ edge (p .graphics) end o place →
         (b′ ≡ grown (p .builder) 1 (p .builder .height)) × (e′ ≡ edged e (p .builder) (p .contour) t) →
-        r ≡ withBuilder b′ q → leads e′ r
-    edge-drawn inside t-is put r-is = rw (r-is, q-is, after-is, put .0, put .1, t-is, end-is) (edge-leads (inside .0) (inside .1))
+        leads e′ (withStroke (record { at = end; region = region; builder = b′; contour = p .contour }) p)
+    unfolding after afterOperation goingTo
+    edge-drawn inside t-is put = rw (put .0, put .1, t-is, end-is, region-is) (edge-leads (inside .0) (inside .1))
 
-    pub contour-drawn : {u : Item} {e₁ : List ℕ} {b₁ : Builder} {d : Progress} → startsContour (p .graphics .region) ≡ true → u ≡ contour (p .graphics) place →
+    pub contour-drawn : {u : Item} {e₁ : List ℕ} {b₁ : Builder} → startsContour (p .graphics .region) ≡ true → u ≡ contour (p .graphics) place →
         (b₁ ≡ grown (p .builder) 1 (p .builder .height)) × (e₁ ≡ pushed e (p .builder .high) (itemEntry (p .builder .items) u)) →
         t ≡ edge (p .graphics) end o place →
         (b′ ≡ grown b₁ 1 (b₁ .height)) × (e′ ≡ edged e₁ b₁ (p .builder .high) t) →
-        d ≡ withBuilder b′ q → r ≡ withContour (p .builder .high) d → leads e′ r
-    unfolding grown
-    contour-drawn first u-is begun t-is put d-is r-is = rw (r-is, d-is, q-is, after-is, put .0, put .1, begun .0, begun .1, u-is, t-is, end-is) (contour-leads first)
+        leads e′ (withStroke (record { at = end; region = region; builder = b′; contour = p .builder .high }) p)
+    unfolding grown after afterOperation goingTo
+    contour-drawn first u-is begun t-is put = rw (put .0, put .1, begun .0, begun .1, u-is, t-is, end-is, region-is) (contour-leads first)
 
 -- the number that the code has is that of the step's fault
 module _ (e : List ℕ) (p : Progress) (place : ℕ) (x y : Axis) (o : Offset) {n room : ℕ} {l : Level} (level-is : l ≡ levelOf p) (room-is : room ≡ leftOf e (p .builder))
@@ -326,9 +329,9 @@ module _ (e : List ℕ) (p : Progress) (place : ℕ) (x y : Axis) (o : Offset) {
   pub may-draw : Known (λ w. w .entries ≡ e) p → n ≡ 0 → MayDraw e p x y o
   may-draw known zero = record { known = known; none = same-fault ∙ zero }
 
-  pub draw-refused : (e′ : List ℕ) → (n ≡ 0 → ⊥) → StepsTo (λ room s. drawStep room place x y o s) (λ w. w .entries ≡ e) (withEntries e′) p (Fault n)
+  pub draw-refused : (e′ : List ℕ) → (n ≡ 0 → ⊥) → StrikesTo (λ room s. drawStep room place x y o s) (λ w. w .entries ≡ e) (withEntries e′) p (Fault n)
   draw-refused = refused (λ room s. drawStep room place x y o s) e p draw-says
 
-  pub draw-goes : (e′ : List ℕ) (r : Progress) → n ≡ 0 → Leads (λ room s. drawStep room place x y o s) (λ w. w .entries ≡ e) (withEntries e′) p r →
-      StepsTo (λ room s. drawStep room place x y o s) (λ w. w .entries ≡ e) (withEntries e′) p (Next r)
+  pub draw-goes : (e′ : List ℕ) (r : Stroke) → n ≡ 0 → Leads (λ room s. drawStep room place x y o s) (λ w. w .entries ≡ e) (withEntries e′) p (withStroke r p) →
+      StrikesTo (λ room s. drawStep room place x y o s) (λ w. w .entries ≡ e) (withEntries e′) p (Next r)
   draw-goes = goes (λ room s. drawStep room place x y o s) e p draw-says

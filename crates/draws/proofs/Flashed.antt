@@ -24,8 +24,7 @@ use Rattle.shown.proofs.Marks.{one-more, raised-rises, puts-flash}
 use Rattle.command.specs.declared.Axis.{Axis}
 use Rattle.command.specs.declared.Command.the-variants as command
 use Rattle.command.specs.declared.Operation.the-variants as operation
-use Rattle.graphics.specs.Graphics.{withPoint}
-use Rattle.graphics.specs.declared.Graphics.{Graphics}
+use Rattle.graphics.specs.Graphics.{withPoint, withRegion}
 use Rattle.changes.specs.After.{target, goingTo, afterOperation, after}
 use Rattle.bounds.proofs.Tables.{neither}
 use Rattle.drawing.proofs.Reached.{flash-reached}
@@ -39,10 +38,11 @@ use Rattle.reading.specs.State.{State}
 use Rattle.reading.specs.Steps.{flashHeight, flashStep}
 use Rattle.progress.specs.Lent.{Lent, withEntries, roomOf}
 use Rattle.progress.specs.Levels.{levelOf}
-use Rattle.progress.specs.Parts.{withGraphics, withBuilder}
-use Rattle.progress.specs.Knows.{Knows, Known, StepsTo}
+use Rattle.progress.specs.Strokes.{withStroke}
+use Rattle.progress.specs.Knows.{Knows, Known, StrikesTo}
 use Rattle.progress.specs.declared.Progress.{Progress}
-use Rattle.progress.specs.declared.Stepped.the-variants.{Next, Fault}
+use Rattle.progress.specs.declared.Stroke.{Stroke}
+use Rattle.progress.specs.declared.Struck.the-variants.{Next, Fault}
 use Rattle.progress.proofs.Levels.{block-level}
 use Rattle.progress.proofs.Around.{start-low}
 use Rattle.progress.proofs.Outside.{no-contour}
@@ -204,18 +204,19 @@ module _ (e : List ℕ) (p : Progress) (place : ℕ) (x y : Axis) (may : MayFlas
       rw (← lent, k .graphics)
       (block-knows w p s k place x y (rw (← lent) at (may .none)) (rw (k .graphics) at is-block))
 
-  module _ {end : Point} {e′ : List ℕ} {b′ : Builder} {g′ : Graphics} {q r : Progress} (end-is : end ≡ target (p .graphics) x y) (after-is : g′ ≡ after (command.Operate (operation.Flash x y)) (p .graphics))
-      (q-is : q ≡ withGraphics g′ p) where
+  module _ {end : Point} {e′ : List ℕ} {b′ : Builder} (end-is : end ≡ target (p .graphics) x y) where
     pub item-flashed : {t : Item} → p .graphics .aperture .block ≡ false → t ≡ flashed (p .graphics) end place →
         (b′ ≡ grown (p .builder) 1 (p .builder .height)) × (e′ ≡ pushed e (p .builder .high) (itemEntry (p .builder .items) t)) →
-        r ≡ withBuilder b′ q → leads e′ r
-    item-flashed plain t-is put r-is = rw (r-is, q-is, after-is, put .0, put .1, t-is, end-is) (item-leads plain)
+        leads e′ (withStroke (record { at = end; region = p .graphics .region; builder = b′; contour = p .contour }) p)
+    unfolding after afterOperation goingTo withPoint withRegion
+    item-flashed plain t-is put = rw (put .0, put .1, t-is, end-is) (item-leads plain)
 
     pub block-flashed : {m : Pose} → p .graphics .aperture .block ≡ true → m ≡ pose (p .graphics) end →
         (b′ ≡ grown (p .builder) (p .graphics .aperture .items) (raised (p .builder .height) (p .graphics .aperture .height)))
         × (e′ ≡ pushed e (p .builder .high) (useEntry (p .builder .items) (p .graphics .aperture .slot) m place)) →
-        r ≡ withBuilder b′ q → leads e′ r
-    block-flashed is-block m-is put r-is = rw (r-is, q-is, after-is, put .0, put .1, m-is, end-is) (block-leads is-block)
+        leads e′ (withStroke (record { at = end; region = p .graphics .region; builder = b′; contour = p .contour }) p)
+    unfolding after afterOperation goingTo withPoint withRegion
+    block-flashed is-block m-is put = rw (put .0, put .1, m-is, end-is) (block-leads is-block)
 
 -- the number that the code has is that of the step's fault
 module _ (e : List ℕ) (p : Progress) (place : ℕ) (x y : Axis) {n room : ℕ} {l : Level} (level-is : l ≡ levelOf p) (room-is : room ≡ leftOf e (p .builder))
@@ -229,9 +230,9 @@ module _ (e : List ℕ) (p : Progress) (place : ℕ) (x y : Axis) {n room : ℕ}
   pub may-flash : Known (λ w. w .entries ≡ e) p → n ≡ 0 → MayFlash e p x y
   may-flash known zero = record { known = known; none = same-fault ∙ zero }
 
-  pub flash-refused : (e′ : List ℕ) → (n ≡ 0 → ⊥) → StepsTo (λ room s. flashStep room place x y s) (λ w. w .entries ≡ e) (withEntries e′) p (Fault n)
+  pub flash-refused : (e′ : List ℕ) → (n ≡ 0 → ⊥) → StrikesTo (λ room s. flashStep room place x y s) (λ w. w .entries ≡ e) (withEntries e′) p (Fault n)
   flash-refused = refused (λ room s. flashStep room place x y s) e p flash-says
 
-  pub flash-goes : (e′ : List ℕ) (r : Progress) → n ≡ 0 → Leads (λ room s. flashStep room place x y s) (λ w. w .entries ≡ e) (withEntries e′) p r →
-      StepsTo (λ room s. flashStep room place x y s) (λ w. w .entries ≡ e) (withEntries e′) p (Next r)
+  pub flash-goes : (e′ : List ℕ) (r : Stroke) → n ≡ 0 → Leads (λ room s. flashStep room place x y s) (λ w. w .entries ≡ e) (withEntries e′) p (withStroke r p) →
+      StrikesTo (λ room s. flashStep room place x y s) (λ w. w .entries ≡ e) (withEntries e′) p (Next r)
   flash-goes = goes (λ room s. flashStep room place x y s) e p flash-says

@@ -14,9 +14,11 @@ use Rattle.reading.specs.State.{Room, State}
 use Rattle.reading.specs.Steps.{Step, drawStep, flashStep}
 use Rattle.progress.specs.Lent.{Lent, roomOf, withEntries}
 use Rattle.progress.specs.Levels.{levelOf}
-use Rattle.progress.specs.Knows.{Knows, Known, Follows, StepsTo}
+use Rattle.progress.specs.Strokes.{withStroke}
+use Rattle.progress.specs.Knows.{Knows, Known, Follows, FollowsStroke, StrikesTo}
 use Rattle.progress.specs.declared.Progress.{Progress}
-use Rattle.progress.specs.declared.Stepped.the-variants.{Next, Fault}
+use Rattle.progress.specs.declared.Stroke.{Stroke}
+use Rattle.progress.specs.declared.Struck.the-variants.{Next, Fault}
 use Rattle.progress.proofs.Levels.{items-known}
 use Rattle.draws.specs.Draws.{leftOf, Leads}
 use Rattle.draws.proofs.Selected.{selected-few}
@@ -50,15 +52,15 @@ module _ (w : Lent) (p : Progress) (s : State) (k : Knows w p s) (place : ℕ) (
   unfolding flashStep roomOf
   flash-faults = λ i. flashFault (k .graphics i) (k .level i) (entryRoom (w .entries) - k .entries i) x y
 
--- a step whose fault is known by its number
+-- an operation whose fault is known by its number
 module _ (step : Room → State → Step) (e : List ℕ) (p : Progress) {n : ℕ} (says : (w : Lent) (s : State) → w .entries ≡ e → Knows w p s → step (roomOf w) s .fault ≡ n) (e′ : List ℕ) where
-  pub refused : (n ≡ 0 → ⊥) → StepsTo step (λ w. w .entries ≡ e) (withEntries e′) p (Fault n)
-  unfolding Follows
+  pub refused : (n ≡ 0 → ⊥) → StrikesTo step (λ w. w .entries ≡ e) (withEntries e′) p (Fault n)
+  unfolding FollowsStroke Follows
   refused ne w s lent k = (says w s lent k, above ne)
     where
       above : (n ≡ 0 → ⊥) → 1 ≤ n
       above ne = omega arith
 
-  pub goes : (r : Progress) → n ≡ 0 → Leads step (λ w. w .entries ≡ e) (withEntries e′) p r → StepsTo step (λ w. w .entries ≡ e) (withEntries e′) p (Next r)
-  unfolding Follows
+  pub goes : (r : Stroke) → n ≡ 0 → Leads step (λ w. w .entries ≡ e) (withEntries e′) p (withStroke r p) → StrikesTo step (λ w. w .entries ≡ e) (withEntries e′) p (Next r)
+  unfolding FollowsStroke Follows
   goes r zero leads w s lent k = (says w s lent k ∙ zero, leads w s lent k)

@@ -1,46 +1,38 @@
--- `draws::draw_edge` meets its contract: one edge is counted and put.
-use Rattle.changes.specs.After.{Reached, goal}
-use Rattle.drawing.proofs.Reached.{draw-reached, draw-near}
-use Rattle.draws.proofs.Known.{known-mode}
-use Rattle.draws.proofs.Drawn.{edge-asks, edge-drawn}
 use borrow.Author.Needs.{needs}
 use Rattle.draws.proofs.draw_edge.Statement.{statement}
 use Rattle.draws.proofs.draw_edge.Tie as tie
+use Rattle.draws.proofs.draw_edge.Reads as reads
+use Rattle.draws.proofs.draw_edge.Lts as lts
+use Rattle.changes.proofs.drawing.Reads as drawing-reads
+use Rattle.changes.proofs.target.Reads as target-reads
+use Rattle.contours.proofs.add_edge.Reads as add-edge-reads
+use Rattle.marks.proofs.edge.Reads as edge-reads
 
+-- src/lib.rt:59:9
 target-requires : tie.Need-target-requires
-target-requires c κs = draw-reached _ _ _ _ _ _ (c .before .before .before .pre .0 .none)
+target-requires c κs = ?
 
+-- src/lib.rt:60:9
 edge-requires : tie.Need-edge-requires
-edge-requires c κs = (known-mode _ _ (c .before .before .before .before .pre .0 .known), rw (c .target .ensures) (draw-near _ _ _ _ _ _ (c .before .before .before .before .pre .0 .none)))
+edge-requires c κs = ?
 
+-- src/lib.rt:63:17
+drawing-requires : tie.Need-drawing-requires
+drawing-requires c κs = search needs
+
+-- src/lib.rt:64:18
 add-edge-requires : tie.Need-add-edge-requires
-add-edge-requires c κs = edge-asks _ _ (c .before .before .before .before .before .before .args .place) _ _ _ (c .before .before .before .before .before .before .pre .0) (c .before .before .before .before .before .before .pre .1)
+add-edge-requires c κs = ?
 
-after-requires : tie.Need-after-requires
-unfolding Reached goal
-after-requires c κs = draw-reached _ _ _ _ _ _ (c .before .before .before .before .before .before .before .before .before .pre .0 .none)
-
-with-graphics-requires : tie.Need-with-graphics-requires
-with-graphics-requires c κs = search needs
-
-with-builder-requires : tie.Need-with-builder-requires
-with-builder-requires c κs = search needs
-
+-- src/lib.rt:50:1
 same-length : tie.Need-same-length
 same-length c = search needs
 
+-- src/lib.rt:50:1
 returns : tie.Need-returns
-returns c = edge-drawn _ _ _ _ _ _ (c .before .before .before .before .before .before .before .before .before .before .before .before .pre .0) (c .before .before .before .before .before .before .before .before .target .ensures) (c .before .before .after .ensures) (c .before .with-graphics .ensures) (c .before .before .before .before .before .before .before .before .before .before .before .before .pre .1) (c .before .before .before .before .before .before .before .edge .ensures) (c .before .before .before .before .before .add-edge .ensures) (c .with-builder .ensures)
+returns c = ?
 
 pub draw-edge-spec : {M : Type 1} → statement M
 draw-edge-spec =
     tie.close
-    (tie.spec
-    target-requires
-    edge-requires
-    add-edge-requires
-    after-requires
-    with-graphics-requires
-    with-builder-requires
-    same-length
-    returns)
+    (tie.spec target-requires edge-requires drawing-requires add-edge-requires same-length returns)

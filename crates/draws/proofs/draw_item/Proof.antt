@@ -1,36 +1,36 @@
--- `draws::draw_item` meets its contract: one item is put.
-use Rattle.changes.specs.After.{Reached, goal}
-use Rattle.drawing.proofs.Reached.{draw-reached, draw-near}
-use Rattle.draws.proofs.Known.{known-items}
-use Rattle.draws.proofs.Drawn.{draw-has-room, item-drawn}
 use borrow.Author.Needs.{needs}
 use Rattle.draws.proofs.draw_item.Statement.{statement}
 use Rattle.draws.proofs.draw_item.Tie as tie
+use Rattle.draws.proofs.draw_item.Reads as reads
+use Rattle.draws.proofs.draw_item.Lts as lts
+use Rattle.build.proofs.add_item.Reads as add-item-reads
+use Rattle.changes.proofs.drawing.Reads as drawing-reads
+use Rattle.changes.proofs.target.Reads as target-reads
+use Rattle.marks.proofs.drawn.Reads as drawn-reads
 
+-- src/lib.rt:39:9
 target-requires : tie.Need-target-requires
-target-requires c κs = draw-reached _ _ _ _ _ _ (c .before .before .before .pre .0 .none)
+target-requires c κs = ?
 
+-- src/lib.rt:40:9
 drawn-requires : tie.Need-drawn-requires
-drawn-requires c κs = rw (c .target .ensures) (draw-near _ _ _ _ _ _ (c .before .before .before .before .pre .0 .none))
+drawn-requires c κs = ?
 
+-- src/lib.rt:43:17
+drawing-requires : tie.Need-drawing-requires
+drawing-requires c κs = search needs
+
+-- src/lib.rt:44:18
 add-item-requires : tie.Need-add-item-requires
-add-item-requires c κs = (draw-has-room _ _ (c .before .before .before .before .before .before .args .place) _ _ _ (c .before .before .before .before .before .before .pre .0), known-items _ _ (c .before .before .before .before .before .before .pre .0 .known))
+add-item-requires c κs = ?
 
-after-requires : tie.Need-after-requires
-unfolding Reached goal
-after-requires c κs = draw-reached _ _ _ _ _ _ (c .before .before .before .before .before .before .before .before .before .pre .0 .none)
-
-with-graphics-requires : tie.Need-with-graphics-requires
-with-graphics-requires c κs = search needs
-
-with-builder-requires : tie.Need-with-builder-requires
-with-builder-requires c κs = search needs
-
+-- src/lib.rt:30:1
 same-length : tie.Need-same-length
 same-length c = search needs
 
+-- src/lib.rt:30:1
 returns : tie.Need-returns
-returns c = item-drawn _ _ _ _ _ _ (c .before .before .before .before .before .before .before .before .before .before .before .before .pre .0) (c .before .before .before .before .before .before .before .before .target .ensures) (c .before .before .after .ensures) (c .before .with-graphics .ensures) (c .before .before .before .before .before .before .before .before .before .before .before .before .pre .1) (c .before .before .before .before .before .before .before .drawn .ensures) (c .before .before .before .before .before .add-item .ensures) (c .with-builder .ensures)
+returns c = ?
 
 pub draw-item-spec : {M : Type 1} → statement M
 draw-item-spec =
@@ -38,9 +38,7 @@ draw-item-spec =
     (tie.spec
     target-requires
     drawn-requires
+    drawing-requires
     add-item-requires
-    after-requires
-    with-graphics-requires
-    with-builder-requires
     same-length
     returns)
