@@ -1,46 +1,62 @@
+-- `draws::draw_contour` meets its contract: the contour is put, and then its first edge.
+use Rattle.drawing.proofs.Reached.{draw-reached, draw-near}
+use Rattle.draws.proofs.Known.{known-mode, known-items}
+use Rattle.draws.proofs.Drawn.{draw-has-room, contour-asks, contour-drawn}
+use mathlib.Core.Path.{_∙_}
 use borrow.Author.Needs.{needs}
 use Rattle.draws.proofs.draw_contour.Statement.{statement}
 use Rattle.draws.proofs.draw_contour.Tie as tie
-use Rattle.draws.proofs.draw_contour.Reads as reads
-use Rattle.draws.proofs.draw_contour.Lts as lts
-use Rattle.build.proofs.add_item.Reads as add-item-reads
-use Rattle.changes.proofs.drawing.Reads as drawing-reads
-use Rattle.changes.proofs.target.Reads as target-reads
-use Rattle.contours.proofs.add_edge.Reads as add-edge-reads
-use Rattle.marks.proofs.contour.Reads as contour-reads
-use Rattle.marks.proofs.edge.Reads as edge-reads
 
--- src/lib.rt:79:9
+abbrev call : tie.After-from → tie.Start
+call c = c .before .before .before .before .before
+
+-- the contour stands, and where it was put
+abbrev begun : tie.After-slice-known2 → tie.After-add-item
+begun c = c .before .before
+
+abbrev goal : tie.After-add-item → tie.After-target
+goal c = c .before .before .before
+
 target-requires : tie.Need-target-requires
-target-requires c κs = ?
+target-requires c κs = draw-reached _ _ _ _ _ _ (call c .pre .0 .none)
 
--- src/lib.rt:80:39
 contour-requires : tie.Need-contour-requires
 contour-requires c κs = search needs
 
--- src/lib.rt:80:9
 add-item-requires : tie.Need-add-item-requires
-add-item-requires c κs = ?
+add-item-requires c κs =
+    let start = call (c .before .before .before) in
+    (draw-has-room _ _ (start .args .place) _ _ _ (start .pre .0), known-items _ _ (start .pre .0 .known))
 
--- src/lib.rt:81:9
 edge-requires : tie.Need-edge-requires
-edge-requires c κs = ?
+edge-requires c κs =
+    let to = goal (begun c) in
+    let start = call (to .before) in
+    (known-mode _ _ (start .pre .0 .known), rw (to .target .ensures) (draw-near _ _ _ _ _ _ (start .pre .0 .none)))
 
--- src/lib.rt:84:17
 drawing-requires : tie.Need-drawing-requires
 drawing-requires c κs = search needs
 
--- src/lib.rt:85:18
 add-edge-requires : tie.Need-add-edge-requires
-add-edge-requires c κs = ?
+add-edge-requires c κs =
+    let stands = begun (c .before .before .before) in
+    let start = call (goal stands .before) in
+    contour-asks _ _ _ _ _ _ (start .pre .0) (start .pre .1) (stands .before .contour .ensures) (stands .add-item .ensures)
 
--- src/lib.rt:70:1
 same-length : tie.Need-same-length
-same-length c = search needs
+same-length c =
+    let put = c .before .before in
+    put .add-edge .kept .0 ∙ begun (put .before .before .before .before) .add-item .kept .0
 
--- src/lib.rt:70:1
 returns : tie.Need-returns
-returns c = ?
+returns c =
+    let put = c .before .before in
+    let region = put .before .before in
+    let edge = region .before in
+    let stands = begun (edge .before) in
+    let to = goal stands in
+    let start = call (to .before) in
+    contour-drawn _ _ _ _ _ _ (start .pre .0) (to .target .ensures) (region .drawing .ensures) (start .pre .1) (stands .before .contour .ensures) (stands .add-item .ensures) (edge .edge .ensures) (put .add-edge .ensures)
 
 pub draw-contour-spec : {M : Type 1} → statement M
 draw-contour-spec =

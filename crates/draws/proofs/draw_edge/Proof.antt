@@ -1,38 +1,42 @@
+-- `draws::draw_edge` meets its contract: one edge more of the open contour is put.
+use Rattle.drawing.proofs.Reached.{draw-reached, draw-near}
+use Rattle.draws.proofs.Known.{known-mode}
+use Rattle.draws.proofs.Drawn.{edge-asks, edge-drawn}
 use borrow.Author.Needs.{needs}
 use Rattle.draws.proofs.draw_edge.Statement.{statement}
 use Rattle.draws.proofs.draw_edge.Tie as tie
-use Rattle.draws.proofs.draw_edge.Reads as reads
-use Rattle.draws.proofs.draw_edge.Lts as lts
-use Rattle.changes.proofs.drawing.Reads as drawing-reads
-use Rattle.changes.proofs.target.Reads as target-reads
-use Rattle.contours.proofs.add_edge.Reads as add-edge-reads
-use Rattle.marks.proofs.edge.Reads as edge-reads
 
--- src/lib.rt:59:9
+abbrev call : tie.After-from → tie.Start
+call c = c .before .before .before .before .before
+
 target-requires : tie.Need-target-requires
-target-requires c κs = ?
+target-requires c κs = draw-reached _ _ _ _ _ _ (call c .pre .0 .none)
 
--- src/lib.rt:60:9
 edge-requires : tie.Need-edge-requires
-edge-requires c κs = ?
+edge-requires c κs =
+    let start = call (c .before) in
+    (known-mode _ _ (start .pre .0 .known), rw (c .target .ensures) (draw-near _ _ _ _ _ _ (start .pre .0 .none)))
 
--- src/lib.rt:63:17
 drawing-requires : tie.Need-drawing-requires
 drawing-requires c κs = search needs
 
--- src/lib.rt:64:18
 add-edge-requires : tie.Need-add-edge-requires
-add-edge-requires c κs = ?
+add-edge-requires c κs =
+    let start = call (c .before .before .before .before) in
+    edge-asks _ _ (start .args .place) _ _ _ (start .pre .0) (start .pre .1)
 
--- src/lib.rt:50:1
 same-length : tie.Need-same-length
 same-length c = search needs
 
--- src/lib.rt:50:1
 returns : tie.Need-returns
-returns c = ?
+returns c =
+    let put = c .before .before in
+    let region = put .before .before in
+    let item = region .before in
+    let goal = item .before in
+    let start = call (goal .before) in
+    edge-drawn _ _ _ _ _ _ (start .pre .0) (goal .target .ensures) (region .drawing .ensures) (start .pre .1) (item .edge .ensures) (put .add-edge .ensures)
 
 pub draw-edge-spec : {M : Type 1} → statement M
 draw-edge-spec =
-    tie.close
-    (tie.spec target-requires edge-requires drawing-requires add-edge-requires same-length returns)
+    tie.close (tie.spec target-requires edge-requires drawing-requires add-edge-requires same-length returns)

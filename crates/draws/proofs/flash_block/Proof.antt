@@ -1,32 +1,34 @@
+-- `draws::flash_block` meets its contract: the flash of the block is put, and what it stands in is raised.
+use Rattle.drawing.proofs.Reached.{flash-reached}
+use Rattle.draws.proofs.Flashed.{use-asks, block-flashed}
 use borrow.Author.Needs.{needs}
 use Rattle.draws.proofs.flash_block.Statement.{statement}
 use Rattle.draws.proofs.flash_block.Tie as tie
-use Rattle.draws.proofs.flash_block.Reads as reads
-use Rattle.draws.proofs.flash_block.Lts as lts
-use Rattle.build.proofs.add_use.Reads as add-use-reads
-use Rattle.changes.proofs.target.Reads as target-reads
-use Rattle.marks.proofs.pose.Reads as pose-reads
 
--- src/lib.rt:141:9
+abbrev call : tie.After-region → tie.Start
+call c = c .before .before .before .before
+
 target-requires : tie.Need-target-requires
-target-requires c κs = ?
+target-requires c κs = flash-reached _ _ _ _ _ (call c .pre .0 .none)
 
--- src/lib.rt:142:9
 pose-requires : tie.Need-pose-requires
 pose-requires c κs = search needs
 
--- src/lib.rt:152:18
 add-use-requires : tie.Need-add-use-requires
-add-use-requires c κs = ?
+add-use-requires c κs =
+    let start = call (c .before .before .before) in
+    use-asks _ _ (start .args .place) _ _ (start .pre .0) (start .pre .1)
 
--- src/lib.rt:133:1
 same-length : tie.Need-same-length
 same-length c = search needs
 
--- src/lib.rt:133:1
 returns : tie.Need-returns
-returns c = ?
+returns c =
+    let put = c .before .before in
+    let posed = put .before .before in
+    let goal = posed .before in
+    let start = call (goal .before) in
+    block-flashed _ _ _ _ _ (start .pre .0) (goal .target .ensures) (start .pre .1) (posed .pose .ensures) (put .add-use .ensures)
 
 pub flash-block-spec : {M : Type 1} → statement M
-flash-block-spec =
-    tie.close (tie.spec target-requires pose-requires add-use-requires same-length returns)
+flash-block-spec = tie.close (tie.spec target-requires pose-requires add-use-requires same-length returns)

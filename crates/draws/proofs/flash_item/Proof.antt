@@ -1,32 +1,35 @@
+-- `draws::flash_item` meets its contract: one item is put.
+use Rattle.drawing.proofs.Reached.{flash-reached}
+use Rattle.draws.proofs.Known.{known-items}
+use Rattle.draws.proofs.Flashed.{flash-has-room, item-flashed}
 use borrow.Author.Needs.{needs}
 use Rattle.draws.proofs.flash_item.Statement.{statement}
 use Rattle.draws.proofs.flash_item.Tie as tie
-use Rattle.draws.proofs.flash_item.Reads as reads
-use Rattle.draws.proofs.flash_item.Lts as lts
-use Rattle.build.proofs.add_item.Reads as add-item-reads
-use Rattle.changes.proofs.target.Reads as target-reads
-use Rattle.marks.proofs.flashed.Reads as flashed-reads
 
--- src/lib.rt:122:9
+abbrev call : tie.After-region → tie.Start
+call c = c .before .before .before .before
+
 target-requires : tie.Need-target-requires
-target-requires c κs = ?
+target-requires c κs = flash-reached _ _ _ _ _ (call c .pre .0 .none)
 
--- src/lib.rt:123:9
 flashed-requires : tie.Need-flashed-requires
 flashed-requires c κs = search needs
 
--- src/lib.rt:127:18
 add-item-requires : tie.Need-add-item-requires
-add-item-requires c κs = ?
+add-item-requires c κs =
+    let start = call (c .before .before .before) in
+    (flash-has-room _ _ (start .args .place) _ _ (start .pre .0), known-items _ _ (start .pre .0 .known))
 
--- src/lib.rt:114:1
 same-length : tie.Need-same-length
 same-length c = search needs
 
--- src/lib.rt:114:1
 returns : tie.Need-returns
-returns c = ?
+returns c =
+    let put = c .before .before in
+    let item = put .before .before in
+    let goal = item .before in
+    let start = call (goal .before) in
+    item-flashed _ _ _ _ _ (start .pre .0) (goal .target .ensures) (start .pre .1) (item .flashed .ensures) (put .add-item .ensures)
 
 pub flash-item-spec : {M : Type 1} → statement M
-flash-item-spec =
-    tie.close (tie.spec target-requires flashed-requires add-item-requires same-length returns)
+flash-item-spec = tie.close (tie.spec target-requires flashed-requires add-item-requires same-length returns)
