@@ -8,8 +8,6 @@ use Rattle.points.specs.Points.{Within}
 use Rattle.command.specs.declared.Axis.{Axis}
 use Rattle.command.specs.declared.Setting.{Setting}
 use Rattle.command.specs.declared.Setting.the-variants as setting
-use Rattle.command.specs.declared.Operation.{Operation}
-use Rattle.command.specs.declared.Operation.the-variants as operation
 use Rattle.command.specs.declared.Command.{Command}
 use Rattle.command.specs.declared.Command.the-variants.{Broken, Note, End, Set, Operate, Coded, Select, Define, Contain, Attribute}
 use Rattle.graphics.specs.Graphics.{noRegion, withHeader, withNotation, withPoint, withMode, withQuadrants, withTransform, withRegion}
@@ -18,7 +16,7 @@ use Rattle.graphics.specs.declared.Header.{Header}
 use Rattle.graphics.specs.declared.Level.{Level}
 use Rattle.graphics.specs.declared.Transform.{Transform}
 use Rattle.graphics.specs.declared.Region.{Region}
-use Rattle.changes.specs.After.{target, goal, goingTo, emptyRegion, ended, afterSetting, afterOperation, after, Reached}
+use Rattle.changes.specs.After.{target, goingTo, emptyRegion, ended, afterSetting, after, Reached}
 use Rattle.drawing.specs.Faults.{moveFault}
 use Rattle.drawing.proofs.Reached.{move-reached}
 use Rattle.reading.specs.State.{State}
@@ -28,7 +26,7 @@ use Rattle.progress.specs.Lent.{Lent}
 use Rattle.progress.specs.Levels.{levelOf}
 use Rattle.progress.specs.Knows.{Knows}
 use Rattle.progress.specs.declared.Progress.{Progress}
-use Rattle.plain.specs.Plain.{isPlainOperation, isPlain, operationFault, faultOf}
+use Rattle.plain.specs.Plain.{isPlain, faultOf}
 
 -- h in the place of g: the same aperture, and no contour that was not open in g
 pub record Keeps (g h : Graphics) : Type 0 where
@@ -97,7 +95,7 @@ module _ (g : Graphics) (k : Keeps g g) where
     contour = λ e. absurd (false≢true (sym none ∙ e));
   }
 
-  move-keeps : (x y : Axis) → moveFault g x y ≡ 0 → Keeps g (goingTo (target g x y) (withRegion (ended (g .region)) g))
+  pub move-keeps : (x y : Axis) → moveFault g x y ≡ 0 → Keeps g (goingTo (target g x y) (withRegion (ended (g .region)) g))
   unfolding goingTo withPoint withRegion ended
   move-keeps x y l = record {
     point = move-reached g x y l;
@@ -130,39 +128,27 @@ module _ (g : Graphics) (k : Keeps g g) where
   setting-keeps (setting.Rotation a rounded) = transform-keeps _
   setting-keeps (setting.Scale a rounded) = transform-keeps _
 
-  operation-keeps : (o : Operation) → isPlainOperation o ≡ true → operationFault g o ≡ 0 → Keeps g (afterOperation o g)
-  unfolding isPlainOperation operationFault afterOperation
-  operation-keeps (operation.Move x y) q e = move-keeps x y e
-  operation-keeps (operation.Draw x y o) q e = absurd (false≢true q)
-  operation-keeps (operation.Flash x y) q e = absurd (false≢true q)
-
   pub after-keeps : (c : Command) → isPlain c ≡ true → (l : Level) → faultOf g l c ≡ 0 → Keeps g (after c g)
   unfolding isPlain faultOf after
   after-keeps (Broken flaw) q l e = k
   after-keeps Note q l e = k
   after-keeps End q l e = k
   after-keeps (Set s) q l e = setting-keeps s
-  after-keeps (Operate o) q l e = operation-keeps o q e
+  after-keeps (Operate o) q l e = absurd (false≢true q)
   after-keeps (Coded code o) q l e = absurd (false≢true q)
   after-keeps (Attribute d) q l e = k
   after-keeps (Select n) q l e = absurd (false≢true q)
   after-keeps (Define d) q l e = absurd (false≢true q)
   after-keeps (Contain b) q l e = absurd (false≢true q)
 
--- a plain command that breaks no rule goes to a point within 10^12
-reached-by : (g : Graphics) (o : Operation) → isPlainOperation o ≡ true → operationFault g o ≡ 0 → Within (10 ^ 12) (goal o g)
-unfolding isPlainOperation operationFault goal
-reached-by g (operation.Move x y) q e = move-reached g x y e
-reached-by g (operation.Draw x y o) q e = absurd (false≢true q)
-reached-by g (operation.Flash x y) q e = absurd (false≢true q)
-
+-- a plain command goes nowhere
 pub plain-reached : (g : Graphics) (l : Level) (c : Command) → isPlain c ≡ true → faultOf g l c ≡ 0 → Reached c g
 unfolding isPlain faultOf Reached
 plain-reached g l (Broken flaw) q e = tt
 plain-reached g l Note q e = tt
 plain-reached g l End q e = tt
 plain-reached g l (Set s) q e = tt
-plain-reached g l (Operate o) q e = reached-by g o q e
+plain-reached g l (Operate o) q e = absurd (false≢true q)
 plain-reached g l (Coded code o) q e = absurd (false≢true q)
 plain-reached g l (Attribute d) q e = tt
 plain-reached g l (Select n) q e = tt

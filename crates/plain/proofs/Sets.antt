@@ -5,23 +5,28 @@ use mathlib.Core.Path.{_≡_, sym, ap, subst, _∙_}
 use mathlib.Core.Bool.{Bool, true}
 use mathlib.Core.List.{List}
 use native.Mathlib.Omega.{arith}
+use Rattle.points.specs.declared.Point.{Point}
+use Rattle.command.specs.declared.Axis.{Axis}
 use Rattle.command.specs.declared.Command.{Command}
 use Rattle.graphics.specs.declared.Graphics.{Graphics}
 use Rattle.graphics.specs.declared.Level.{Level}
-use Rattle.changes.specs.After.{after}
+use Rattle.graphics.specs.declared.Region.{Region}
+use Rattle.drawing.specs.Faults.{moveFault}
+use Rattle.changes.specs.After.{target, goingTo, ended, afterOperation, after}
 use Rattle.rules.specs.Rules.{fileAttributeFault}
 use Rattle.reading.specs.State.{State}
 use Rattle.reading.specs.Steps as state
 use Rattle.reading.specs.Apertures.{isAmong}
-use Rattle.reading.specs.Steps.{fileAttributeStep, stepOf}
+use Rattle.reading.specs.Steps.{fileAttributeStep, moveStep, stepOf}
 use Rattle.progress.specs.Parts.{withGraphics}
 use Rattle.progress.specs.Lent.{Lent, roomOf}
 use Rattle.progress.specs.Levels.{levelOf}
-use Rattle.progress.specs.Knows.{Knows, Follows, StepsTo}
+use Rattle.progress.specs.Knows.{Knows, Follows, FollowsStroke, StepsTo, StrikesTo}
 use Rattle.progress.specs.declared.Progress.{Progress}
 use Rattle.progress.specs.declared.Stepped.the-variants.{Next, Fault}
+use Rattle.progress.specs.declared.Struck.the-variants as struck
 use Rattle.plain.specs.Plain.{isPlain, faultOf}
-use Rattle.plain.proofs.Keeps.{Keeps, keeps-itself, still-known, after-keeps}
+use Rattle.plain.proofs.Keeps.{Keeps, keeps-itself, still-known, move-keeps, after-keeps}
 use Rattle.plain.proofs.Steps.{plain-step}
 
 module _ (p : Progress) (c : Command) (text : List ℕ) (place : ℕ) (q : isPlain c ≡ true) (l : Level) (at : l ≡ levelOf p) where
@@ -53,6 +58,27 @@ module _ (p : Progress) (c : Command) (text : List ℕ) (place : ℕ) (q : isPla
         subst (λ t. Knows w r (t .next)) (sym (plain-step (roomOf w) text place s c q))
             (rw r-is (subst (λ h. Knows w (withGraphics h p) (state.withGraphics (after c (s .graphics)) s)) same known)),
       )
+
+-- D02
+module _ (p : Progress) (x y : Axis) where
+  move-fault : (w : Lent) (s : State) → Knows w p s → moveStep x y s .fault ≡ moveFault (p .graphics) x y
+  unfolding moveStep
+  move-fault w s k = λ i. moveFault (sym (k .graphics) i) x y
+
+  pub move-refuses : (n : ℕ) → n ≡ moveFault (p .graphics) x y → (n ≡ 0 → ⊥) → StrikesTo (λ room s. moveStep x y s) (λ w. Unit) (λ w. w) p (struck.Fault n)
+  unfolding FollowsStroke Follows
+  move-refuses n e some w s u k = (move-fault w s k ∙ sym e, omega (arith, some))
+
+  pub move-goes-on :
+      (at : Point) (region : Region)
+      → at ≡ target (p .graphics) x y
+      → region ≡ ended (p .graphics .region)
+      → moveFault (p .graphics) x y ≡ 0
+      → StrikesTo (λ room s. moveStep x y s) (λ w. Unit) (λ w. w) p (struck.Next (record { at = at; region = region; builder = p .builder; contour = p .contour }))
+  unfolding FollowsStroke Follows moveStep afterOperation goingTo
+  move-goes-on at region at-is region-is e w s u k =
+      let zero : moveFault (s .graphics) x y ≡ 0 = rw (k .graphics) at e in
+      (zero, rw (at-is, region-is, k .graphics) (still-known w p s k _ (move-keeps (s .graphics) (keeps-itself w p s k) x y zero)))
 
 -- TF: nothing of its name is kept but that it is set
 module _ (p : Progress) (name : List ℕ) (again : Bool) (w : Lent) (s : State) (e : again ≡ isAmong name (s .names)) (k : Knows w p s) where

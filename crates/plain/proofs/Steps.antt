@@ -4,27 +4,16 @@ use Prim.Native.Nat.{ℕ}
 use mathlib.Core.Path.{_≡_, refl}
 use mathlib.Core.Bool.{true, false≢true}
 use mathlib.Core.List.{List}
-use Rattle.command.specs.declared.Operation.{Operation}
-use Rattle.command.specs.declared.Operation.the-variants as operation
 use Rattle.command.specs.declared.Deed.{Deed}
 use Rattle.command.specs.declared.Deed.the-variants as deed
 use Rattle.command.specs.declared.Command.{Command}
 use Rattle.command.specs.declared.Command.the-variants.{Broken, Note, End, Set, Operate, Coded, Select, Define, Contain, Attribute}
 use Rattle.changes.specs.After.{after}
 use Rattle.reading.specs.State.{Room, State}
-use Rattle.reading.specs.Steps.{does, withGraphics, settingStep, moveStep, operationStep, deedStep, stepOf}
-use Rattle.plain.specs.Plain.{isPlainOperation, isPlainDeed, isPlain, operationFault, deedFault, faultOf}
+use Rattle.reading.specs.Steps.{does, withGraphics, settingStep, deedStep, stepOf}
+use Rattle.plain.specs.Plain.{isPlainDeed, isPlain, deedFault, faultOf}
 
 module _ (room : Room) (text : List ℕ) (place : ℕ) (s : State) where
-  operation-step :
-      (o : Operation)
-      → isPlainOperation o ≡ true
-      → operationStep room place o s ≡ does (operationFault (s .graphics) o) (withGraphics (after (Operate o) (s .graphics)) s)
-  unfolding isPlainOperation operationStep moveStep operationFault after
-  operation-step (operation.Move x y) q = refl
-  operation-step (operation.Draw x y o) q = absurd (false≢true q)
-  operation-step (operation.Flash x y) q = absurd (false≢true q)
-
   deed-step : (d : Deed) → isPlainDeed d ≡ true → deedStep text d s ≡ does (deedFault (s .graphics) d) s
   unfolding isPlainDeed deedStep deedFault
   deed-step (deed.SetFile name value) q = absurd (false≢true q)
@@ -42,7 +31,7 @@ module _ (room : Room) (text : List ℕ) (place : ℕ) (s : State) where
   plain-step Note q = refl
   plain-step End q = refl
   plain-step (Set x) q = refl
-  plain-step (Operate o) q = operation-step o q
+  plain-step (Operate o) q = absurd (false≢true q)
   plain-step (Coded code o) q = absurd (false≢true q)
   plain-step (Attribute d) q = deed-step d q
   plain-step (Select n) q = absurd (false≢true q)

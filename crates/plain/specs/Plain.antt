@@ -1,24 +1,15 @@
--- The plain commands: those that read and write none of the lent rooms. They set the graphics state, or nothing (01, State).
+-- The plain commands: those that read and write none of the lent rooms, but D02. They set the graphics state, or nothing (01, State).
 use Prim.Native.Nat.{ℕ}
 use mathlib.Core.Bool.{Bool, true, false}
 use Rattle.command.specs.Flaws.{flawNumber}
-use Rattle.command.specs.declared.Operation.{Operation}
-use Rattle.command.specs.declared.Operation.the-variants as operation
 use Rattle.command.specs.declared.Deed.{Deed}
 use Rattle.command.specs.declared.Deed.the-variants as deed
 use Rattle.command.specs.declared.Command.{Command}
 use Rattle.command.specs.declared.Command.the-variants.{Broken, Note, End, Set, Operate, Coded, Select, Define, Contain, Attribute}
 use Rattle.graphics.specs.declared.Graphics.{Graphics}
 use Rattle.graphics.specs.declared.Level.{Level}
-use Rattle.drawing.specs.Faults.{moveFault}
 use Rattle.rules.specs.Settings.{settingFault}
 use Rattle.rules.specs.Rules.{regionFault, endFault}
-
--- D02
-unfoldable pub isPlainOperation : Operation → Bool
-isPlainOperation (operation.Move x y) = true
-isPlainOperation (operation.Draw x y o) = false
-isPlainOperation (operation.Flash x y) = false
 
 -- all but TF, whose name is looked for among those that are set
 unfoldable pub isPlainDeed : Deed → Bool
@@ -33,7 +24,7 @@ isPlain (Broken flaw) = true
 isPlain Note = true
 isPlain End = true
 isPlain (Set s) = true
-isPlain (Operate o) = isPlainOperation o
+isPlain (Operate o) = false
 isPlain (Coded code o) = false
 isPlain (Attribute d) = isPlainDeed d
 isPlain (Select n) = false
@@ -41,11 +32,6 @@ isPlain (Define d) = false
 isPlain (Contain b) = false
 
 -- the fault of a plain command, 0 for none; of the others nothing is asked here
-unfoldable pub operationFault : Graphics → Operation → ℕ
-operationFault g (operation.Move x y) = moveFault g x y
-operationFault g (operation.Draw x y o) = 0
-operationFault g (operation.Flash x y) = 0
-
 unfoldable pub deedFault : Graphics → Deed → ℕ
 deedFault g (deed.SetFile name value) = 0
 deedFault g (deed.SetAperture name value) = regionFault g
@@ -58,7 +44,7 @@ faultOf g l (Broken flaw) = flawNumber flaw
 faultOf g l Note = 0
 faultOf g l End = endFault g l
 faultOf g l (Set s) = settingFault g s
-faultOf g l (Operate o) = operationFault g o
+faultOf g l (Operate o) = 0
 faultOf g l (Coded code o) = 0
 faultOf g l (Attribute d) = deedFault g d
 faultOf g l (Select n) = 0
