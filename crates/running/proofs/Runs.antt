@@ -3,8 +3,8 @@
 use Rattle.formats.specs.Format.{noFormat}
 use Rattle.formats.specs.declared.Format.{Format}
 use Prim.Native.Nat.{ℕ, _+_, _<_, _≤_}
-use mathlib.Core.Path.{_≡_, refl, sym, _∙_, subst}
-use mathlib.Core.Bool.{Bool}
+use mathlib.Core.Path.{_≡_, refl, sym, ap, _∙_, subst}
+use mathlib.Core.Bool.{Bool, false}
 use mathlib.Core.List.{List}
 use native.Mathlib.Omega.{arith}
 use lib.IntN.{ℤ}
@@ -13,6 +13,10 @@ use lib.Seq.{slice}
 use Rattle.book.specs.declared.Book.{Book}
 use Rattle.scan.specs.Tail.{tailOf}
 use Rattle.command.specs.Rounded.{roundedOf}
+use Rattle.command.specs.declared.Command.{Command}
+use Rattle.command.specs.declared.Command.the-variants as command
+use Rattle.names.specs.Sets.{setsOf}
+use Rattle.names.specs.declared.Sets.the-variants as sets
 use Rattle.commands.specs.Turns.{turnOf, tailFault}
 use Rattle.commands.specs.declared.Placed.{Placed}
 use Rattle.commands.specs.declared.Refusal.{Refusal}
@@ -20,17 +24,27 @@ use Rattle.commands.specs.declared.Turn.the-variants as turn
 use Rattle.graphics.specs.Graphics as graphics
 use Rattle.reading.specs.State.{Room, State, begun}
 use Rattle.reading.specs.Reading.{refused, stepAt}
-use Rattle.progress.specs.Lent.{Lent, lentOf, roomOf}
+use Rattle.progress.specs.Lent.{Lent, lentOf, roomOf, withEntries}
+use Rattle.progress.specs.Strokes.{withStroke}
+use Rattle.progress.specs.declared.Stroke.{Stroke}
+use Rattle.progress.specs.declared.Struck.{Struck}
+use Rattle.progress.specs.declared.Struck.the-variants as struck
+use Rattle.progress.specs.declared.Struck.the-variants.{Other}
 use Rattle.progress.specs.Knows.{Knows, Known, Follows}
 use Rattle.progress.specs.declared.Progress.{Progress}
 use Rattle.progress.specs.declared.Stepped.{Stepped}
 use Rattle.progress.specs.declared.Stepped.the-variants.{Next, Fault}
-use Rattle.steps.specs.Steps.{Sound, Again, Reads}
+use Rattle.steps.specs.Steps.{Sound, Again, Reads, Operates}
+use Rattle.steps.specs.Coded.{heldIn, codeFault, behindCode}
+use Rattle.steps.specs.declared.Held.the-variants.{Nothing}
+use Rattle.steps.proofs.Arms.{known-of, same-entries}
+use Rattle.steps.proofs.Coded.{known-behind}
+use Rattle.steps.proofs.Strokes.{operated-none, operated-some, behind-none, steppedBy, strikes}
 use Rattle.running.specs.declared.Judged.the-variants.{Told, Asks}
 use Rattle.running.specs.declared.Repeat.{Repeat}
 use Rattle.running.specs.declared.Repeat.the-variants as repeat
 use Rattle.running.specs.Ends.{start, Empty, AsLong, answerOf, settled, Ends, Looked}
-use Rattle.running.specs.Judged.{judgedOf}
+use Rattle.running.specs.Judged.{judgedAs, judgedOf}
 use Rattle.running.proofs.Begun.{knows-start}
 use Rattle.running.proofs.After.{names-after}
 use Rattle.running.proofs.Counting.{counted-start}
@@ -132,6 +146,62 @@ module _ (book : Book) (file : List ℕ) (w₀ w : Lent) (p : Progress) (n : For
           running = goes book file (roomOf w₀) (answerOf book w₀) w p n at set rounded (r .state) (r .running) e w′ p′ named
               (subst (Follows (Knows w′) (stepAt (roomOf w₀) file c (r .state))) q more-follows);
         }
+
+-- an operation sets no name, and has no decimal that is rounded
+operation-plain : (c : Command) → (heldIn c ≡ Nothing → ⊥) → (setsOf c ≡ sets.Nothing) × (roundedOf c ≡ 0)
+unfolding heldIn setsOf roundedOf
+operation-plain (command.Operate o) some = (refl, refl)
+operation-plain (command.Coded code o) some = (refl, refl)
+operation-plain (command.Broken flaw) some = absurd (some refl)
+operation-plain command.Note some = absurd (some refl)
+operation-plain command.End some = absurd (some refl)
+operation-plain (command.Set s) some = absurd (some refl)
+operation-plain (command.Select n) some = absurd (some refl)
+operation-plain (command.Define d) some = absurd (some refl)
+operation-plain (command.Contain b) some = absurd (some refl)
+operation-plain (command.Attribute d) some = absurd (some refl)
+
+-- a turn that is an operation, or none
+module _ (book : Book) (file : List ℕ) (w₀ w : Lent) (p : Progress) (n : Format) (at set rounded : ℕ) (r : Runs book file w₀ w p n at set rounded)
+    {c : Placed} {m : Format} {next : ℕ} (e : turnOf book n file at ≡ turn.More c m next) where
+  pub known-entries : Known (λ x. x .entries ≡ w .entries) (behindCode (c .command) p)
+  known-entries =
+      known-behind (c .command) (λ x. x .entries ≡ w .entries) p
+      (known-of (λ x. x ≡ w) (λ x. x .entries ≡ w .entries) p (λ x q. ap (λ (l : Lent). l .entries) q) (known book file w₀ w p n at set rounded r))
+
+  module _ {fault place : ℕ} {e′ : List ℕ} {struck : Struck} (fault-is : fault ≡ codeFault (p .graphics) (c .command)) (place-is : place ≡ c .place)
+      (op : Operates fault place (heldIn (c .command)) (w .entries) e′ (behindCode (c .command) p) struck) where
+    module _ (some : struck ≡ Other → ⊥) where
+      plain-one : (setsOf (c .command) ≡ sets.Nothing) × (roundedOf (c .command) ≡ 0)
+      plain-one = operation-plain (c .command) (operated-some _ _ (heldIn (c .command)) _ _ _ struck op some)
+
+      none-named : judgedOf book file c set repeat.Unknown ≡ Told false set
+      unfolding judgedOf judgedAs
+      none-named = rw (plain-one .0) refl
+
+      reads : Reads w (withEntries e′ w) p c false (steppedBy (behindCode (c .command) p) struck)
+      reads s k told =
+          strikes w e′ (slice (c .from) (c .end) (w .file)) (c .place) p s k struck some (c .command) (rw (fault-is, place-is) at op)
+
+      pub stroke-refuses : {k : ℕ} → struck ≡ struck.Fault k → answerOf book w₀ ≡ refused k (c .place)
+      unfolding steppedBy
+      stroke-refuses q =
+          runs-refuses book file w₀ w p n at set rounded r e repeat.Unknown tt none-named (withEntries e′ w) _ reads (ap (steppedBy (behindCode (c .command) p)) q)
+
+      pub stroke-goes : {s : Stroke} → struck ≡ struck.Next s → length e′ ≡ length (w .entries) →
+          Runs book file w₀ (withEntries e′ w) (withStroke s (behindCode (c .command) p)) m next set rounded
+      unfolding steppedBy withEntries
+      stroke-goes q long =
+          let same : rounded + roundedOf (c .command) ≡ rounded = let z = plain-one .1 in omega (arith, z) in
+          rw same at
+          (runs-goes book file w₀ w p n at set rounded r e repeat.Unknown tt none-named (withEntries e′ w) _ reads (r .file-is)
+          (record { entries-long = long; apertures-long = refl; macros-long = refl; numbers-long = refl }) (ap (steppedBy (behindCode (c .command) p)) q))
+
+    -- no operation: nothing has changed
+    pub stroke-none : struck ≡ Other → (heldIn (c .command) ≡ Nothing) × Runs book file w₀ (withEntries e′ w) (behindCode (c .command) p) n at set rounded
+    stroke-none q =
+        let none = operated-none _ _ (heldIn (c .command)) _ _ _ known-entries (rw q at op) in
+        (none .0, rw (behind-none (c .command) p (none .0), none .1, sym (same-entries w refl)) r)
 
 pub longer : (file e a m e′ a′ m′ : List ℕ) (n n′ : List ℤ) → length e′ ≡ length e → length a′ ≡ length a → length m′ ≡ length m → length n′ ≡ length n →
     AsLong (lentOf file e a m n) (lentOf file e′ a′ m′ n′)

@@ -2,29 +2,32 @@
 -- Assumes nothing.
 use Prim.Native.Nat.{ℕ, zero, suc, _≤_}
 use mathlib.Core.Path.{_≡_, refl, sym, ap, subst, _∙_}
-use mathlib.Core.Bool.{Bool, true, false, cond}
+use mathlib.Core.Bool.{Bool, true, false, cond, false≢true}
 use native.Mathlib.Omega.{arith}
 use lib.Dec.{eqb}
 use borrow.Author.Tests.{eqb-true, eqb-false, eq-eqb}
 use Rattle.base.specs.Choose.{pick}
 use Rattle.command.specs.declared.Setting.{Setting}
-use Rattle.command.specs.declared.Operation.{Operation}
+use Rattle.command.specs.declared.Operation as operation
+use Rattle.command.specs.declared.Command.{Command}
+use Rattle.command.specs.declared.Command.the-variants as command
 use Rattle.graphics.specs.declared.Graphics.{Graphics}
 use Rattle.changes.specs.After.{afterSetting}
-use Rattle.rules.specs.Settings.{settingFault}
 use Rattle.faults.specs.Order.{sooner}
 use Rattle.faults.proofs.Laws.{sooner-first}
-use Rattle.reading.specs.State.{Room, State}
-use Rattle.reading.specs.Steps as state
-use Rattle.reading.specs.Steps.{Step, settingStep, operationStep, codedStep}
+use Rattle.reading.specs.State.{State}
+use Rattle.reading.specs.Steps.{Step, settingStep}
 use Rattle.progress.specs.Parts.{withGraphics}
-use Rattle.progress.specs.Lent.{Lent, roomOf, withEntries}
-use Rattle.progress.specs.Knows.{Knows, Known, Follows, StepsTo}
+use Rattle.progress.specs.Lent.{Lent}
+use Rattle.progress.specs.Knows.{Knows, Known, Follows, FollowsStroke}
 use Rattle.progress.specs.declared.Progress.{Progress}
-use Rattle.progress.specs.declared.Stepped.{Stepped}
-use Rattle.progress.specs.declared.Stepped.the-variants.{Next, Fault}
+use Rattle.progress.specs.declared.Struck.{Struck}
+use Rattle.progress.specs.declared.Struck.the-variants.{Next, Fault, Other}
 use Rattle.plain.proofs.Keeps.{keeps-itself, still-known, setting-keeps}
-use Rattle.steps.specs.Coded.{joined}
+use Rattle.steps.specs.Coded.{behindCode, joined}
+use Rattle.steps.specs.Steps.{behindFault}
+use Rattle.steps.specs.declared.Held.{Held}
+use Rattle.steps.specs.declared.Held.the-variants.{Operation, Nothing}
 
 -- a number that is some stays some beside another
 pub sooner-some : (a b : ℕ) → 1 ≤ b → 1 ≤ sooner a b
@@ -50,20 +53,44 @@ unfolding settingStep
 behind-is w p s k code a e =
     rw (e, a, k .graphics) (still-known w p s k _ (setting-keeps (s .graphics) (keeps-itself w p s k) code))
 
--- a code at a state that is known, and what the operation comes to in the state behind it
-module _ (w w′ : Lent) (p : Progress) (s : State) (k : Knows w p s) (place : ℕ) (code : Setting) (o : Operation) where
-  pub coded-follows :
-      (fault : ℕ) (r : Stepped)
-      → fault ≡ settingFault (s .graphics) code
-      → Follows (Knows w′) (operationStep (roomOf w) place o (settingStep code s .next)) r
-      → Follows (Knows w′) (codedStep (roomOf w) place code o s) (joined fault r)
-  unfolding Follows codedStep settingStep joined
-  coded-follows fault (Fault n) e f = (rw (← e, f .0) refl, sooner-some fault n (f .1))
-  coded-follows fault (Next q) e f = go (eqb fault 0) refl
-    where
-      go : (t : Bool) → eqb fault 0 ≡ t → Follows (Knows w′) (codedStep (roomOf w) place code o s) (cond t (Next q) (Fault fault))
-      go true z = let none = eqb-true fault 0 z in (rw (← e, f .0, sooner-none fault) none, f .1)
-      go false z = (rw (← e, f .0) (sooner-none fault), some fault (eqb-false fault 0 z))
-        where
-          some : (n : ℕ) → (n ≡ 0 → ⊥) → 1 ≤ n
-          some n ne = omega arith
+-- an operation is held, or none is
+is-some : Held → Bool
+is-some (Operation o) = true
+is-some Nothing = false
+
+pub none-held : {o : operation.Operation} → Operation o ≡ Nothing → ⊥
+unfolding is-some
+none-held e = false≢true (sym (ap is-some e))
+
+-- an operation, and the fault of the code before it
+pub joined-strikes : (K : Progress → State → Type 0) (t : Step) (p : Progress) (fault : ℕ) (r : Struck) → FollowsStroke K t p r → FollowsStroke K (behindFault fault t) p (joined fault r)
+unfolding FollowsStroke Follows joined
+joined-strikes K t p fault (Fault n) f = (rw (f .0) refl, sooner-some fault n (f .1))
+joined-strikes K t p fault Other f = f
+joined-strikes K t p fault (Next q) f = go (eqb fault 0) refl
+  where
+    go : (z : Bool) → eqb fault 0 ≡ z → FollowsStroke K (behindFault fault t) p (cond z (Next q) (Fault fault))
+    go true z = let none = eqb-true fault 0 z in (rw (f .0, sooner-none fault) none, f .1)
+    go false z = (rw (f .0) (sooner-none fault), some fault (eqb-false fault 0 z))
+      where
+        some : (n : ℕ) → (n ≡ 0 → ⊥) → 1 ≤ n
+        some n ne = omega arith
+
+-- what is known before a command is known behind its code
+pub known-behind : (c : Command) (lends : Lent → Type 0) (p : Progress) → Known lends p → Known lends (behindCode c p)
+unfolding behindCode
+known-behind (command.Coded code o) lends p k = record {
+  lent = k .lent;
+  state = settingStep code (k .state) .next;
+  is = k .is;
+  knows = behind-is (k .lent) p (k .state) (k .knows) code refl refl;
+}
+known-behind (command.Operate o) lends p k = k
+known-behind (command.Broken flaw) lends p k = k
+known-behind command.Note lends p k = k
+known-behind command.End lends p k = k
+known-behind (command.Set x) lends p k = k
+known-behind (command.Select n) lends p k = k
+known-behind (command.Define d) lends p k = k
+known-behind (command.Contain b) lends p k = k
+known-behind (command.Attribute d) lends p k = k

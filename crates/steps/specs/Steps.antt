@@ -13,12 +13,17 @@ use Rattle.commands.specs.declared.Placed.{Placed}
 use Rattle.bounds.specs.Bounded.{Bounded}
 use Rattle.reading.specs.State.{State}
 use Rattle.reading.specs.Apertures.{isAmong}
-use Rattle.reading.specs.Steps.{part}
+use Rattle.faults.specs.Order.{sooner}
+use Rattle.reading.specs.Steps.{Step, does, part, operationStep}
 use Rattle.reading.specs.Reading.{stepAt}
-use Rattle.progress.specs.Lent.{Lent, roomOf}
-use Rattle.progress.specs.Knows.{Knows, Follows}
+use Rattle.progress.specs.Lent.{Lent, roomOf, withEntries}
+use Rattle.progress.specs.Knows.{Knows, Follows, StrikesTo}
 use Rattle.progress.specs.declared.Progress.{Progress}
 use Rattle.progress.specs.declared.Stepped.{Stepped}
+use Rattle.progress.specs.declared.Struck.{Struck}
+use Rattle.progress.specs.declared.Struck.the-variants.{Other}
+use Rattle.steps.specs.declared.Held.{Held}
+use Rattle.steps.specs.declared.Held.the-variants.{Operation, Nothing}
 
 -- a command as the scanner and the recogniser leave it
 pub record Sound (file : List ℕ) (c : Placed) : Type 0 where
@@ -36,3 +41,12 @@ Again file c again s = (d : Deed) → c .command ≡ Attribute d → AgainBy (sl
 -- w before the step, w′ behind it
 abbrev pub Reads : Lent → Lent → Progress → Placed → Bool → Stepped → Type 0
 Reads w w′ p c again r = (s : State) → Knows w p s → Again (w .file) c again s → Follows (Knows w′) (stepAt (roomOf w) (w .file) c s) r
+
+-- the step of an operation behind a code with this fault
+abbrev pub behindFault : ℕ → Step → Step
+behindFault fault t = does (sooner fault (t .fault)) (t .next)
+
+-- e before it, e′ behind it: the operation of a command, from p on; a command that has none leaves the entries
+unfoldable pub Operates : ℕ → ℕ → Held → List ℕ → List ℕ → Progress → Struck → Type 0
+Operates fault place (Operation o) e e′ p r = StrikesTo (λ room s. behindFault fault (operationStep room place o s)) (λ w. w .entries ≡ e) (withEntries e′) p r
+Operates fault place Nothing e e′ p r = (r ≡ Other) × (e′ ≡ e)

@@ -6,12 +6,13 @@ ghost use lib.ListN.{length};
 ghost use lib.Seq.{slice};
 ghost use Rattle.bounds.specs.Bounded.{DefinitionBounded, BracketBounded};
 ghost use Rattle.reading.specs.State.{State};
-ghost use Rattle.reading.specs.Steps.{operationStep, codedStep, definitionStep, bracketStep, deedStep};
+ghost use Rattle.reading.specs.Steps.{operationStep, definitionStep, bracketStep, deedStep};
 ghost use Rattle.progress.specs.Knows.{Knows, Known, Follows, StepsTo, StrikesTo};
 ghost use Rattle.progress.specs.Lent.{Lent, lentOf, withEntries, withApertures, withMacros, withNumbers};
 ghost use Rattle.definitions.specs.Lends.{Lends};
 ghost use Rattle.steps.specs.Steps.{Sound, AgainBy, Reads, Operates};
-ghost use Rattle.steps.specs.Coded.{joined};
+ghost use Rattle.steps.specs.Coded.{heldIn, codeFault, behindCode, joined};
+ghost use Rattle.steps.specs.declared.Held.the-variants.{Nothing};
 use command::Bracket;
 use command::Command;
 use command::Deed;
@@ -192,7 +193,7 @@ pub fn operation(e: &mut [u64], p: Progress, fault: u64, place: u64, c: Command)
     }
 }
 
-// The command c; `again` says of a TF whether its name was set before.
+// The command c, which is no operation; `again` says of a TF whether its name was set before.
 pub fn step(
     file: &[u8],
     e: &mut [u64],
@@ -205,6 +206,7 @@ pub fn step(
 ) -> Stepped
     requires { ⌜ Known (λ w. w ≡ lentOf (now file) (now e) (now a) (now m) (now numbers)) p ⌝ }
     requires { ⌜ Sound (now file) c ⌝ }
+    requires { ⌜ heldIn (c .command) ≡ Nothing ⌝ }
     ensures { λ r. ⌜ (length (now (e .exit)) ≡ length (now (e .entry)))
         × (length (now (a .exit)) ≡ length (now (a .entry)))
         × (length (now (m .exit)) ≡ length (now (m .entry)))

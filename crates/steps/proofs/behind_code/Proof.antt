@@ -1,0 +1,110 @@
+-- `steps::behind_code` meets its contract, role by role.
+-- Assumes nothing.
+use Rattle.steps.specs.Coded.{behindCode}
+use mathlib.Core.Path.{refl}
+use borrow.Author.Needs.{needs}
+use Rattle.steps.proofs.behind_code.Statement.{statement}
+use Rattle.steps.proofs.behind_code.Tie as tie
+
+enum-known-c : tie.Need-enum-known-c
+enum-known-c c = search needs
+
+after-setting-requires : tie.Need-after-setting-requires
+after-setting-requires c κs = search needs
+
+with-graphics-requires : tie.Need-with-graphics-requires
+with-graphics-requires c κs = search needs
+
+enum-told : tie.Need-enum-told
+enum-told c = search needs
+
+enum-told-2 : tie.Need-enum-told-2
+enum-told-2 c = search needs
+
+enum-told-3 : tie.Need-enum-told-3
+enum-told-3 c = search needs
+
+enum-told-4 : tie.Need-enum-told-4
+enum-told-4 c = search needs
+
+enum-told-5 : tie.Need-enum-told-5
+enum-told-5 c = search needs
+
+enum-told-6 : tie.Need-enum-told-6
+enum-told-6 c = search needs
+
+enum-told-7 : tie.Need-enum-told-7
+enum-told-7 c = search needs
+
+enum-told-8 : tie.Need-enum-told-8
+enum-told-8 c = search needs
+
+enum-told-9 : tie.Need-enum-told-9
+enum-told-9 c = search needs
+
+returns : tie.Need-returns
+unfolding behindCode
+returns c = rw (c .with-graphics .ensures, c .before .after-setting .ensures, c .before .before .before .c .given .1) refl
+
+returns-2 : tie.Need-returns-2
+unfolding behindCode
+returns-2 c = rw (c .enum-told .given .1) refl
+
+returns-3 : tie.Need-returns-3
+unfolding behindCode
+returns-3 c = rw (c .enum-told2 .given .1) refl
+
+returns-4 : tie.Need-returns-4
+unfolding behindCode
+returns-4 c = rw (c .enum-told3 .given .1) refl
+
+returns-5 : tie.Need-returns-5
+unfolding behindCode
+returns-5 c = rw (c .enum-told4 .given .1) refl
+
+returns-6 : tie.Need-returns-6
+unfolding behindCode
+returns-6 c = rw (c .enum-told5 .given .1) refl
+
+returns-7 : tie.Need-returns-7
+unfolding behindCode
+returns-7 c = rw (c .enum-told6 .given .1) refl
+
+returns-8 : tie.Need-returns-8
+unfolding behindCode
+returns-8 c = rw (c .enum-told7 .given .1) refl
+
+returns-9 : tie.Need-returns-9
+unfolding behindCode
+returns-9 c = rw (c .enum-told8 .given .1) refl
+
+returns-10 : tie.Need-returns-10
+unfolding behindCode
+returns-10 c = rw (c .enum-told9 .given .1) refl
+
+pub behind-code-spec : {M : Type 1} → statement M
+behind-code-spec =
+    tie.close
+    (tie.spec
+    enum-known-c
+    after-setting-requires
+    with-graphics-requires
+    enum-told
+    enum-told-2
+    enum-told-3
+    enum-told-4
+    enum-told-5
+    enum-told-6
+    enum-told-7
+    enum-told-8
+    enum-told-9
+    returns
+    returns-2
+    returns-3
+    returns-4
+    returns-5
+    returns-6
+    returns-7
+    returns-8
+    returns-9
+    returns-10)
