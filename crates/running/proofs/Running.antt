@@ -30,6 +30,8 @@ use Rattle.progress.specs.Knows.{Knows, Follows}
 use Rattle.progress.specs.declared.Progress.{Progress}
 use Rattle.progress.specs.declared.Stepped.{Stepped}
 use Rattle.progress.specs.declared.Stepped.the-variants.{Next, Fault}
+use Rattle.steps.specs.Coded.{heldIn}
+use Rattle.steps.specs.declared.Held.the-variants.{Nothing}
 use Rattle.steps.specs.Steps.{Sound, Again}
 use Rattle.running.specs.declared.End.the-variants as end
 use Rattle.running.specs.Ends.{settled, Ends}
@@ -86,6 +88,10 @@ module _ (book : Book) (file : List ℕ) (room : Room) (answer : Answer) (w : Le
 
     pub last-sound : Sound file c
     last-sound = last-says .0
+
+    pub last-none : heldIn (c .command) ≡ Nothing
+    unfolding heldIn
+    last-none = ap heldIn (last-says .1)
 
     pub last-again : (again : Bool) → Again file c again s
     unfolding Again

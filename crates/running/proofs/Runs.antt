@@ -4,7 +4,7 @@ use Rattle.formats.specs.Format.{noFormat}
 use Rattle.formats.specs.declared.Format.{Format}
 use Prim.Native.Nat.{ℕ, _+_, _<_, _≤_}
 use mathlib.Core.Path.{_≡_, refl, sym, ap, _∙_, subst}
-use mathlib.Core.Bool.{Bool, false}
+use mathlib.Core.Bool.{Bool, true, false, false≢true}
 use mathlib.Core.List.{List}
 use native.Mathlib.Omega.{arith}
 use lib.IntN.{ℤ}
@@ -49,7 +49,7 @@ use Rattle.running.proofs.Begun.{knows-start}
 use Rattle.running.proofs.After.{names-after}
 use Rattle.running.proofs.Counting.{counted-start}
 use Rattle.running.proofs.Naming.{NamesAt, names-start, names-few, asks, told-again, names-on}
-use Rattle.running.proofs.Running.{Running, stops, last-sound, last-again, ends, more-sound, counted-fits, refuses, goes}
+use Rattle.running.proofs.Running.{Running, stops, last-sound, last-none, last-again, ends, more-sound, counted-fits, refuses, goes}
 
 pub record Runs (book : Book) (file : List ℕ) (w₀ : Lent) (w : Lent) (p : Progress) (n : Format) (at set rounded : ℕ) : Type 0 where
   pub state : State
@@ -106,6 +106,9 @@ module _ (book : Book) (file : List ℕ) (w₀ w : Lent) (p : Progress) (n : For
     pub sound-last : Sound file c
     sound-last = last-sound book file (roomOf w₀) (answerOf book w₀) w p n at set rounded (r .state) (r .running) e
 
+    pub held-last : heldIn (c .command) ≡ Nothing
+    held-last = last-none book file (roomOf w₀) (answerOf book w₀) w p n at set rounded (r .state) (r .running) e
+
     pub runs-ends : (w′ : Lent) (again : Bool) (x : Stepped) → w′ .file ≡ file → Reads w w′ p c again x → Ends book (answerOf book w₀) w′ (settled x (c .place) (tailFault (tailOf file next)) rounded)
     runs-ends w′ again x same step =
         ends book file (roomOf w₀) (answerOf book w₀) w p n at set rounded (r .state) (r .running) e w′ x same
@@ -161,47 +164,64 @@ operation-plain (command.Define d) some = absurd (some refl)
 operation-plain (command.Contain b) some = absurd (some refl)
 operation-plain (command.Attribute d) some = absurd (some refl)
 
+is-other : Struck → Bool
+is-other (struck.Next s) = false
+is-other (struck.Fault n) = false
+is-other Other = true
+
+no-stroke : {s : Stroke} → struck.Next s ≡ Other → ⊥
+unfolding is-other
+no-stroke q = false≢true (ap is-other q)
+
+no-fault : {k : ℕ} → struck.Fault k ≡ Other → ⊥
+unfolding is-other
+no-fault q = false≢true (ap is-other q)
+
 -- a turn that is an operation, or none
 module _ (book : Book) (file : List ℕ) (w₀ w : Lent) (p : Progress) (n : Format) (at set rounded : ℕ) (r : Runs book file w₀ w p n at set rounded)
     {c : Placed} {m : Format} {next : ℕ} (e : turnOf book n file at ≡ turn.More c m next) where
-  pub known-entries : Known (λ x. x .entries ≡ w .entries) (behindCode (c .command) p)
-  known-entries =
-      known-behind (c .command) (λ x. x .entries ≡ w .entries) p
-      (known-of (λ x. x ≡ w) (λ x. x .entries ≡ w .entries) p (λ x q. ap (λ (l : Lent). l .entries) q) (known book file w₀ w p n at set rounded r))
+  pub known-entries : {q : Progress} → q ≡ behindCode (c .command) p → Known (λ x. x .entries ≡ w .entries) q
+  known-entries q-is =
+      rw q-is
+      (known-behind (c .command) (λ x. x .entries ≡ w .entries) p
+      (known-of (λ x. x ≡ w) (λ x. x .entries ≡ w .entries) p (λ x q. ap (λ (l : Lent). l .entries) q) (known book file w₀ w p n at set rounded r)))
 
-  module _ {fault place : ℕ} {e′ : List ℕ} {struck : Struck} (fault-is : fault ≡ codeFault (p .graphics) (c .command)) (place-is : place ≡ c .place)
-      (op : Operates fault place (heldIn (c .command)) (w .entries) e′ (behindCode (c .command) p) struck) where
-    module _ (some : struck ≡ Other → ⊥) where
+  module _ {fault place : ℕ} (e′ : List ℕ) {q : Progress} {hit : Struck} (fault-is : fault ≡ codeFault (p .graphics) (c .command)) (place-is : place ≡ c .place)
+      (q-is : q ≡ behindCode (c .command) p) (op : Operates fault place (heldIn (c .command)) (w .entries) e′ q hit) where
+    module _ (some : hit ≡ Other → ⊥) where
       plain-one : (setsOf (c .command) ≡ sets.Nothing) × (roundedOf (c .command) ≡ 0)
-      plain-one = operation-plain (c .command) (operated-some _ _ (heldIn (c .command)) _ _ _ struck op some)
+      plain-one = operation-plain (c .command) (operated-some _ _ (heldIn (c .command)) _ e′ _ hit op some)
 
       none-named : judgedOf book file c set repeat.Unknown ≡ Told false set
       unfolding judgedOf judgedAs
       none-named = rw (plain-one .0) refl
 
-      reads : Reads w (withEntries e′ w) p c false (steppedBy (behindCode (c .command) p) struck)
+      reads : Reads w (withEntries e′ w) p c false (steppedBy q hit)
       reads s k told =
-          strikes w e′ (slice (c .from) (c .end) (w .file)) (c .place) p s k struck some (c .command) (rw (fault-is, place-is) at op)
+          rw q-is
+          (strikes w e′ (slice (c .from) (c .end) (w .file)) (c .place) p s k hit some (c .command) (rw (fault-is, place-is, q-is) at op))
 
-      pub stroke-refuses : {k : ℕ} → struck ≡ struck.Fault k → answerOf book w₀ ≡ refused k (c .place)
-      unfolding steppedBy
-      stroke-refuses q =
-          runs-refuses book file w₀ w p n at set rounded r e repeat.Unknown tt none-named (withEntries e′ w) _ reads (ap (steppedBy (behindCode (c .command) p)) q)
+    pub stroke-refuses : {k : ℕ} → hit ≡ struck.Fault k → answerOf book w₀ ≡ refused k (c .place)
+    unfolding steppedBy Looked
+    stroke-refuses is =
+        let some : hit ≡ Other → ⊥ = λ z. no-fault (sym is ∙ z) in
+        runs-refuses book file w₀ w p n at set rounded r e repeat.Unknown tt (none-named some) (withEntries e′ w) _ (reads some) (ap (steppedBy q) is)
 
-      pub stroke-goes : {s : Stroke} → struck ≡ struck.Next s → length e′ ≡ length (w .entries) →
-          Runs book file w₀ (withEntries e′ w) (withStroke s (behindCode (c .command) p)) m next set rounded
-      unfolding steppedBy withEntries
-      stroke-goes q long =
-          let same : rounded + roundedOf (c .command) ≡ rounded = let z = plain-one .1 in omega (arith, z) in
-          rw same at
-          (runs-goes book file w₀ w p n at set rounded r e repeat.Unknown tt none-named (withEntries e′ w) _ reads (r .file-is)
-          (record { entries-long = long; apertures-long = refl; macros-long = refl; numbers-long = refl }) (ap (steppedBy (behindCode (c .command) p)) q))
+    pub stroke-goes : {s : Stroke} → hit ≡ struck.Next s → length e′ ≡ length (w .entries) → Runs book file w₀ (withEntries e′ w) (withStroke s q) m next set rounded
+    unfolding steppedBy withEntries Looked
+    stroke-goes is long =
+        let some : hit ≡ Other → ⊥ = λ z. no-stroke (sym is ∙ z) in
+        let none = plain-one some .1 in
+        let same : rounded + roundedOf (c .command) ≡ rounded = omega (arith, none) in
+        rw same at
+        (runs-goes book file w₀ w p n at set rounded r e repeat.Unknown tt (none-named some) (withEntries e′ w) _ (reads some) (r .file-is)
+        (record { entries-long = long; apertures-long = refl; macros-long = refl; numbers-long = refl }) (ap (steppedBy q) is))
 
     -- no operation: nothing has changed
-    pub stroke-none : struck ≡ Other → (heldIn (c .command) ≡ Nothing) × Runs book file w₀ (withEntries e′ w) (behindCode (c .command) p) n at set rounded
-    stroke-none q =
-        let none = operated-none _ _ (heldIn (c .command)) _ _ _ known-entries (rw q at op) in
-        (none .0, rw (behind-none (c .command) p (none .0), none .1, sym (same-entries w refl)) r)
+    pub stroke-none : hit ≡ Other → (heldIn (c .command) ≡ Nothing) × Runs book file w₀ (withEntries e′ w) q n at set rounded
+    stroke-none is =
+        let none = operated-none _ _ (heldIn (c .command)) _ e′ _ (known-entries q-is) (rw is at op) in
+        (none .0, rw (q-is, behind-none (c .command) p (none .0), none .1, sym (same-entries w refl)) r)
 
 pub longer : (file e a m e′ a′ m′ : List ℕ) (n n′ : List ℤ) → length e′ ≡ length e → length a′ ≡ length a → length m′ ≡ length m → length n′ ≡ length n →
     AsLong (lentOf file e a m n) (lentOf file e′ a′ m′ n′)

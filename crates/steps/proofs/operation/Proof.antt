@@ -32,7 +32,7 @@ returns c =
     let held = done .before .before .before in (
       done .operate .ensures .0,
       rw (sym (held .before .before .held-in .ensures), held .held .given .1, c .joined .ensures)
-      (λ w s q k. joined-strikes _ _ _ _ _ (done .operate .ensures .1 w s q k)),
+          (λ w s q k. joined-strikes _ _ _ _ _ (done .operate .ensures .1 w s q k)),
     )
 
 returns-2 : tie.Need-returns-2
