@@ -340,7 +340,7 @@ static void apertures(const struct store *s)
     }
 }
 
-/* A line for each file attribute: its name and its value. By its name the value must be the same one where the name stands once. */
+/* A line for each file attribute: its name and its value. */
 static void label(struct bytes file)
 {
     uint64_t at, count, value_at, value_count, number;
@@ -351,8 +351,10 @@ static void label(struct bytes file)
         fwrite(file.at + value_at, 1, value_count, stdout);
         putchar('\n');
     }
-    if (number != SHEET_NOT_HELD)
+    if (number != SHEET_NOT_HELD) {
         printf("refused\t%" PRIu64 "\n", number);
+        tell_refusal("imager", number);
+    }
 }
 
 static void attribute(struct bytes file, const char *mode, int of_aperture, size_t place, const char *name)

@@ -24,7 +24,7 @@ for page in "$prefix"/share/man/man1/*.1; do
     ! command -v groff >/dev/null || [ -z "$(groff -man -ww -z "$page" 2>&1)" ] || fault "$(basename "$page") is not well-formed"
 done
 cp examples/*.gbr "$room"
-cp tests/install.c "$room"
+cp tests/install.c tests/shapes.c tests/shapes/strip.expected "$room"
 cp crates/listing/stdout "$room/want"
 
 # From here on nothing of the repository is used.
@@ -52,5 +52,8 @@ told=$(${emulator:+"$emulator"} ./host <strip.gbr)
 [ "$told" = "4 items, the last at 3008000000 5000000" ] || fault "a host built against the installed files says '$told'"
 told=$(${emulator:+"$emulator"} ./host </dev/null || true)
 [[ $told == "3 at 0: the file stops"* ]] || fault "of an empty file it says '$told'"
+# shellcheck disable=SC2086
+x86_64-linux-gnu-gcc -std=c11 -Wall -Wextra -Werror $static $flags shapes.c -o shapes $libraries
+${emulator:+"$emulator"} ./shapes <strip.gbr | cmp -s - strip.expected || fault "a host that opens layers by the installed store.h answers otherwise"
 echo "install: $(find "$prefix" -type f | wc -l) files, and a host built against them; $faults faults"
 [ "$faults" -eq 0 ]
