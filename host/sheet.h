@@ -303,12 +303,12 @@ struct sheet_primitive {
 /* What the parameters of each code are, in their order. Exposure is 0 or 1 (so 0 or 1000000), angles are in degrees. */
 enum sheet_code {
     SHEET_NO_CODE = 0,
-    SHEET_CIRCLE = 1,           /* exposure, diameter, centre x, centre y [, rotation] */
-    SHEET_OUTLINE = 4,          /* exposure, n, start x, start y, n further points, the last of them the start again, rotation */
-    SHEET_POLYGON = 5,          /* exposure, vertices, centre x, centre y, diameter, rotation */
-    SHEET_THERMAL = 7,          /* centre x, centre y, outer diameter, inner diameter, gap, rotation */
-    SHEET_VECTOR_LINE = 20,     /* exposure, width, start x, start y, end x, end y, rotation */
-    SHEET_CENTER_LINE = 21      /* exposure, width, height, centre x, centre y, rotation */
+    SHEET_CODE_CIRCLE = 1,          /* exposure, diameter, centre x, centre y [, rotation] */
+    SHEET_CODE_OUTLINE = 4,         /* exposure, n, start x, start y, n further points, the last of them the start again, rotation */
+    SHEET_CODE_POLYGON = 5,         /* exposure, vertices, centre x, centre y, diameter, rotation */
+    SHEET_CODE_THERMAL = 7,         /* centre x, centre y, outer diameter, inner diameter, gap, rotation */
+    SHEET_CODE_VECTOR_LINE = 20,    /* exposure, width, start x, start y, end x, end y, rotation */
+    SHEET_CODE_CENTER_LINE = 21     /* exposure, width, height, centre x, centre y, rotation */
 };
 
 #ifdef __cplusplus
