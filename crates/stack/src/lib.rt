@@ -35,8 +35,8 @@ pub fn turn_over(e: &mut [u64], lo: usize, hi: usize, n: usize)
         if lo + i >= j {
             return;
         }
-        let x = sheet::entry_at(e, lo + i);
-        let y = sheet::entry_at(e, j);
+        let x = sheet::whole_entry(e, lo + i);
+        let y = sheet::whole_entry(e, j);
         sheet::put_entry(e, lo + i, y);
         sheet::put_entry(e, j, x);
         i += 1;

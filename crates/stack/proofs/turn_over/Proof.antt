@@ -31,14 +31,14 @@ same-length c = c .before .before .loop .inv .1 .as-long
 returns : tie.Need-returns Inv-loop μ-loop
 returns c = let v = c .before .before .loop .inv in turned-met _ _ _ _ _ _ (v .0) (v .2) (omega arith) (v .1)
 
-add-entry-at : tie.Need-add-entry-at Inv-loop μ-loop
-add-entry-at c = let v = c .before .before .before .loop .inv in omega (arith, v .1 .as-long, v .2, v .3)
+add-whole-entry : tie.Need-add-whole-entry Inv-loop μ-loop
+add-whole-entry c = let v = c .before .before .before .loop .inv in omega (arith, v .1 .as-long, v .2, v .3)
 
-entry-at-requires : tie.Need-entry-at-requires Inv-loop μ-loop
-entry-at-requires c κs = let v = c .before .before .before .loop .inv in omega (arith, v .1 .as-long, v .2, v .3)
+whole-entry-requires : tie.Need-whole-entry-requires Inv-loop μ-loop
+whole-entry-requires c κs = let v = c .before .before .before .loop .inv in omega (arith, v .1 .as-long, v .2, v .3)
 
-entry-at-requires-2 : tie.Need-entry-at-requires-2 Inv-loop μ-loop
-entry-at-requires-2 c κs = let v = c .before .before .before .before .before .loop .inv in omega (arith, v .1 .as-long, v .2, v .3)
+whole-entry-requires-2 : tie.Need-whole-entry-requires-2 Inv-loop μ-loop
+whole-entry-requires-2 c κs = let v = c .before .before .before .before .before .loop .inv in omega (arith, v .1 .as-long, v .2, v .3)
 
 add-put-entry : tie.Need-add-put-entry Inv-loop μ-loop
 add-put-entry c = let v = c .before .before .before .before .before .before .before .loop .inv in omega (arith, v .1 .as-long, v .2, v .3)
@@ -60,7 +60,7 @@ loop-again c = let v = c .before .before .before .before .before .before .before
     let kept = c .before .before .before .before .before .before .put-entry .kept .0 in
     let kept2 = c .before .before .put-entry2 .kept .0 in (
       omega arith,
-      swapped-more _ _ _ _ _ _ _ _ _ (v .1) (omega arith) (omega (arith, c .before .before .before .before .before .before .before .before .before .before .before .before .if1 .left)) (v .3) (c .before .before .before .before .before .before .before .before .before .before .entry-at .ensures) (c .before .before .before .before .before .before .before .before .entry-at2 .ensures)
+      swapped-more _ _ _ _ _ _ _ _ _ (v .1) (omega arith) (omega (arith, c .before .before .before .before .before .before .before .before .before .before .before .before .if1 .left)) (v .3) (c .before .before .before .before .before .before .before .before .before .before .whole-entry .ensures) (c .before .before .before .before .before .before .before .before .whole-entry2 .ensures)
           (kept2 ∙ kept ∙ v .1 .as-long)
           (c .before .before .put-entry2 .ensures ∙ rw (c .before .before .before .before .before .before .put-entry .ensures)) (rw (c .before .before .before .before .before .before .put-entry .ensures) at kept),
       v .2,
@@ -85,9 +85,9 @@ turn-over-spec =
     add-if1
     same-length
     returns
-    add-entry-at
-    entry-at-requires
-    entry-at-requires-2
+    add-whole-entry
+    whole-entry-requires
+    whole-entry-requires-2
     add-put-entry
     put-entry-requires
     put-entry-requires-2
