@@ -45,13 +45,14 @@ seek-word-at-requires : (t : ℕ) → seek-lts.Need-word-at-requires (callees t)
 seek-word-at-requires t c κs = search needs
 
 -- the step goes down
-below : (t : ℕ) (c : seek-lts.After-known-told2 (callees t) (seek-at t) seek.Post) →
-    let A = c .before .before .before .before .before .before .before .args in let u = c .before .start .given .0 in
+below : (t : ℕ) (c : seek-lts.After-known-told2 (callees t) (seek-at t) seek.Post) → let the-match = c .before .before in let start = the-match .before .before .before .before .before in let A = start .args in let u = c .before .start .given .0 in
     (lookOf (A .e .now) (A .a .now) (A .k) (A .q) (A .rest .now) ≡ Below (u .0) (u .1 .0)) × Down (A .e .now) (A .a .now) (u .0) (u .1 .0) (length (A .rest .now))
 below t c =
-    let A = c .before .before .before .before .before .before .before .args in
+    let the-match = c .before .before in
+    let start = the-match .before .before .before .before .before in
+    let A = start .args in
     let q = sym (c .before .before .before .look-at .ensures) ∙ c .before .start .given .1 in
-    (q, down (A .e .now) (A .a .now) (A .k) (length (A .rest .now)) (c .before .before .before .before .before .before .before .pre .1) (A .q) (A .rest .now) _ _ q)
+    (q, down (A .e .now) (A .a .now) (A .k) (length (A .rest .now)) (start .pre .1) (A .q) (A .rest .now) _ _ q)
 
 seek-sub-seek : (t : ℕ) → seek-lts.Need-sub-seek (callees t) (seek-at t) seek.Post
 seek-sub-seek t c = below t (c .before) .1 .some
@@ -64,26 +65,35 @@ seek-part-seek-end t c = search needs
 
 seek-seek-requires : (t : ℕ) → seek-lts.Need-seek-requires (callees t) (seek-at t) seek.Post
 seek-seek-requires t c κs =
-    let A = c .before .before .before .before .before .before .before .before .before .args in
+    let the-match = c .before .before .before .before in
+    let start = the-match .before .before .before .before .before in
+    let A = start .args in
     let d = below t (c .before .before) .1 in
     let l = part-words (A .rest .now) (d .some) in
-    (omega (arith, l, c .before .before .before .before .before .before .before .before .before .pre .0), d .asks _ l)
+    (omega (arith, l, start .pre .0), d .asks _ l)
 
 seek-further-on-requires : (t : ℕ) → seek-lts.Need-further-on-requires (callees t) (seek-at t) seek.Post
 seek-further-on-requires t c κs j f =
-    let A = c .before .before .before .before .before .before .before .before .before .before .args in
+    let the-match = c .before .before .before .before .before in
+    let start = the-match .before .before .before .before .before in
+    let A = start .args in
     let d = below t (c .before .before .before) .1 in
     d .fits (c .before .before .word-at .result) (take (length (A .rest .now) - 1) (drop 1 (A .rest .now))) (part-words (A .rest .now) (d .some)) j (sym (c .seek .ensures) ∙ f)
 
 seek-returns : (t : ℕ) → seek-lts.Need-returns (callees t) (seek-at t) seek.Post
 seek-returns t c =
-    let A = c .before .before .before .before .before .before .before .args in
+    let the-match = c .before .before in
+    let start = the-match .before .before .before .before .before in
+    let A = start .args in
     sym (ap (On (sought (A .e .now) (A .a .now) (length (A .rest .now))) (A .rest .now)) (sym (c .before .before .before .look-at .ensures) ∙ c .before .t .given .1))
     ∙ look-on (A .e .now) (A .a .now) (length (A .rest .now)) (A .k) (A .q) (A .rest .now)
 
 seek-returns-2 : (t : ℕ) → seek-lts.Need-returns-2 (callees t) (seek-at t) seek.Post
 seek-returns-2 t c =
-    let A = c .before .before .before .before .before .before .before .before .before .before .before .args in
+    let the-seek = c .before in
+    let the-match = the-seek .before .before .before .before .before in
+    let start = the-match .before .before .before .before .before in
+    let A = start .args in
     let b = below t (c .before .before .before .before) in
     c .further-on .ensures
     ∙ ap (further _) (c .before .seek .ensures ∙ part-sought (A .e .now) (A .a .now) _ _ (A .rest .now) (b .1 .some) (c .before .before .before .word-at .ensures))

@@ -21,7 +21,9 @@ enum-told c = search needs
 
 returns : tie.Need-returns
 unfolding replyAs
-returns c = reply-is _ _ _ _ (sym (c .before .before .before .before .before .before .is-sheet .ensures) ∙ c .before .before .before .before .before .if1 .taken) (search needs) (At _) (sym (c .before .n .given .1) ∙ c .before .before .before .seek-top .ensures)
+returns c =
+    let if1 = c .before .before .before .before .before in
+    reply-is _ _ _ _ (sym (if1 .before .is-sheet .ensures) ∙ if1 .if1 .taken) (search needs) (At _) (sym (c .before .n .given .1) ∙ c .before .before .before .seek-top .ensures)
 
 returns-2 : tie.Need-returns-2
 unfolding replyAs

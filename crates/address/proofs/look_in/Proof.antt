@@ -26,7 +26,10 @@ index-requires : tie.Need-index-requires
 index-requires c κs = search needs
 
 block-at-requires : tie.Need-block-at-requires
-block-at-requires c κs = rw (c .index .ensures) (c .before .before .before .before .before .before .pre (as-role (c .before .before .before) (c .before .enum-told2 .given .1)))
+block-at-requires c κs =
+    let match = c .before .before in
+    let start = match .before .before .before .before in
+    rw (c .index .ensures) (start .pre (as-role (c .before .before .before) (c .before .enum-told2 .given .1)))
 
 enum-told-3 : tie.Need-enum-told-3
 enum-told-3 c = search needs

@@ -29,23 +29,33 @@ index-requires : tie.Need-index-requires
 index-requires c κs = search needs
 
 block-at-requires : tie.Need-block-at-requires
-block-at-requires c κs = rw (c .index .ensures) (top-known _ _ _ (c .before .before .before .before .before .before .before .before .pre .0) (as-role (c .before .before .before .before) (c .before .before .enum-told2 .given .1)))
+block-at-requires c κs =
+    let match = c .before .before .before in
+    let start = match .before .before .before .before .before in
+    rw (c .index .ensures) (top-known _ _ _ (start .pre .0) (as-role (c .before .before .before .before) (c .before .before .enum-told2 .given .1)))
 
 seek-use-requires : tie.Need-seek-use-requires
 seek-use-requires c κs =
-    rw (c .block-at .ensures, c .before .index .ensures, c .before .before .before .before .before .before .before .before .before .pre .1)
-    (top-down _ _ _ (c .before .before .before .before .before .before .before .before .before .pre .0) (as-role (c .before .before .before .before .before) (c .before .before .before .enum-told2 .given .1)))
+    let match = c .before .before .before .before in
+    let start = match .before .before .before .before .before in
+    rw (c .block-at .ensures, c .before .index .ensures, start .pre .1)
+    (top-down _ _ _ (start .pre .0) (as-role (c .before .before .before .before .before) (c .before .before .before .enum-told2 .given .1)))
 
 returns-2 : tie.Need-returns-2
 returns-2 c =
+    let match = c .before .before .before .before .before in
+    let start = match .before .before .before .before .before in
     rw (c .before .block-at .ensures, c .before .before .index .ensures) at (c .seek-use .ensures)
-    ∙ in-uses _ _ _ _ _ _ (as-role (c .before .before .before .before .before .before) (c .before .before .before .before .enum-told2 .given .1)) (c .before .before .before .if2 .taken) (c .before .before .before .before .before .before .before .before .before .before .pre .1)
+    ∙ in-uses _ _ _ _ _ _ (as-role (match .before) (c .before .before .before .before .enum-told2 .given .1)) (c .before .before .before .if2 .taken) (start .pre .1)
 
 enum-told-3 : tie.Need-enum-told-3
 enum-told-3 c = search needs
 
 seek-copy-requires : tie.Need-seek-copy-requires
-seek-copy-requires c κs = rw (c .before .before .before .before .before .before .pre .1) (top-copied _ _ _ (c .before .before .before .before .before .before .pre .0) (as-role (c .before .before) (c .enum-told3 .given .1)))
+seek-copy-requires c κs =
+    let match = c .before in
+    let start = match .before .before .before .before .before in
+    rw (start .pre .1) (top-copied _ _ _ (start .pre .0) (as-role (c .before .before) (c .enum-told3 .given .1)))
 
 enum-told-4 : tie.Need-enum-told-4
 enum-told-4 c = search needs

@@ -13,6 +13,10 @@ use borrow.Author.Needs.{needs}
 use Rattle.address.proofs.seek_top.Statement.{statement}
 use Rattle.address.proofs.seek_top.Tie as tie
 
+-- the places that facts are read at
+abbrev call : tie.After-word-at → tie.Start
+call c = c .before .before .before .before .before
+
 top-of-requires : tie.Need-top-of-requires
 top-of-requires c κs = search needs
 
@@ -23,13 +27,16 @@ holder-requires : tie.Need-holder-requires
 holder-requires c κs = rw (c .before .top-of .ensures) (spans-top _ _ _ (c .before .before .before .before .before .pre .0))
 
 add-either : tie.Need-add-either
-add-either c = omega (arith, rw (← (c .before .before .before .top-of .ensures)) at (spans-top _ _ _ (c .before .before .before .before .before .before .before .pre .0) .inside))
+add-either c =
+    let word-at = c .before .before in
+    let start = word-at .before .before .before .before .before in
+    omega (arith, rw (← (c .before .before .before .top-of .ensures)) at (spans-top _ _ _ (start .pre .0) .inside))
 
 either-requires : tie.Need-either-requires
 either-requires c κs = search needs
 
 -- whether an entry holds the position
-missed : (c : tie.After-either) → let A = c .before .before .before .before .before .before .before .before .before .args in
+missed : (c : tie.After-either) → let A = call (c .before .before .before .before) .args in
     c .either .result ≡ misses (topOf (A .head .now)) (getD (A .w .now) 1 0) (spot (spanAt (A .e .now)) (topOf (A .head .now) .first) (topOf (A .head .now) .len) (getD (A .w .now) 1 0))
 unfolding misses
 missed c = rw (c .before .before .before .holder .ensures, c .before .before .before .before .word-at .ensures, c .before .before .before .before .before .top-of .ensures) at (c .either .ensures)
@@ -38,15 +45,17 @@ returns : tie.Need-returns
 returns c = top-none _ _ _ _ (sym (missed (c .before)) ∙ c .if1 .taken)
 
 -- the entry that does
-held : (c : tie.Else1) → let A = c .before .before .before .before .before .before .before .before .before .before .args in
+held : (c : tie.Else1) → let A = call (c .before .before .before .before .before) .args in
     Meets (A .e .now) (A .a .now) (topOf (A .head .now)) (spot (spanAt (A .e .now)) (topOf (A .head .now) .first) (topOf (A .head .now) .len) (getD (A .w .now) 1 0))
-held c = let A = c .before .before .before .before .before .before .before .before .before .before .args in
+held c = let A = call (c .before .before .before .before .before) .args in
     meets (A .e .now) (A .a .now) (topOf (A .head .now)) (getD (A .w .now) 1 0) (sym (missed (c .before)) ∙ c .if1 .left)
 
 entry-at-requires : tie.Need-entry-at-requires
 entry-at-requires c κs =
-    rw (c .before .before .before .before .holder .ensures, c .before .before .before .before .before .word-at .ensures, c .before .before .before .before .before .before .top-of .ensures, held c .entry-is)
-    (omega (arith, held c .i-in, spans-top _ _ _ (c .before .before .before .before .before .before .before .before .before .before .pre .0) .inside))
+    let word-at = c .before .before .before .before .before in
+    let start = word-at .before .before .before .before .before in
+    rw (c .before .before .before .before .holder .ensures, word-at .word-at .ensures, word-at .before .top-of .ensures, held c .entry-is)
+    (omega (arith, held c .i-in, spans-top _ _ _ (start .pre .0) .inside))
 
 word-at-requires-2 : tie.Need-word-at-requires-2
 word-at-requires-2 c κs = search needs
@@ -62,17 +71,23 @@ part-seek-in-end c = search needs
 
 seek-in-requires : tie.Need-seek-in-requires
 seek-in-requires c κs =
-    let A = c .before .before .before .before .before .before .before .before .before .before .before .before .before .args in (
-      rw (c .before .before .entry-at .ensures, c .before .before .before .before .before .before .before .holder .ensures, c .before .before .before .before .before .before .before .before .word-at .ensures, c .before .before .before .before .before .before .before .before .before .top-of .ensures)
-          (at-top (A .head .now) (A .e .now) (A .a .now) (c .before .before .before .before .before .before .before .before .before .before .before .before .before .pre .0) (getD (A .w .now) 1 0) (sym (missed (c .before .before .before .before)) ∙ c .before .before .before .if1 .left)),
-      top-rest (A .head .now) (A .e .now) (A .a .now) (A .w .now) (c .before .before .before .before .before .before .before .before .before .before .before .before .before .pre .1),
+    let either = c .before .before .before .before in
+    let word-at = either .before .before .before .before in
+    let start = word-at .before .before .before .before .before in
+    let A = start .args in (
+      rw (c .before .before .entry-at .ensures, either .before .before .before .holder .ensures, word-at .word-at .ensures, word-at .before .top-of .ensures)
+          (at-top (A .head .now) (A .e .now) (A .a .now) (start .pre .0) (getD (A .w .now) 1 0) (sym (missed either) ∙ c .before .before .before .if1 .left)),
+      top-rest (A .head .now) (A .e .now) (A .a .now) (A .w .now) (start .pre .1),
     )
 
 returns-2 : tie.Need-returns-2
 returns-2 c =
-    let A = c .before .before .before .before .before .before .before .before .before .before .before .before .before .before .args in
-    rw (c .before .before .before .entry-at .ensures, c .before .before .word-at2 .ensures, c .before .before .before .before .before .before .before .before .holder .ensures, c .before .before .before .before .before .before .before .before .before .word-at .ensures, c .before .before .before .before .before .before .before .before .before .before .top-of .ensures, rest-whole (A .w .now) 2) at (c .seek-in .ensures)
-    ∙ top-some (A .head .now) (A .e .now) (A .a .now) (A .w .now) (sym (missed (c .before .before .before .before .before)) ∙ c .before .before .before .before .if1 .left)
+    let either = c .before .before .before .before .before in
+    let word-at = either .before .before .before .before in
+    let start = word-at .before .before .before .before .before in
+    let A = start .args in
+    rw (c .before .before .before .entry-at .ensures, c .before .before .word-at2 .ensures, either .before .before .before .holder .ensures, word-at .word-at .ensures, word-at .before .top-of .ensures, rest-whole (A .w .now) 2) at (c .seek-in .ensures)
+    ∙ top-some (A .head .now) (A .e .now) (A .a .now) (A .w .now) (sym (missed either) ∙ c .before .before .before .before .if1 .left)
 
 pub seek-top-spec : {M : Type 1} → statement M
 seek-top-spec =

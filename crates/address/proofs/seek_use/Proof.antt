@@ -8,6 +8,10 @@ use borrow.Author.Needs.{needs}
 use Rattle.address.proofs.seek_use.Statement.{statement}
 use Rattle.address.proofs.seek_use.Tie as tie
 
+-- the places that facts are read at
+abbrev call : tie.After-word-at → tie.Start
+call c = c .before .before .before .before
+
 word-at-requires : tie.Need-word-at-requires
 word-at-requires c κs = search needs
 
@@ -28,16 +32,20 @@ seek-requires c κs =
 
 further-on-requires : tie.Need-further-on-requires
 further-on-requires c κs j f =
-    let A = c .before .before .before .before .before .before .args in
-    let d = c .before .before .before .before .before .before .pre in
-    d .fits (c .before .before .word-at .result) (take (length (A .rest .now) - 1) (drop 1 (A .rest .now))) (part-words (A .rest .now) (d .some)) j (sym (c .seek .ensures) ∙ f)
+    let word-at = c .before .before in
+    let start = call word-at in
+    let A = start .args in
+    let d = start .pre in
+    d .fits (word-at .word-at .result) (take (length (A .rest .now) - 1) (drop 1 (A .rest .now))) (part-words (A .rest .now) (d .some)) j (sym (c .seek .ensures) ∙ f)
 
 returns : tie.Need-returns
 returns c =
-    let A = c .before .before .before .before .before .before .before .args in
-    let d = c .before .before .before .before .before .before .before .pre in
+    let word-at = c .before .before .before in
+    let start = call word-at in
+    let A = start .args in
+    let d = start .pre in
     c .further-on .ensures
-    ∙ ap (further _) (c .before .seek .ensures ∙ part-sought (A .e .now) (A .a .now) _ _ (A .rest .now) (d .some) (c .before .before .before .word-at .ensures))
+    ∙ ap (further _) (c .before .seek .ensures ∙ part-sought (A .e .now) (A .a .now) _ _ (A .rest .now) (d .some) (word-at .word-at .ensures))
 
 pub seek-use-spec : {M : Type 1} → statement M
 seek-use-spec =

@@ -15,7 +15,9 @@ write-top-requires : tie.Need-write-top-requires
 write-top-requires c κs = (record { ok = (sym (c .before .before .before .before .before .is-sheet .ensures) ∙ c .before .before .before .before .if1 .taken); inside = rw (c .before .before .before .top-of .ensures) at (c .before .if2 .taken) }, refl)
 
 returns : tie.Need-returns
-returns c = answer-is _ _ _ _ (sym (c .before .before .before .before .before .before .is-sheet .ensures) ∙ c .before .before .before .before .before .if1 .taken) (rw (c .before .before .before .before .top-of .ensures) at (c .before .before .if2 .taken)) _ (c .write-top .ensures)
+returns c =
+    let if1 = c .before .before .before .before .before in
+    answer-is _ _ _ _ (sym (if1 .before .is-sheet .ensures) ∙ if1 .if1 .taken) (rw (c .before .before .before .before .top-of .ensures) at (c .before .before .if2 .taken)) _ (c .write-top .ensures)
 
 returns-2 : tie.Need-returns-2
 returns-2 c = answer-past _ _ _ _ (sym (c .before .before .before .before .is-sheet .ensures) ∙ c .before .before .before .if1 .taken) (rw (c .before .before .top-of .ensures) at (c .if2 .left))

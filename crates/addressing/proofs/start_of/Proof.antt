@@ -16,6 +16,13 @@ use borrow.Author.Needs.{needs}
 use Rattle.addressing.proofs.start_of.Statement.{statement}
 use Rattle.addressing.proofs.start_of.Tie as tie
 
+-- the places that facts are read at
+abbrev call : tie.After-find → tie.Start
+call c = c .before .before .before .before
+
+abbrev at-find : tie.After-role-of → tie.After-find
+at-find c = c .before .before .before .before
+
 top-of-requires : tie.Need-top-of-requires
 top-of-requires c κs = search needs
 
@@ -35,14 +42,17 @@ sub-spans : tie.Need-sub-spans
 sub-spans c = search needs
 
 spans-requires : tie.Need-spans-requires
-spans-requires c κs = rw (c .before .before .before .top-of .ensures) (spans-to _ _ _ _ _ (c .before .before .before .before .before .before .pre) (found (c .before .before)))
+spans-requires c κs =
+    let entry-at = c .before in
+    let start = entry-at .before .before .before .before .before in
+    rw (c .before .before .before .top-of .ensures) (spans-to _ _ _ _ _ (start .pre) (found (c .before .before)))
 
 -- the positions before it, and its role
-counted : (c : tie.After-spans) → let A = c .before .before .before .before .before .before .before .args in
-    c .spans .result ≡ sums (spanAt (A .e .now)) (topOf (A .head .now) .first) (c .before .before .before .find .result - topOf (A .head .now) .first)
+counted : (c : tie.After-spans) → let find = c .before .before .before in let A = call find .args in
+    c .spans .result ≡ sums (spanAt (A .e .now)) (topOf (A .head .now) .first) (find .find .result - topOf (A .head .now) .first)
 counted c = rw (c .before .before .before .before .top-of .ensures) at (c .spans .ensures)
 
-as-role : (c : tie.After-role-of) {role : Role} → c .role-of .result ≡ role → roleOf (entryOf (c .before .before .before .before .before .before .before .before .args .e .now) (c .before .before .before .before .find .result) .kind) ≡ role
+as-role : (c : tie.After-role-of) {role : Role} → let find = at-find c in c .role-of .result ≡ role → roleOf (entryOf (call find .args .e .now) (find .find .result) .kind) ≡ role
 as-role c q = sym (rw (c .before .before .before .entry-at .ensures) at (c .role-of .ensures)) ∙ q
 
 role-of-requires : tie.Need-role-of-requires
@@ -52,62 +62,101 @@ enum-told : tie.Need-enum-told
 enum-told c = search needs
 
 add-t12 : tie.Need-add-t12
-add-t12 c = omega (arith, counted (c .before .before .before), spans-to _ _ _ _ _ (c .before .before .before .before .before .before .before .before .before .before .pre) (found (c .before .before .before .before .before .before)) .fits)
+add-t12 c =
+    let find = at-find (c .before .before) in
+    omega (arith, counted (c .before .before .before), spans-to _ _ _ _ _ (call find .pre) (found find) .fits)
 
 index-requires : tie.Need-index-requires
 index-requires c κs = search needs
 
 block-at-requires : tie.Need-block-at-requires
-block-at-requires c κs = rw (c .index .ensures, c .before .before .before .before .before .before .entry-at .ensures) (known _ _ _ _ _ (c .before .before .before .before .before .before .before .before .before .before .before .pre) (found (c .before .before .before .before .before .before .before)) (as-role (c .before .before .before) (c .before .enum-told .given .1)))
+block-at-requires c κs =
+    let the-match = c .before .before in
+    let entry-at = the-match .before .before .before .before in
+    let start = entry-at .before .before .before .before .before in
+    rw (c .index .ensures, entry-at .entry-at .ensures) (known _ _ _ _ _ (start .pre) (found (entry-at .before)) (as-role (c .before .before .before) (c .before .enum-told .given .1)))
 
 sub-t15 : tie.Need-sub-t15
-sub-t15 c = rw (c .before .before .before .before .before .before .before .before .entry-at .ensures) (begins _ _ _ _ _ (c .before .before .before .before .before .before .before .before .before .before .before .before .before .pre) (found (c .before .before .before .before .before .before .before .before .before)))
+sub-t15 c =
+    let the-match = c .before .before .before .before in
+    let entry-at = the-match .before .before .before .before in
+    let start = entry-at .before .before .before .before .before in
+    rw (entry-at .entry-at .ensures) (begins _ _ _ _ _ (start .pre) (found (entry-at .before)))
 
 enum-told-2 : tie.Need-enum-told-2
 enum-told-2 c = search needs
 
 sub-copy-in : tie.Need-sub-copy-in
-sub-copy-in c = rw (c .before .before .before .before .before .before .entry-at .ensures) (begins _ _ _ _ _ (c .before .before .before .before .before .before .before .before .before .before .before .pre) (found (c .before .before .before .before .before .before .before)))
+sub-copy-in c =
+    let the-match = c .before .before in
+    let entry-at = the-match .before .before .before .before in
+    let start = entry-at .before .before .before .before .before in
+    rw (entry-at .entry-at .ensures) (begins _ _ _ _ _ (start .pre) (found (entry-at .before)))
 
 copy-in-requires : tie.Need-copy-in-requires
-copy-in-requires c κs = rw (c .before .before .before .before .before .before .entry-at .ensures) (copies _ _ _ _ _ (c .before .before .before .before .before .before .before .before .before .before .before .pre) (found (c .before .before .before .before .before .before .before)) (as-role (c .before .before .before) (c .before .enum-told2 .given .1)))
+copy-in-requires c κs =
+    let the-match = c .before .before in
+    let entry-at = the-match .before .before .before .before in
+    let start = entry-at .before .before .before .before .before in
+    rw (entry-at .entry-at .ensures) (copies _ _ _ _ _ (start .pre) (found (entry-at .before)) (as-role (c .before .before .before) (c .before .enum-told2 .given .1)))
 
 enum-told-3 : tie.Need-enum-told-3
 enum-told-3 c = search needs
 
 add-t17 : tie.Need-add-t17
-add-t17 c = omega (arith, counted (c .before .before .before), spans-to _ _ _ _ _ (c .before .before .before .before .before .before .before .before .before .before .pre) (found (c .before .before .before .before .before .before)) .fits)
+add-t17 c =
+    let find = at-find (c .before .before) in
+    omega (arith, counted (c .before .before .before), spans-to _ _ _ _ _ (call find .pre) (found find) .fits)
 
 enum-told-4 : tie.Need-enum-told-4
 enum-told-4 c = search needs
 
 add-t18 : tie.Need-add-t18
-add-t18 c = omega (arith, counted (c .before .before .before), spans-to _ _ _ _ _ (c .before .before .before .before .before .before .before .before .before .before .pre) (found (c .before .before .before .before .before .before)) .fits)
+add-t18 c =
+    let find = at-find (c .before .before) in
+    omega (arith, counted (c .before .before .before), spans-to _ _ _ _ _ (call find .pre) (found find) .fits)
 
 enum-told-5 : tie.Need-enum-told-5
 enum-told-5 c = search needs
 
 add-t19 : tie.Need-add-t19
-add-t19 c = omega (arith, counted (c .before .before .before), spans-to _ _ _ _ _ (c .before .before .before .before .before .before .before .before .before .before .pre) (found (c .before .before .before .before .before .before)) .fits)
+add-t19 c =
+    let find = at-find (c .before .before) in
+    omega (arith, counted (c .before .before .before), spans-to _ _ _ _ _ (call find .pre) (found find) .fits)
 
 returns : tie.Need-returns
 returns c =
-    rw (c .before .block-at .ensures, c .before .before .index .ensures, counted (c .before .before .before .before .before .before), c .before .before .before .before .before .before .before .before .entry-at .ensures)
-    (flash _ _ _ _ _ (c .before .before .before .before .before .before .before .before .before .before .before .before .before .pre) (found (c .before .before .before .before .before .before .before .before .before)) (as-role (c .before .before .before .before .before) (c .before .before .before .enum-told .given .1)))
+    let role-of = c .before .before .before .before .before in
+    let entry-at = role-of .before .before .before in
+    let start = entry-at .before .before .before .before .before in
+    rw (c .before .block-at .ensures, c .before .before .index .ensures, counted (role-of .before), entry-at .entry-at .ensures)
+    (flash _ _ _ _ _ (start .pre) (found (entry-at .before)) (as-role role-of (c .before .before .before .enum-told .given .1)))
 
 returns-2 : tie.Need-returns-2
 returns-2 c =
-    rw (c .copy-in .ensures, counted (c .before .before .before .before .before), c .before .before .before .before .before .before .before .entry-at .ensures)
-    (copy _ _ _ _ _ (c .before .before .before .before .before .before .before .before .before .before .before .before .pre) (found (c .before .before .before .before .before .before .before .before)) (as-role (c .before .before .before .before) (c .before .before .enum-told2 .given .1)))
+    let the-match = c .before .before .before in
+    let entry-at = the-match .before .before .before .before in
+    let start = entry-at .before .before .before .before .before in
+    rw (c .copy-in .ensures, counted (c .before .before .before .before .before), entry-at .entry-at .ensures)
+    (copy _ _ _ _ _ (start .pre) (found (entry-at .before)) (as-role (c .before .before .before .before) (c .before .before .enum-told2 .given .1)))
 
 returns-3 : tie.Need-returns-3
-returns-3 c = rw (counted (c .before .before .before)) (alone _ _ _ _ _ (c .before .before .before .before .before .before .before .before .before .before .pre) (found (c .before .before .before .before .before .before)) (as-role (c .before .before) (c .enum-told3 .given .1)))
+returns-3 c =
+    let entry-at = c .before .before .before .before .before in
+    let start = entry-at .before .before .before .before .before in
+    rw (counted (c .before .before .before)) (alone _ _ _ _ _ (start .pre) (found (entry-at .before)) (as-role (c .before .before) (c .enum-told3 .given .1)))
 
 returns-4 : tie.Need-returns-4
-returns-4 c = absurd (defines-not _ _ _ _ _ (c .before .before .before .before .before .before .before .before .before .before .pre) (found (c .before .before .before .before .before .before)) (as-role (c .before .before) (c .enum-told4 .given .1)))
+returns-4 c =
+    let role-of = c .before .before in
+    let find = at-find role-of in
+    absurd (defines-not _ _ _ _ _ (call find .pre) (found find) (as-role role-of (c .enum-told4 .given .1)))
 
 returns-5 : tie.Need-returns-5
-returns-5 c = absurd (unknown-not _ _ _ _ _ (c .before .before .before .before .before .before .before .before .before .before .pre) (found (c .before .before .before .before .before .before)) (as-role (c .before .before) (c .enum-told5 .given .1)))
+returns-5 c =
+    let role-of = c .before .before in
+    let find = at-find role-of in
+    absurd (unknown-not _ _ _ _ _ (call find .pre) (found find) (as-role role-of (c .enum-told5 .given .1)))
 
 pub start-of-spec : {M : Type 1} → statement M
 start-of-spec =

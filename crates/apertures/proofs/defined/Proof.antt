@@ -38,17 +38,19 @@ judged-requires c κs = search needs
 returns : tie.Need-returns
 unfolding definition
 returns c =
+    let either = c .before .before .before .before .before in
+    let part2 = either .before .before .before in
     simp (
       c .judged .ensures,
       c .before .either4 .ensures,
       c .before .before .before .either3 .ensures,
       c .before .before .before .before .either2 .ensures,
-      c .before .before .before .before .before .either .ensures,
-      c .before .before .before .before .before .before .parameters-of .ensures,
-      c .before .before .before .before .before .before .before .is-name .ensures,
-      c .before .before .before .before .before .before .before .before .part2 .ensures,
-      c .before .before .before .before .before .before .before .before .before .aperture-number .ensures,
-      c .before .before .before .before .before .before .before .before .before .before .part .ensures,
+      either .either .ensures,
+      either .before .parameters-of .ensures,
+      either .before .before .is-name .ensures,
+      part2 .part2 .ensures,
+      part2 .before .aperture-number .ensures,
+      part2 .before .before .part .ensures,
     )
 
 pub defined-spec : {M : Type 1} → statement M

@@ -25,6 +25,10 @@ Inv-loop s comma formless₀ long₀ count₀ rounded₀ at₀ formless long cou
 abbrev μ-loop : tie.MeasureT-loop
 μ-loop s comma formless₀ long₀ count₀ rounded₀ at₀ formless long count rounded at = length s - at
 
+-- the places that facts are read at
+abbrev at-loop : tie.After-either Inv-loop μ-loop → tie.At-loop Inv-loop μ-loop
+at-loop c = c .before .before .before .before .before
+
 loop-holds : tie.Need-loop-holds Inv-loop μ-loop
 unfolding parametersOf
 loop-holds c = (refl, omega arith, omega arith)
@@ -51,27 +55,30 @@ either-requires-2 : tie.Need-either-requires-2 Inv-loop μ-loop
 either-requires-2 c κs = search needs
 
 add-count : tie.Need-add-count Inv-loop μ-loop
-add-count c = omega (arith, c .before .before .before .before .before .before .loop .inv .1)
+add-count c = omega (arith, at-loop (c .before) .loop .inv .1)
 
 counted-requires : tie.Need-counted-requires Inv-loop μ-loop
 counted-requires c κs = search needs
 
 add-rounded : tie.Need-add-rounded Inv-loop μ-loop
-add-rounded c = omega (arith, c .before .before .before .before .before .before .before .loop .inv .2, counted-within (c .before .before .before .size-of .result .rounded))
+add-rounded c = omega (arith, at-loop (c .before .before) .loop .inv .2, counted-within (c .before .before .before .size-of .result .rounded))
 
 loop-less : tie.Need-loop-less Inv-loop μ-loop
 loop-less c =
-    let l = c .before .before .before .before .before .before .before .loop in
-    omega (arith, first-from (λ b. eqb b (code "X")) (c .before .before .before .before .before .before .before .before .before .args .s .now) (l .at + 1), c .before .before .before .before .before .find .ensures)
+    let the-loop = at-loop (c .before .before) in
+    let l = the-loop .loop in
+    omega (arith, first-from (λ b. eqb b (code "X")) (the-loop .before .before .args .s .now) (l .at + 1), c .before .before .before .before .before .find .ensures)
 
 loop-again : tie.Need-loop-again Inv-loop μ-loop
 unfolding more
 loop-again c =
-    let l = c .before .before .before .before .before .before .before .loop in
-    let s = c .before .before .before .before .before .before .before .before .before .args .s .now in
+    let either = c .before .before in
+    let the-loop = at-loop either in
+    let l = the-loop .loop in
+    let s = the-loop .before .before .args .s .now in
     let d = c .before .before .before .size-of .result in (
-      simp (c .counted .ensures, c .before .either2 .ensures, c .before .before .either .ensures, c .before .before .before .size-of .ensures, c .before .before .before .before .part .ensures, c .before .before .before .before .before .find .ensures)
-          (sym (gather-next s (l .at) (c .before .before .before .before .before .before .loop-test .taken) (record { formless = l .formless; long = l .long; count = l .count; rounded = l .rounded })) ∙ l .inv .0),
+      simp (c .counted .ensures, c .before .either2 .ensures, either .either .ensures, c .before .before .before .size-of .ensures, c .before .before .before .before .part .ensures, c .before .before .before .before .before .find .ensures)
+          (sym (gather-next s (l .at) (either .before .before .before .before .loop-test .taken) (record { formless = l .formless; long = l .long; count = l .count; rounded = l .rounded })) ∙ l .inv .0),
       omega (arith, first-from (λ b. eqb b (code "X")) s (l .at + 1), c .before .before .before .before .before .find .ensures, l .inv .1),
       omega (arith, first-from (λ b. eqb b (code "X")) s (l .at + 1), c .before .before .before .before .before .find .ensures, l .inv .2, counted-within (d .rounded)),
     )

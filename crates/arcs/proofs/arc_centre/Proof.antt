@@ -26,11 +26,15 @@ offset-of-requires : tie.Need-offset-of-requires
 offset-of-requires c κs = search needs
 
 shifted-requires : tie.Need-shifted-requires
-shifted-requires c κs = let h = c .before .before .before .before .before .before .pre in (record { across = omega (arith, h .start .across); up = omega (arith, h .start .up) }, rw (c .offset-of .ensures) (record { across = omega (arith, h .across); up = omega (arith, h .up) }))
+shifted-requires c κs =
+    let is-circular = c .before .before .before .before .before in
+    let h = is-circular .before .pre in (record { across = omega (arith, h .start .across); up = omega (arith, h .start .up) }, rw (c .offset-of .ensures) (record { across = omega (arith, h .across); up = omega (arith, h .up) }))
 
 returns-2 : tie.Need-returns-2
 unfolding arcCentre centreOf
-returns-2 c = rw (sym (c .before .before .before .before .before .before .is-circular .ensures) ∙ c .before .before .before .before .before .if1 .taken, sym (c .before .before .before .before .is-single .ensures) ∙ c .before .before .before .if2 .left, sym (c .before .offset-of .ensures)) (c .shifted .ensures)
+returns-2 c =
+    let if1 = c .before .before .before .before .before in
+    rw (sym (if1 .before .is-circular .ensures) ∙ if1 .if1 .taken, sym (c .before .before .before .before .is-single .ensures) ∙ c .before .before .before .if2 .left, sym (c .before .offset-of .ensures)) (c .shifted .ensures)
 
 returns-3 : tie.Need-returns-3
 unfolding arcCentre origin

@@ -25,7 +25,8 @@ bad-centre-requires c κs = search needs
 returns : tie.Need-returns
 unfolding badCentre centreOf _and_
 returns c =
-    let test = rw (c .before .before .before .before .before .before .is-circular .ensures, c .before .before .before .before .before .is-single .ensures) at (sym (c .before .before .before .before .both .ensures) ∙ c .before .before .before .if1 .taken) in
+    let is-single = c .before .before .before .before .before in
+    let test = rw (is-single .before .is-circular .ensures, is-single .is-single .ensures) at (sym (c .before .before .before .before .both .ensures) ∙ c .before .before .before .if1 .taken) in
     rw (test, sym (c .before .offset-of .ensures)) (c .bad-centre .ensures)
 
 returns-2 : tie.Need-returns-2

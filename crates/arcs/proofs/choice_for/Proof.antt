@@ -20,17 +20,20 @@ size-requires-2 c κs = search needs
 
 choose-requires : tie.Need-choose-requires
 choose-requires c κs =
-    let h = c .before .before .before .before .before .before .before .pre in
-    let x = toZ-ofZ {w = w64} {z = c .before .before .before .before .before .offset-of .result .x} (record { sfits = omega arith }) in
-    let y = toZ-ofZ {w = w64} {z = c .before .before .before .before .before .offset-of .result .y} (record { sfits = omega arith }) in
-    (h .start, (h .goal, (rw (c .before .before .before .size .ensures, x, c .before .before .before .before .before .offset-of .ensures) (h .across), rw (c .before .size2 .ensures, y, c .before .before .before .before .before .offset-of .ensures) (h .up))))
+    let offset-of = c .before .before .before .before .before in
+    let h = offset-of .before .before .pre in
+    let x = toZ-ofZ {w = w64} {z = offset-of .offset-of .result .x} (record { sfits = omega arith }) in
+    let y = toZ-ofZ {w = w64} {z = offset-of .offset-of .result .y} (record { sfits = omega arith }) in
+    (h .start, (h .goal, (rw (c .before .before .before .size .ensures, x, offset-of .offset-of .ensures) (h .across), rw (c .before .size2 .ensures, y, offset-of .offset-of .ensures) (h .up))))
 
 returns : tie.Need-returns
 unfolding choiceFor
 returns c =
-    let x = toZ-ofZ {w = w64} {z = c .before .before .before .before .before .before .offset-of .result .x} (record { sfits = omega arith }) in
-    let y = toZ-ofZ {w = w64} {z = c .before .before .before .before .before .before .offset-of .result .y} (record { sfits = omega arith }) in
-    rw (sym (c .before .before .before .before .before .before .offset-of .ensures), sym x, sym y, sym (c .before .before .before .before .size .ensures), sym (c .before .before .size2 .ensures)) (c .choose .ensures)
+    let size2 = c .before .before in
+    let offset-of = size2 .before .before .before .before in
+    let x = toZ-ofZ {w = w64} {z = offset-of .offset-of .result .x} (record { sfits = omega arith }) in
+    let y = toZ-ofZ {w = w64} {z = offset-of .offset-of .result .y} (record { sfits = omega arith }) in
+    rw (sym (offset-of .offset-of .ensures), sym x, sym y, sym (c .before .before .before .before .size .ensures), sym (size2 .size2 .ensures)) (c .choose .ensures)
 
 pub choice-for-spec : {M : Type 1} → statement M
 choice-for-spec =

@@ -31,7 +31,8 @@ is-none-requires c κs = search needs
 returns : tie.Need-returns
 unfolding centreless _and_
 returns c =
-    let test = rw (c .before .before .before .before .is-circular .ensures, c .before .before .before .before .before .both .ensures, c .before .before .before .before .before .before .before .is-single .ensures, c .before .before .before .before .before .before .stays .ensures) at (sym (c .before .before .before .both2 .ensures) ∙ c .before .before .if1 .taken) in
+    let both = c .before .before .before .before .before in
+    let test = rw (c .before .before .before .before .is-circular .ensures, both .both .ensures, both .before .before .is-single .ensures, both .before .stays .ensures) at (sym (c .before .before .before .both2 .ensures) ∙ c .before .before .if1 .taken) in
     rw (test, sym (c .before .choice-for .ensures)) (c .is-none .ensures)
 
 returns-2 : tie.Need-returns-2

@@ -41,21 +41,27 @@ item-at-enum-known-under : (t : ℕ) → item-at-lts.Need-enum-known-under (call
 item-at-enum-known-under t c = search needs
 
 item-at-sub-item-at : (t : ℕ) → item-at-lts.Need-sub-item-at (callees t) (item-at-at t) item-at.Post
-item-at-sub-item-at t c = tall _ _ _ _ _ (c .before .before .before .before .before .before .pre .1)
+item-at-sub-item-at t c =
+    let the-match = c .before .before in
+    let start = the-match .before .before .before .before in
+    tall _ _ _ _ _ (start .pre .1)
 
 -- the step goes down, to a copy
-down : (t : ℕ) (c : item-at-lts.After-known-told2 (callees t) (item-at-at t) item-at.Post) →
-    let A = c .before .before .before .before .before .before .args in let u = c .before .under .given .0 in
+down : (t : ℕ) (c : item-at-lts.After-known-told2 (callees t) (item-at-at t) item-at.Post) → let the-match = c .before .before in let start = the-match .before .before .before .before in let A = start .args in let u = c .before .under .given .0 in
     Down (A .e .now) (A .a .now) (A .left) (A .left - 1) (A .k) (A .n) (u .0) (u .1 .0) (u .1 .1 .0) (placed (u .1 .1 .0))
 down t c =
-    let A = c .before .before .before .before .before .before .args in
-    answer-below (A .e .now) (A .a .now) (A .left) (A .k) (A .n) _ _ _ _ (c .before .before .before .before .before .before .pre .1)
+    let the-match = c .before .before in
+    let start = the-match .before .before .before .before in
+    let A = start .args in
+    answer-below (A .e .now) (A .a .now) (A .left) (A .k) (A .n) _ _ _ _ (start .pre .1)
     (subst (Descends (A .e .now) (A .a .now) (A .k) (A .n)) (c .before .under .given .1) (c .before .before .before .descend .ensures))
 
 item-at-item-at-requires : (t : ℕ) → item-at-lts.Need-item-at-requires (callees t) (item-at-at t) item-at.Post
 item-at-item-at-requires t c κs =
-    let l = tall _ _ _ _ _ (c .before .before .before .before .before .before .pre .1) in
-    (omega (arith, c .before .before .before .before .before .before .pre .0), down t c .asks)
+    let the-match = c .before .before in
+    let start = the-match .before .before .before .before in
+    let l = tall _ _ _ _ _ (start .pre .1) in
+    (omega (arith, start .pre .0), down t c .asks)
 
 item-at-place-item-requires : (t : ℕ) → item-at-lts.Need-place-item-requires (callees t) (item-at-at t) item-at.Post
 item-at-place-item-requires t c κs = down t (c .before) .can-place _ (c .item-at .ensures)
@@ -64,29 +70,37 @@ item-at-enum-known-under-2 : (t : ℕ) → item-at-lts.Need-enum-known-under-2 (
 item-at-enum-known-under-2 t c = search needs
 
 item-at-sub-item-at-2 : (t : ℕ) → item-at-lts.Need-sub-item-at-2 (callees t) (item-at-at t) item-at.Post
-item-at-sub-item-at-2 t c = tall _ _ _ _ _ (c .before .before .before .before .before .before .pre .1)
+item-at-sub-item-at-2 t c =
+    let the-match = c .before .before in
+    let start = the-match .before .before .before .before in
+    tall _ _ _ _ _ (start .pre .1)
 
 -- the step goes down, into a flashed block
-into : (t : ℕ) (c : item-at-lts.After-known-told3 (callees t) (item-at-at t) item-at.Post) →
-    let A = c .before .before .before .before .before .before .args in let u = c .before .under2 .given .0 in
+into : (t : ℕ) (c : item-at-lts.After-known-told3 (callees t) (item-at-at t) item-at.Post) → let the-match = c .before .before in let start = the-match .before .before .before .before in let A = start .args in let u = c .before .under2 .given .0 in
     Down (A .e .now) (A .a .now) (A .left) (A .left - 1) (A .k) (A .n) (u .0) (u .1 .0) (u .1 .1 .0) (flashedBy (u .1 .1 .1 .0) (u .1 .1 .0))
 into t c =
-    let A = c .before .before .before .before .before .before .args in
-    answer-below (A .e .now) (A .a .now) (A .left) (A .k) (A .n) _ _ _ _ (c .before .before .before .before .before .before .pre .1)
+    let the-match = c .before .before in
+    let start = the-match .before .before .before .before in
+    let A = start .args in
+    answer-below (A .e .now) (A .a .now) (A .left) (A .k) (A .n) _ _ _ _ (start .pre .1)
     (subst (Descends (A .e .now) (A .a .now) (A .k) (A .n)) (c .before .under2 .given .1) (c .before .before .before .descend .ensures))
 
 item-at-item-at-requires-2 : (t : ℕ) → item-at-lts.Need-item-at-requires-2 (callees t) (item-at-at t) item-at.Post
 item-at-item-at-requires-2 t c κs =
-    let l = tall _ _ _ _ _ (c .before .before .before .before .before .before .pre .1) in
-    (omega (arith, c .before .before .before .before .before .before .pre .0), into t c .asks)
+    let the-match = c .before .before in
+    let start = the-match .before .before .before .before in
+    let l = tall _ _ _ _ _ (start .pre .1) in
+    (omega (arith, start .pre .0), into t c .asks)
 
 item-at-flash-item-requires : (t : ℕ) → item-at-lts.Need-flash-item-requires (callees t) (item-at-at t) item-at.Post
 item-at-flash-item-requires t c κs = into t (c .before) .can-place _ (c .item-at2 .ensures)
 
 item-at-returns : (t : ℕ) → item-at-lts.Need-returns (callees t) (item-at-at t) item-at.Post
 item-at-returns t c =
-    let A = c .before .before .before .before .before .before .args in
-    answer-here _ _ _ _ _ _ (c .before .before .before .before .before .before .pre .1)
+    let the-match = c .before .before in
+    let start = the-match .before .before .before .before in
+    let A = start .args in
+    answer-here _ _ _ _ _ _ (start .pre .1)
     (subst (Descends (A .e .now) (A .a .now) (A .k) (A .n)) (c .before .t .given .1) (c .before .before .before .descend .ensures))
 
 item-at-returns-2 : (t : ℕ) → item-at-lts.Need-returns-2 (callees t) (item-at-at t) item-at.Post

@@ -11,6 +11,10 @@ use borrow.Author.Needs.{needs}
 use Rattle.descend.proofs.descend.Statement.{statement}
 use Rattle.descend.proofs.descend.Tie as tie
 
+-- the places that facts are read at
+abbrev call : tie.After-entry-at → tie.Start
+call c = c .before .before .before .before
+
 find-requires : tie.Need-find-requires
 find-requires c κs = searched _ _ _ _ (c .before .before .pre)
 
@@ -38,7 +42,7 @@ index-requires : tie.Need-index-requires
 index-requires c κs = search needs
 
 block-at-requires : tie.Need-block-at-requires
-block-at-requires c κs = let h = c .before .before .before .before .before .before .before .before .before .pre in
+block-at-requires c κs = let h = call (c .before .before .before .before .before) .pre in
     let u = entry-use _ _ _ _ (fine _ _ _ (h .ok) _ (h .sound) _ _ (found (c .before .before .before .before))) (as-role (c .before .before .before) (c .before .enum-told .given .1)) in
     omega (arith, c .index .ensures, u .who-in, rooms _ _ _ (h .ok) .1)
 
@@ -49,7 +53,7 @@ enum-told-2 : tie.Need-enum-told-2
 enum-told-2 c = search needs
 
 copy-of-requires : tie.Need-copy-of-requires
-copy-of-requires c κs = let h = c .before .before .before .before .before .before .before .before .pre in splits _ _ _ (h .ok) _ (h .sound) _ _ (found (c .before .before .before)) (as-role (c .before .before) (c .enum-told2 .given .1))
+copy-of-requires c κs = let h = call (c .before .before .before .before) .pre in splits _ _ _ (h .ok) _ (h .sound) _ _ (found (c .before .before .before)) (as-role (c .before .before) (c .enum-told2 .given .1))
 
 enum-told-3 : tie.Need-enum-told-3
 enum-told-3 c = search needs
@@ -70,25 +74,35 @@ draw-requires-3 : tie.Need-draw-requires-3
 draw-requires-3 c κs = search needs
 
 returns : tie.Need-returns
-returns c = let h = c .before .before .before .before .before .before .before .before .before .before .before .pre in
+returns c =
+    let role-of = c .before .before .before .before .before in
+    let entry-at = role-of .before .before in
+    let start = entry-at .before .before .before .before in
+    let h = start .pre in
     rw (c .pose-of .ensures, c .before .block-at .ensures, c .before .before .index .ensures)
-    (use-is _ _ _ (h .ok) _ (h .sound) _ _ (found (c .before .before .before .before .before .before)) (as-role (c .before .before .before .before .before) (c .before .before .before .enum-told .given .1)))
+    (use-is _ _ _ (h .ok) _ (h .sound) _ _ (found (role-of .before)) (as-role role-of (c .before .before .before .enum-told .given .1)))
 
 returns-2 : tie.Need-returns-2
-returns-2 c = let h = c .before .before .before .before .before .before .before .before .before .pre in
+returns-2 c =
+    let entry-at = c .before .before .before .before .before in
+    let start = entry-at .before .before .before .before in
+    let h = start .pre in
     rw (c .copy-of .ensures)
     (repeat-is _ _ _ (h .ok) _ (h .sound) _ _ (found (c .before .before .before .before)) (as-role (c .before .before .before) (c .before .enum-told2 .given .1)))
 
 returns-3 : tie.Need-returns-3
-returns-3 c = let h = c .before .before .before .before .before .before .before .before .before .pre in
+returns-3 c =
+    let entry-at = c .before .before .before .before .before in
+    let start = entry-at .before .before .before .before in
+    let h = start .pre in
     rw (c .draw .ensures)
     (here-is _ _ _ (h .ok) _ (h .sound) _ _ (found (c .before .before .before .before)) (as-role (c .before .before .before) (c .before .enum-told3 .given .1)))
 
 returns-4 : tie.Need-returns-4
-returns-4 c = let h = c .before .before .before .before .before .before .before .before .before .pre in absurd (not-defines _ _ _ (h .ok) _ (h .sound) _ _ (found (c .before .before .before .before)) (as-role (c .before .before .before) (c .before .enum-told4 .given .1)))
+returns-4 c = let h = call (c .before .before .before .before .before) .pre in absurd (not-defines _ _ _ (h .ok) _ (h .sound) _ _ (found (c .before .before .before .before)) (as-role (c .before .before .before) (c .before .enum-told4 .given .1)))
 
 returns-5 : tie.Need-returns-5
-returns-5 c = let h = c .before .before .before .before .before .before .before .before .before .pre in absurd (not-unknown _ _ _ (h .ok) _ (h .sound) _ _ (found (c .before .before .before .before)) (as-role (c .before .before .before) (c .before .enum-told5 .given .1)))
+returns-5 c = let h = call (c .before .before .before .before .before) .pre in absurd (not-unknown _ _ _ (h .ok) _ (h .sound) _ _ (found (c .before .before .before .before)) (as-role (c .before .before .before) (c .before .enum-told5 .given .1)))
 
 pub descend-spec : {M : Type 1} → statement M
 descend-spec =

@@ -55,12 +55,16 @@ loop-less : tie.Need-loop-less Inv-loop μ-loop
 loop-less c = omega arith
 
 loop-again : tie.Need-loop-again Inv-loop μ-loop
-loop-again c = let i = c .before .before .before .before .before .before .before .before .before .loop .inv in
-    let A = c .before .before .before .before .before .before .before .before .before .before .before .before .before .args in
+loop-again c =
+    let item-at = c .before .before .before .before .before in
+    let the-loop = item-at .before .before .before .before in
+    let start = the-loop .before .before .before .before in
+    let i = the-loop .loop .inv in
+    let A = start .args in
     let q = c .before .before .put-item .ensures in (
       omega arith,
       c .before .before .put-item .kept .0 ∙ i .1,
-      q ∙ rw (c .before .before .before .index .ensures, c .before .before .before .before .before .item-at .ensures .is, i .2) (filled-more (items (A .e .now) (A .a .now) 10 (A .k)) (A .n) (length (A .out .now)) _ (omega arith)),
+      q ∙ rw (c .before .before .before .index .ensures, item-at .item-at .ensures .is, i .2) (filled-more (items (A .e .now) (A .a .now) 10 (A .k)) (A .n) (length (A .out .now)) _ (omega arith)),
       i .3,
       refl,
     )

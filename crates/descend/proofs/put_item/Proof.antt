@@ -39,16 +39,20 @@ same-length c = search needs
 
 returns : tie.Need-returns
 unfolding itemWords
-returns c = rw (
-  c .before .before .before .before .before .before .before .before .before .before .before .before .flag-word .ensures,
-  c .before .before .before .before .before .before .before .before .before .before .before .flag-word2 .ensures,
-  c .before .before .before .before .before .before .before .before .before .before .x-word .ensures,
-  c .before .before .before .before .before .before .before .before .before .y-word .ensures,
-  c .before .before .before .before .before .before .before .before .x-word2 .ensures,
-  c .before .before .before .before .before .before .before .y-word2 .ensures,
-  c .before .before .before .before .before .before .x-word3 .ensures,
-  c .before .before .before .before .before .y-word3 .ensures,
-) at (c .before .before .put-words .ensures)
+returns c =
+    let y-word3 = c .before .before .before .before .before in
+    let y-word2 = y-word3 .before .before in
+    let x-word = y-word2 .before .before .before in
+    rw (
+      x-word .before .before .flag-word .ensures,
+      x-word .before .flag-word2 .ensures,
+      x-word .x-word .ensures,
+      y-word2 .before .before .y-word .ensures,
+      y-word2 .before .x-word2 .ensures,
+      y-word2 .y-word2 .ensures,
+      y-word3 .before .x-word3 .ensures,
+      y-word3 .y-word3 .ensures,
+    ) at (c .before .before .put-words .ensures)
 
 pub put-item-spec : {M : Type 1} → statement M
 put-item-spec =

@@ -15,23 +15,31 @@ top-of-requires : tie.Need-top-of-requires
 top-of-requires c κs = search needs
 
 fill-requires : tie.Need-fill-requires
-fill-requires c κs = (
-  rw (c .before .before .before .top-of .ensures) (whole-top _ _ _ _ (sym (c .before .before .before .before .before .is-sheet .ensures) ∙ c .before .before .before .before .if1 .taken) (rw (c .before .before .before .top-of .ensures) at (c .before .if2 .taken))),
-  rw (c .before .before .before .before .before .before .before .before .clear .kept .0) (c .before .before .before .before .before .before .before .before .clear .ensures),
-)
+fill-requires c κs =
+    let top-of = c .before .before .before in
+    let clear = top-of .before .before .before .before .before in (
+      rw (top-of .top-of .ensures) (whole-top _ _ _ _ (sym (c .before .before .before .before .before .is-sheet .ensures) ∙ c .before .before .before .before .if1 .taken) (rw (top-of .top-of .ensures) at (c .before .if2 .taken))),
+      rw (clear .clear .kept .0) (clear .clear .ensures),
+    )
 
 same-length : tie.Need-same-length
 same-length c = search needs
 
 returns : tie.Need-returns
-returns c = fetch-done _ _ _ _ _ _ (sym (c .before .before .before .before .before .before .before .before .is-sheet .ensures) ∙ c .before .before .before .before .before .before .before .if1 .taken) (rw (c .before .before .before .before .before .before .top-of .ensures) at (c .before .before .before .before .if2 .taken))
-    (rw (c .before .before .before .before .before .before .top-of .ensures, c .before .before .before .before .before .before .before .before .before .before .before .clear .kept .0) at (c .before .before .fill .ensures))
+returns c =
+    let fill = c .before .before in
+    let top-of = fill .before .before .before .before in
+    let clear = top-of .before .before .before .before .before in
+    fetch-done _ _ _ _ _ _ (sym (top-of .before .before .is-sheet .ensures) ∙ top-of .before .if1 .taken) (rw (top-of .top-of .ensures) at (c .before .before .before .before .if2 .taken))
+    (rw (top-of .top-of .ensures, clear .clear .kept .0) at (fill .fill .ensures))
 
 same-length-2 : tie.Need-same-length-2
 same-length-2 c = search needs
 
 returns-2 : tie.Need-returns-2
-returns-2 c = fetch-past _ _ _ _ _ _ (sym (c .before .before .before .before .is-sheet .ensures) ∙ c .before .before .before .if1 .taken) (rw (c .before .before .top-of .ensures) at (c .if2 .left)) (c .before .before .before .before .before .before .before .clear .ensures)
+returns-2 c =
+    let is-sheet = c .before .before .before .before in
+    fetch-past _ _ _ _ _ _ (sym (is-sheet .is-sheet .ensures) ∙ c .before .before .before .if1 .taken) (rw (c .before .before .top-of .ensures) at (c .if2 .left)) (is-sheet .before .before .before .clear .ensures)
 
 same-length-3 : tie.Need-same-length-3
 same-length-3 c = search needs

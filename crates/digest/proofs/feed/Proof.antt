@@ -74,7 +74,9 @@ feed-bytes-requires-3 c κs = search needs
 returns-2 : tie.Need-returns-2
 unfolding empty
 returns-2 c =
-    let s = c .before .before .before .before .before .before .before .before .before .before in
+    let feed-bytes2 = c .before .before .before .before .before in
+    let start = feed-bytes2 .before .before .before .before .before in
+    let s = start in
     let a = s .args in
     let lead = (64 - a .s .length % 64) % 64 in
     let t = a .t .now in
@@ -84,7 +86,7 @@ returns-2 c =
       c .feed-bytes3 .ensures,
       c .before .before .before .feed-blocks .ensures,
       c .before .before .wrapping-add-u64 .ensures,
-      c .before .before .before .before .before .feed-bytes2 .ensures,
+      feed-bytes2 .feed-bytes2 .ensures,
       take-all (length t - end) (drop end t) short,
     )
     (fed-parts (a .s) t lead end (fits s) (size s) (omega arith) (omega arith) (omega arith) (omega arith))

@@ -18,6 +18,13 @@ Inv-loop t text words₀ rest₀ count₀ i₀ words rest count i = (i ≤ lengt
 abbrev μ-loop : tie.MeasureT-loop
 μ-loop t text words₀ rest₀ count₀ i₀ words rest count i = length t - i
 
+-- the places that facts are read at
+abbrev call : tie.In-loop Inv-loop μ-loop → tie.Start Inv-loop μ-loop
+call c = c .before .before .before .before .before
+
+abbrev in-loop : tie.Then2 Inv-loop μ-loop → tie.In-loop Inv-loop μ-loop
+in-loop c = c .before .before .before .before .before
+
 loop-holds : tie.Need-loop-holds Inv-loop μ-loop
 loop-holds c = (omega arith, (search needs, refl))
 
@@ -33,12 +40,12 @@ counts-requires c κs = search needs
 -- a byte counts: the state that it leads to is fed the rest
 byte-in : (c : tie.Then1 Inv-loop μ-loop) {q : State} →
     let l = c .before .before .before .before .loop in
-    let a = c .before .before .before .before .before .before .before .before .args in
+    let a = call (c .before .before .before) .args in
     q ≡ pushed (state (l .words) (l .rest) (l .count)) (getD (a .t .now) (l .i) 0) →
     fed q (taken (a .text) (drop (l .i + 1) (a .t .now))) ≡ fed (a .s) (taken (a .text) (a .t .now))
 byte-in c e =
     let l = c .before .before .before .before .loop in
-    let a = c .before .before .before .before .before .before .before .before .args in
+    let a = call (c .before .before .before) .args in
     let told = sym (c .before .counts .ensures) ∙ c .if1 .taken in
     ap (λ s. fed s (taken (a .text) (drop (l .i + 1) (a .t .now)))) e
     ∙ goes-in (a .text) (a .t .now) (l .i) (omega arith) (state (l .words) (l .rest) (l .count)) told ∙ l .inv .1 .1
@@ -61,11 +68,12 @@ loop-less c = search needs
 loop-again : tie.Need-loop-again Inv-loop μ-loop
 unfolding empty
 loop-again c =
+    let if2 = c .before .before in
     let e = c .before .before .before .before in
     let l = e .before .before .before .before .loop in
-    let b = getD (e .before .before .before .before .before .before .before .before .args .t .now) (l .i) 0 in
+    let b = getD (call (in-loop if2) .args .t .now) (l .i) 0 in
     let n = c .before .before .before .wrapping-add-u64 .ensures in
-    (omega arith, (refl, byte-in e ((λ k. state (c .block .ensures k) empty (n k)) ∙ sym (pushed-full (state (l .words) (l .rest) (l .count)) b (c .before .before .if2 .taken)))))
+    (omega arith, (refl, byte-in e ((λ k. state (c .block .ensures k) empty (n k)) ∙ sym (pushed-full (state (l .words) (l .rest) (l .count)) b (if2 .if2 .taken)))))
 
 loop-less-2 : tie.Need-loop-less-2 Inv-loop μ-loop
 loop-less-2 c = search needs
@@ -74,7 +82,7 @@ loop-again-2 : tie.Need-loop-again-2 Inv-loop μ-loop
 loop-again-2 c =
     let e = c .before .before in
     let l = e .before .before .before .before .loop in
-    let b = getD (e .before .before .before .before .before .before .before .before .args .t .now) (l .i) 0 in
+    let b = getD (call (c .before .before .before .before .before) .args .t .now) (l .i) 0 in
     let x = set (l .rest) (l .count % 64) b in
     let n = c .before .wrapping-add-u64 .ensures in
     (omega arith, (length-set (l .rest) (l .count % 64) b ∙ l .inv .1 .0, byte-in e ((λ k. state (l .words) x (n k)) ∙ sym (pushed-open (state (l .words) (l .rest) (l .count)) b (c .if2 .left)))))
@@ -85,7 +93,7 @@ loop-less-3 c = search needs
 loop-again-3 : tie.Need-loop-again-3 Inv-loop μ-loop
 loop-again-3 c =
     let l = c .before .before .before .before .loop in
-    let a = c .before .before .before .before .before .before .before .before .args in
+    let a = call (c .before .before .before) .args in
     let told = sym (c .before .counts .ensures) ∙ c .if1 .left in
     (omega arith, (l .inv .1 .0, left-out (a .text) (a .t .now) (l .i) (omega arith) (state (l .words) (l .rest) (l .count)) told ∙ l .inv .1 .1))
 

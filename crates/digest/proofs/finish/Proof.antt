@@ -44,11 +44,13 @@ output-of-requires c κs = search needs
 returns : tie.Need-returns
 unfolding finished tail
 returns c =
-    let a = c .before .before .before .before .before .before .before .before .args in
+    let bytes-of = c .before .before .before in
+    let start = bytes-of .before .before .before .before .before in
+    let a = start .args in
     rw (
       c .output-of .ensures,
       c .before .feed2 .ensures,
-      c .before .before .before .bytes-of .ensures,
+      bytes-of .bytes-of .ensures,
       c .before .before .before .before .before .feed .ensures,
       first-padding (a .s .length),
       length-field (a .s .length),

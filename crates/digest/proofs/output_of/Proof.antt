@@ -79,7 +79,9 @@ array-read-t55 c = search needs
 
 returns : tie.Need-returns
 unfolding output bytesOf
-returns c = rw (c .bytes-of4 .ensures, c .before .before .bytes-of3 .ensures, c .before .before .before .before .bytes-of2 .ensures, c .before .before .before .before .before .before .bytes-of .ensures)
+returns c =
+    let bytes-of2 = c .before .before .before .before in
+    rw (c .bytes-of4 .ensures, c .before .before .bytes-of3 .ensures, bytes-of2 .bytes-of2 .ensures, bytes-of2 .before .before .bytes-of .ensures)
 
 pub output-of-spec : {M : Type 1} → statement M
 output-of-spec =

@@ -25,7 +25,8 @@ past-requires c κs = search needs
 
 returns-3 : tie.Need-returns-3
 returns-3 c =
-    let l = c .before .before .before .before .before .before .before .args .l in
+    let if1 = c .before .before .before .before .before in
+    let l = if1 .before .before .args .l in
     c .past .ensures ∙ shared (l .sheet) (l .copies) _ most (omega arith) (c .before .before .before .if2 .left)
 
 pub copies-past-spec : {M : Type 1} → statement M

@@ -53,22 +53,26 @@ row-requires-8 c κs = search needs
 returns : tie.Need-returns
 unfolding flashFault
 returns c =
+    let row5 = c .before .before .before .before .before in
+    let row4 = row5 .before .before in
+    let is-too-tall = row4 .before .before in
+    let too-many = is-too-tall .before .before .before in
     simp (
       c .row8 .ensures,
       c .before .goes-far .ensures,
       c .before .before .row7 .ensures,
       c .before .before .before .row6 .ensures,
       c .before .before .before .before .is-unready .ensures,
-      c .before .before .before .before .before .row5 .ensures,
-      c .before .before .before .before .before .before .flash-misfits .ensures,
-      c .before .before .before .before .before .before .before .row4 .ensures,
-      c .before .before .before .before .before .before .before .before .row3 .ensures,
-      c .before .before .before .before .before .before .before .before .before .is-too-tall .ensures,
-      c .before .before .before .before .before .before .before .before .before .before .is-askew .ensures,
-      c .before .before .before .before .before .before .before .before .before .before .before .row2 .ensures,
-      c .before .before .before .before .before .before .before .before .before .before .before .before .too-many .ensures,
-      c .before .before .before .before .before .before .before .before .before .before .before .before .before .flash-items .ensures,
-      c .before .before .before .before .before .before .before .before .before .before .before .before .before .before .row .ensures,
+      row5 .row5 .ensures,
+      row5 .before .flash-misfits .ensures,
+      row4 .row4 .ensures,
+      row4 .before .row3 .ensures,
+      is-too-tall .is-too-tall .ensures,
+      is-too-tall .before .is-askew .ensures,
+      is-too-tall .before .before .row2 .ensures,
+      too-many .too-many .ensures,
+      too-many .before .flash-items .ensures,
+      too-many .before .before .row .ensures,
     )
 
 pub flash-fault-spec : {M : Type 1} → statement M

@@ -32,15 +32,16 @@ row-requires-4 c κs = search needs
 returns : tie.Need-returns
 unfolding moveFault
 returns c =
+    let is-placeless = c .before .before .before .before .before in
     simp (
       c .row4 .ensures,
       c .before .goes-far .ensures,
       c .before .before .row3 .ensures,
       c .before .before .before .is-unready .ensures,
       c .before .before .before .before .row2 .ensures,
-      c .before .before .before .before .before .is-placeless .ensures,
-      c .before .before .before .before .before .before .row .ensures,
-      c .before .before .before .before .before .before .before .is-unclosed .ensures,
+      is-placeless .is-placeless .ensures,
+      is-placeless .before .row .ensures,
+      is-placeless .before .before .is-unclosed .ensures,
     )
 
 pub move-fault-spec : {M : Type 1} → statement M

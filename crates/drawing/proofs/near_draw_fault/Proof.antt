@@ -48,21 +48,24 @@ row-requires-7 c κs = search needs
 
 returns : tie.Need-returns
 returns c =
+    let is-moveless = c .before .before .before .before .before in
+    let row3 = is-moveless .before .before .before in
+    let too-many = row3 .before .before .before in
     simp (
       c .row7 .ensures,
       c .before .is-unready .ensures,
       c .before .before .row6 .ensures,
       c .before .before .before .draw-misfits .ensures,
       c .before .before .before .before .row5 .ensures,
-      c .before .before .before .before .before .is-moveless .ensures,
-      c .before .before .before .before .before .before .row4 .ensures,
-      c .before .before .before .before .before .before .before .bad-centre .ensures,
-      c .before .before .before .before .before .before .before .before .row3 .ensures,
-      c .before .before .before .before .before .before .before .before .before .is-centreless .ensures,
-      c .before .before .before .before .before .before .before .before .before .before .row2 .ensures,
-      c .before .before .before .before .before .before .before .before .before .before .before .too-many .ensures,
-      c .before .before .before .before .before .before .before .before .before .before .before .before .row .ensures,
-      c .before .before .before .before .before .before .before .before .before .before .before .before .before .draw-items .ensures,
+      is-moveless .is-moveless .ensures,
+      is-moveless .before .row4 .ensures,
+      is-moveless .before .before .bad-centre .ensures,
+      row3 .row3 .ensures,
+      row3 .before .is-centreless .ensures,
+      row3 .before .before .row2 .ensures,
+      too-many .too-many .ensures,
+      too-many .before .row .ensures,
+      too-many .before .before .draw-items .ensures,
     )
 
 pub near-draw-fault-spec : {M : Type 1} → statement M

@@ -103,21 +103,26 @@ expression-sign-after-requires t c κs = search needs
 expression-loop-holds : (t : ℕ) → expression-lts.Need-loop-holds (expression-callees t) (expression-at t) expression.Post expression-Inv-loop expression-μ-loop
 unfolding grammar.expression
 expression-loop-holds t c =
-    let a = c .before .before .before .before .before .before .args in
+    let if1 = c .before .before .before .before in
+    let a = if1 .before .before .args in
     let s = a .s .now in
-    rw (some-left (length s) (a .v .values) s (a .at) (a .depth) (c .before .before .before .before .if1 .left))
+    rw (some-left (length s) (a .v .values) s (a .at) (a .depth) (if1 .if1 .left))
     (chain-starts plusMinus sumBy (termAt (length s) (a .v .values) (a .depth - 1)) s (a .at) (c .before .negate .result) (c .sign-after .result) _
     (sign-leads (termAt (length s) (a .v .values) (a .depth - 1)) s (a .at) (c .before .before .before .sign-at .result) (c .before .before .term .result) (c .before .negate .result)
     (c .before .before .before .sign-at .ensures) (c .before .before .term .ensures) (c .before .negate .ensures))
     (c .sign-after .ensures))
 
 expression-sub-term-2 : (t : ℕ) → expression-lts.Need-sub-term-2 (expression-callees t) (expression-at t) expression.Post expression-Inv-loop expression-μ-loop
-expression-sub-term-2 t c = omega (arith, c .before .before .before .before .before .before .if1 .left)
+expression-sub-term-2 t c =
+    let sign-at = c .before .before .before .before .before in
+    omega (arith, sign-at .before .if1 .left)
 
 expression-term-requires-2 : (t : ℕ) → expression-lts.Need-term-requires-2 (expression-callees t) (expression-at t) expression.Post expression-Inv-loop expression-μ-loop
 expression-term-requires-2 t c κs =
+    let negate = c .before .before .before in
+    let start = negate .before .before .before .before .before in
     let l = c .before .loop in
-    (omega (arith, c .before .before .before .before .before .before .before .before .pre .0, l .inv .follows .beyond (c .loop-test .taken), l .inv .follows .inside (c .loop-test .taken), l .inv .further), c .before .before .before .before .before .before .before .before .pre .1)
+    (omega (arith, start .pre .0, l .inv .follows .beyond (c .loop-test .taken), l .inv .follows .inside (c .loop-test .taken), l .inv .further), start .pre .1)
 
 expression-summed-requires : (t : ℕ) → expression-lts.Need-summed-requires (expression-callees t) (expression-at t) expression.Post expression-Inv-loop expression-μ-loop
 expression-summed-requires t c κs = (c .before .before .loop .inv .small, c .term2 .ensures .small)
@@ -175,18 +180,21 @@ factor-returns t c =
 
 factor-returns-2 : (t : ℕ) → factor-lts.Need-returns-2 (factor-callees t) (factor-at t) factor.Post
 factor-returns-2 t c =
-    let a = c .before .before .before .before .before .before .args in
+    let the-match = c .before .before in
+    let start = the-match .before .before .before .before in
+    let a = start .args in
     let s = a .s .now in
     let value = sym (c .before .f .given .1) ∙ c .before .before .before .leaf-of .ensures ∙ ap (λ x. leafOf (a .v .values) (x .token)) (c .before .before .before .before .token-at .ensures) in
-    rw (c .before .before .before .before .token-at .ensures) (factor-value (length s) (a .v .values) (expressionAt (length s) (a .v .values) (a .depth)) s (a .at) (c .before .before .before .before .before .before .pre .1) _ value)
+    rw (c .before .before .before .before .token-at .ensures) (factor-value (length s) (a .v .values) (expressionAt (length s) (a .v .values) (a .depth)) s (a .at) (start .pre .1) _ value)
 
 factor-returns-3 : (t : ℕ) → factor-lts.Need-returns-3 (factor-callees t) (factor-at t) factor.Post
 factor-returns-3 t c =
-    let a = c .before .before .before .before .before .before .before .args in
+    let token-at = c .before .before .before .before .before in
+    let a = token-at .before .before .args in
     let s = a .s .now in
-    let opens = sym (c .before .before .enum-told2 .given .1) ∙ c .before .before .before .before .leaf-of .ensures ∙ ap (λ x. leafOf (a .v .values) (x .token)) (c .before .before .before .before .before .token-at .ensures) in
+    let opens = sym (c .before .before .enum-told2 .given .1) ∙ c .before .before .before .before .leaf-of .ensures ∙ ap (λ x. leafOf (a .v .values) (x .token)) (token-at .token-at .ensures) in
     factor-open (length s) (a .v .values) (expressionAt (length s) (a .v .values) (a .depth)) s (a .at) opens (c .before .expression .result) (c .close .result)
-    (rw (c .before .before .before .before .before .token-at .ensures) at (c .before .expression .ensures)) (c .close .ensures)
+    (rw (token-at .token-at .ensures) at (c .before .expression .ensures)) (c .close .ensures)
 
 abbrev term-Inv-loop : term-lts.InvT-loop
 term-Inv-loop s at depth v w₀ o₀ w o = Chained timesOver productBy (factorAt (length s) (v .values) depth) s at w o (termAt (length s) (v .values) depth (tokens (drop at s)))

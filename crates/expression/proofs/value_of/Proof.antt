@@ -19,8 +19,9 @@ both-requires c κs = search needs
 returns : tie.Need-returns
 unfolding valueOf
 returns c =
-    let w = c .before .before .before .before .before .expression in
-    let a = c .before .before .before .before .before .before .before .args in
+    let the-expression = c .before .before .before .before .before in
+    let w = the-expression .expression in
+    let a = the-expression .before .before .args in
     rw (stored-small (w .result .value .millionths) (w .ensures .small))
     (record {
       says = sym (whole-read (a .t .now) (w .result) (sym (c .before .before .before .both .ensures) ∙ c .before .before .if1 .taken)) ∙ ap whole (w .ensures .says);

@@ -42,7 +42,7 @@ block-requires : tie.Need-block-requires Inv-loop μ-loop
 block-requires c κs = search needs
 
 -- the next block's decimals, with those before it, are no more than the bytes up to its end
-next-few : (c : tie.After-block Inv-loop μ-loop) → (c .block .result .rounded + (c .before .before .before .before .loop .at + 1) ≤ c .before .before .find .result) × (c .before .before .find .result ≤ length (c .before .before .before .before .before .before .args .s .now))
+next-few : (c : tie.After-block Inv-loop μ-loop) → let the-loop = c .before .before .before .before in (c .block .result .rounded + (the-loop .loop .at + 1) ≤ c .before .before .find .result) × (c .before .before .find .result ≤ length (the-loop .before .before .args .s .now))
 next-few c = rw (c .block .ensures, c .before .part .ensures) (piece blockForm block-few (code "*") _ _ _ (c .before .before .before .loop-test .taken) (c .before .before .find .ensures))
 
 both-requires : tie.Need-both-requires Inv-loop μ-loop
@@ -50,14 +50,16 @@ both-requires c κs = let few = next-few c in omega (arith, few .0, few .1, c .b
 
 loop-less : tie.Need-loop-less Inv-loop μ-loop
 loop-less c =
-    let l = c .before .before .before .before .before .loop in
-    omega (arith, first-from (λ b. eqb b (code "*")) (c .before .before .before .before .before .before .before .args .s .now) (l .at + 1), c .before .before .before .find .ensures)
+    let the-loop = c .before .before .before .before .before in
+    let l = the-loop .loop in
+    omega (arith, first-from (λ b. eqb b (code "*")) (the-loop .before .before .args .s .now) (l .at + 1), c .before .before .before .find .ensures)
 
 loop-again : tie.Need-loop-again Inv-loop μ-loop
 unfolding joined
 loop-again c =
-    let l = c .before .before .before .before .before .loop in
-    let s = c .before .before .before .before .before .before .before .args .s .now in
+    let the-loop = c .before .before .before .before .before in
+    let l = the-loop .loop in
+    let s = the-loop .before .before .args .s .now in
     let few = next-few (c .before) in (
       rw (c .both .ensures, c .before .block .ensures, c .before .before .part .ensures, c .before .before .before .find .ensures)
           (sym (gather-next blockForm (code "*") s (l .at) (l .f) (c .before .before .before .before .loop-test .taken)) ∙ l .inv .0),

@@ -44,16 +44,18 @@ judged-requires c κs = search needs
 returns : tie.Need-returns
 unfolding headed
 returns c =
+    let ends = c .before .before .before .before in
+    let is-name = ends .before .before .before in
     simp (
       c .judged .ensures,
       c .before .either .ensures,
       c .before .before .blocks2 .ensures,
       c .before .before .before .both2 .ensures,
-      c .before .before .before .before .ends .ensures,
-      c .before .before .before .before .before .before .both .ensures,
-      c .before .before .before .before .before .before .before .is-name .ensures,
-      c .before .before .before .before .before .before .before .before .part .ensures,
-      c .before .before .before .before .before .before .before .before .before .begins .ensures,
+      ends .ends .ensures,
+      ends .before .before .both .ensures,
+      is-name .is-name .ensures,
+      is-name .before .part .ensures,
+      is-name .before .before .begins .ensures,
     )
 
 pub headed-spec : {M : Type 1} → statement M

@@ -54,7 +54,7 @@ expression-requires : tie.Need-expression-requires Inv-loop μ-loop
 expression-requires c κs = search needs
 
 -- the next expression's decimals, with those before it, are no more than the bytes up to its end
-next-few : (c : tie.After-expression Inv-loop μ-loop) → (c .expression .result .rounded + (c .before .before .before .before .before .loop .at + 1) ≤ c .before .before .before .find2 .result) × (c .before .before .before .find2 .result ≤ length (c .before .before .before .before .before .before .before .before .before .before .args .t .now))
+next-few : (c : tie.After-expression Inv-loop μ-loop) → let the-loop = c .before .before .before .before .before in let start = the-loop .before .before .before .before .before in (c .expression .result .rounded + (the-loop .loop .at + 1) ≤ c .before .before .before .find2 .result) × (c .before .before .before .find2 .result ≤ length (start .args .t .now))
 unfolding parameterForm
 next-few c = rw (c .expression .ensures, c .before .without-leading .ensures, c .before .before .part .ensures) (piece parameterForm parameter-few (code ",") _ _ _ (c .before .before .before .before .loop-test .taken) (c .before .before .before .find2 .ensures))
 
@@ -63,14 +63,20 @@ both-requires c κs = let few = next-few c in omega (arith, few .0, few .1, c .b
 
 loop-less : tie.Need-loop-less Inv-loop μ-loop
 loop-less c =
-    let l = c .before .before .before .before .before .before .loop in
-    omega (arith, first-from (λ b. eqb b (code ",")) (c .before .before .before .before .before .before .before .before .before .before .before .args .t .now) (l .at + 1), c .before .before .before .before .find2 .ensures)
+    let the-expression = c .before in
+    let the-loop = the-expression .before .before .before .before .before in
+    let start = the-loop .before .before .before .before .before in
+    let l = the-loop .loop in
+    omega (arith, first-from (λ b. eqb b (code ",")) (start .args .t .now) (l .at + 1), c .before .before .before .before .find2 .ensures)
 
 loop-again : tie.Need-loop-again Inv-loop μ-loop
 unfolding joined parameterForm
 loop-again c =
-    let l = c .before .before .before .before .before .before .loop in
-    let t = c .before .before .before .before .before .before .before .before .before .before .before .args .t .now in
+    let the-expression = c .before in
+    let the-loop = the-expression .before .before .before .before .before in
+    let start = the-loop .before .before .before .before .before in
+    let l = the-loop .loop in
+    let t = start .args .t .now in
     let few = next-few (c .before) in (
       rw (c .both .ensures, c .before .expression .ensures, c .before .before .without-leading .ensures, c .before .before .before .part .ensures, c .before .before .before .before .find2 .ensures)
           (sym (gather-next parameterForm (code ",") t (l .at) (l .f) (c .before .before .before .before .before .loop-test .taken)) ∙ l .inv .0),

@@ -7,6 +7,13 @@ use borrow.Author.Needs.{needs}
 use Rattle.hearing.proofs.designate.Statement.{statement}
 use Rattle.hearing.proofs.designate.Tie as tie
 
+-- the places that facts are read at
+abbrev call : tie.After-search-name → tie.Start
+call c = c .before .before .before .before
+
+abbrev at-search-name : tie.After-put-macro → tie.After-search-name
+at-search-name c = c .before .before .before .before .before
+
 search-name-requires : tie.Need-search-name-requires
 search-name-requires c κs = search needs
 
@@ -14,7 +21,10 @@ enum-known-found : tie.Need-enum-known-found
 enum-known-found c = search needs
 
 add-t15 : tie.Need-add-t15
-add-t15 c = let A = c .before .before .before .before .before .before .before .args in omega (arith, found-below _ _ _ _ _ (sym (c .before .before .before .search-name .ensures) ∙ c .before .found .given .1), c .before .before .before .before .before .before .before .pre .0 .named .tree .inside)
+add-t15 c =
+    let search-name = c .before .before .before in
+    let start = call search-name in
+    let A = start .args in omega (arith, found-below _ _ _ _ _ (sym (search-name .search-name .ensures) ∙ c .before .found .given .1), start .pre .0 .named .tree .inside)
 
 enum-known-found-2 : tie.Need-enum-known-found-2
 enum-known-found-2 c = search needs
@@ -32,19 +42,30 @@ same-length : tie.Need-same-length
 same-length c = search needs
 
 returns : tie.Need-returns
-returns c = kept-new _ _ _ (c .before .before .before .before .before .before .before .before .before .before .before .before .pre .0) (c .before .before .before .before .before .before .before .before .before .before .before .before .args .p) (sym (c .before .before .before .before .before .before .before .before .search-name .ensures) ∙ c .before .before .before .before .before .before .found2 .given .1) (room-is _ _ (sym (c .before .before .before .put-macro .ensures .0) ∙ c .if1 .taken)) (c .before .before .before .put-macro .ensures .1) (c .before .before .before .put-macro .kept .0)
+returns c =
+    let put-macro = c .before .before .before in
+    let search-name = at-search-name put-macro in
+    let start = call search-name in
+    kept-new _ _ _ (start .pre .0) (start .args .p) (sym (search-name .search-name .ensures) ∙ put-macro .before .before .before .found2 .given .1) (room-is _ _ (sym (put-macro .put-macro .ensures .0) ∙ c .if1 .taken)) (put-macro .put-macro .ensures .1) (put-macro .put-macro .kept .0)
 
 same-length-2 : tie.Need-same-length-2
 same-length-2 c = search needs
 
 returns-2 : tie.Need-returns-2
-returns-2 c = kept-found _ _ _ (c .before .before .before .before .before .before .before .pre .0) (c .before .before .before .before .before .before .before .args .p) (sym (c .before .before .before .search-name .ensures) ∙ c .before .found .given .1)
+returns-2 c =
+    let search-name = c .before .before .before in
+    let start = call search-name in
+    kept-found _ _ _ (start .pre .0) (start .args .p) (sym (search-name .search-name .ensures) ∙ c .before .found .given .1)
 
 same-length-3 : tie.Need-same-length-3
 same-length-3 c = search needs
 
 returns-3 : tie.Need-returns-3
-returns-3 c = kept-full _ _ _ (c .before .before .before .before .before .before .before .before .before .before .before .before .pre .0) (c .before .before .before .before .before .before .before .before .before .before .before .before .args .p) (sym (c .before .before .before .before .before .before .before .before .search-name .ensures) ∙ c .before .before .before .before .before .before .found2 .given .1) (sym (c .before .before .before .put-macro .ensures .0) ∙ c .if1 .left) (c .before .before .before .put-macro .ensures .1)
+returns-3 c =
+    let put-macro = c .before .before .before in
+    let search-name = at-search-name put-macro in
+    let start = call search-name in
+    kept-full _ _ _ (start .pre .0) (start .args .p) (sym (search-name .search-name .ensures) ∙ put-macro .before .before .before .found2 .given .1) (sym (put-macro .put-macro .ensures .0) ∙ c .if1 .left) (put-macro .put-macro .ensures .1)
 
 pub designate-spec : {M : Type 1} → statement M
 designate-spec =

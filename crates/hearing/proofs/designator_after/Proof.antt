@@ -30,7 +30,10 @@ same-length : tie.Need-same-length
 same-length c = search needs
 
 returns-3 : tie.Need-returns-3
-returns-3 c = rw (c .before .before .before .before .before .before .s .given .1) (hears-sets _ _ _ (c .before .before .before .before .before .before .before .before .before .before .pre) _ _ _ (c .before .before .before .before .first-field .ensures) (c .before .before .designate .ensures))
+returns-3 c =
+    let known-told = c .before .before .before .before .before in
+    let start = known-told .before .before .before .before .before in
+    rw (known-told .before .s .given .1) (hears-sets _ _ _ (start .pre) _ _ _ (c .before .before .before .before .first-field .ensures) (c .before .before .designate .ensures))
 
 pub designator-after-spec : {M : Type 1} → statement M
 designator-after-spec =

@@ -6,6 +6,10 @@ use borrow.Author.Needs.{needs}
 use Rattle.hearing.proofs.function_is.Statement.{statement}
 use Rattle.hearing.proofs.function_is.Tie as tie
 
+-- the places that facts are read at
+abbrev at-if1 : tie.After-is3 → tie.Else1
+at-if1 c = c .before .before .before .before .before
+
 slice-aggregate-is : tie.Need-slice-aggregate-is
 slice-aggregate-is c = search needs
 
@@ -31,10 +35,14 @@ is-requires-3 : tie.Need-is-requires-3
 is-requires-3 c κs = search needs
 
 returns-3 : tie.Need-returns-3
-returns-3 c = is-outline _ (sym (c .before .before .before .before .before .before .before .is .ensures) ∙ c .before .before .before .before .before .before .if1 .left) (sym (c .before .before .before .before .is2 .ensures) ∙ c .before .before .before .if2 .left) (sym (c .before .is3 .ensures) ∙ c .if3 .taken)
+returns-3 c =
+    let if1 = at-if1 (c .before) in
+    is-outline _ (sym (if1 .before .is .ensures) ∙ if1 .if1 .left) (sym (c .before .before .before .before .is2 .ensures) ∙ c .before .before .before .if2 .left) (sym (c .before .is3 .ensures) ∙ c .if3 .taken)
 
 returns-4 : tie.Need-returns-4
-returns-4 c = is-other _ (sym (c .before .before .before .before .before .before .before .is .ensures) ∙ c .before .before .before .before .before .before .if1 .left) (sym (c .before .before .before .before .is2 .ensures) ∙ c .before .before .before .if2 .left) (sym (c .before .is3 .ensures) ∙ c .if3 .left)
+returns-4 c =
+    let if1 = at-if1 (c .before) in
+    is-other _ (sym (if1 .before .is .ensures) ∙ if1 .if1 .left) (sym (c .before .before .before .before .is2 .ensures) ∙ c .before .before .before .if2 .left) (sym (c .before .is3 .ensures) ∙ c .if3 .left)
 
 pub function-is-spec : {M : Type 1} → statement M
 function-is-spec =

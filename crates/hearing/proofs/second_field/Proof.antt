@@ -8,6 +8,10 @@ use borrow.Author.Needs.{needs}
 use Rattle.hearing.proofs.second_field.Statement.{statement}
 use Rattle.hearing.proofs.second_field.Tie as tie
 
+-- the places that facts are read at
+abbrev call : tie.After-find → tie.Start
+call c = c .before .before .before .before
+
 from-on-requires : tie.Need-from-on-requires
 from-on-requires c κs = search needs
 
@@ -34,16 +38,18 @@ first-field-requires c κs = search needs
 
 returns : tie.Need-returns
 returns c =
-    let A = c .before .before .before .before .before .before .args in
-    second-there (A .file .now) (A .place) (A .length) (c .before .before .before .up-to .ensures ∙ ap (take (A .length)) (c .before .before .before .before .from-on .ensures)) (c .before .before .find .ensures) (c .before .if1 .taken) (c .first-field .ensures)
+    let find = c .before .before in
+    let A = call find .args in
+    second-there (A .file .now) (A .place) (A .length) (c .before .before .before .up-to .ensures ∙ ap (take (A .length)) (c .before .before .before .before .from-on .ensures)) (find .find .ensures) (c .before .if1 .taken) (c .first-field .ensures)
 
 nowhere-requires : tie.Need-nowhere-requires
 nowhere-requires c κs = search needs
 
 returns-2 : tie.Need-returns-2
 returns-2 c =
-    let A = c .before .before .before .before .before .before .args in
-    second-nowhere (A .file .now) (A .place) (A .length) (c .before .before .before .up-to .ensures ∙ ap (take (A .length)) (c .before .before .before .before .from-on .ensures)) (c .before .before .find .ensures) (c .before .if1 .left) (c .nowhere .ensures)
+    let find = c .before .before in
+    let A = call find .args in
+    second-nowhere (A .file .now) (A .place) (A .length) (c .before .before .before .up-to .ensures ∙ ap (take (A .length)) (c .before .before .before .before .from-on .ensures)) (find .find .ensures) (c .before .if1 .left) (c .nowhere .ensures)
 
 pub second-field-spec : {M : Type 1} → statement M
 second-field-spec =

@@ -34,8 +34,10 @@ rest-is-requires c κs = search needs
 returns : tie.Need-returns
 unfolding nameOf
 returns c =
-    let f = c .before .before .before .before .before .before .before .args .file .now in
-    let n = c .before .before .part .ensures ∙ (λ i. slice (c .before .before .before .before .word-at .ensures i) (c .before .before .before .word-at2 .ensures i) f) in
+    let part = c .before .before in
+    let start = part .before .before .before .before .before in
+    let f = start .args .file .now in
+    let n = part .part .ensures ∙ (λ i. slice (c .before .before .before .before .word-at .ensures i) (c .before .before .before .word-at2 .ensures i) f) in
     c .rest-is .ensures ∙ (λ i. sameBytes (n i) (c .before .part2 .ensures i))
 
 pub has-name-spec : {M : Type 1} → statement M

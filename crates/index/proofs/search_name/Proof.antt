@@ -33,6 +33,13 @@ Inv-loop file s used from to d₀ link₀ at₀ d link at = Standing file s used
 abbrev μ-loop : tie.MeasureT-loop
 μ-loop file s used from to d₀ link₀ at₀ d link at = used - at
 
+-- the places that facts are read at
+abbrev call : tie.Else1 Inv-loop μ-loop → tie.Start Inv-loop μ-loop
+call c = c .before .before .before .before .before
+
+abbrev at-if1 : tie.Else3 Inv-loop μ-loop → tie.Else1 Inv-loop μ-loop
+at-if1 c = c .before .before .before .before .before
+
 name-bit-requires : tie.Need-name-bit-requires Inv-loop μ-loop
 name-bit-requires c κs = (c .before .before .pre .1, c .before .before .pre .2)
 
@@ -56,17 +63,17 @@ loop-holds c =
     }
 
 has-name-requires : tie.Need-has-name-requires Inv-loop μ-loop
-has-name-requires c κs = omega (arith, c .loop .inv .seeking .standing, c .before .before .before .before .before .before .pre .0 .tree .inside)
+has-name-requires c κs = omega (arith, c .loop .inv .seeking .standing, call (c .before) .pre .0 .tree .inside)
 
 word-at-requires : tie.Need-word-at-requires Inv-loop μ-loop
 word-at-requires c κs = search needs
 
 -- the record that the search comes to next, and that the one at hand is not the one sought
-led : (c : tie.After-word-at Inv-loop μ-loop) → let a = c .before .before .before .before .before .before .before .before .before .args in let b = c .before .before .before .loop in
+led : (c : tie.After-word-at Inv-loop μ-loop) → let a = call (c .before .before .before .before) .args in let b = c .before .before .before .loop in
     c .word-at .result ≡ next (a .s .now) (b .at) (keyOf (slice (a .from) (a .to) (a .file .now)) / 2 ^ b .d)
-led c = c .word-at .ensures ∙ ap (λ i. getD (c .before .before .before .before .before .before .before .before .before .args .s .now) i 0) (c .before .before .before .loop .inv .leading)
+led c = c .word-at .ensures ∙ ap (λ i. getD (call (c .before .before .before .before) .args .s .now) i 0) (c .before .before .before .loop .inv .leading)
 
-other : (c : tie.Then2 Inv-loop μ-loop) → let a = c .before .before .before .before .before .before .before .before .args in
+other : (c : tie.Then2 Inv-loop μ-loop) → let a = call (c .before .before .before) .args in
     sameBytes (nameOf (a .file .now) (a .s .now) (c .before .before .loop .at)) (slice (a .from) (a .to) (a .file .now)) ≡ false
 other c = sym (c .before .has-name .ensures) ∙ not-true _ (c .if2 .taken)
 
@@ -74,16 +81,18 @@ returns-2 : tie.Need-returns-2 Inv-loop μ-loop
 unfolding named
 returns-2 c =
     let l = c .before in
-    let t = c .before .before .before .before .before .before .before .before .before .before .pre .0 .tree in
+    let t = call (c .before .before .before .before .before) .pre .0 .tree in
     let k = c .before .before .before .before .loop .inv in
     let z = sym (led l) ∙ c .if3 .taken in
     ap Free (k .leading ∙ seek-end t (k .seeking) (other (l .before)) z) ∙ sym (seek-none t (k .seeking) (other (l .before)) _ z)
 
 -- a link that leads on leads to a later record in use
-onward : (c : tie.Else3 Inv-loop μ-loop) → (c .before .before .before .before .loop .at < c .before .word-at .result) × (c .before .word-at .result < c .before .before .before .before .before .before .before .before .before .before .args .used)
+onward : (c : tie.Else3 Inv-loop μ-loop) → (c .before .before .before .before .loop .at < c .before .word-at .result) × (c .before .word-at .result < call (at-if1 c) .args .used)
 onward c =
-    let t = c .before .before .before .before .before .before .before .before .before .before .pre .0 .tree in
-    let a = c .before .before .before .before .before .before .before .before .before .before .args in
+    let if1 = c .before .before .before .before .before in
+    let start = if1 .before .before .before .before .before in
+    let t = start .pre .0 .tree in
+    let a = start .args in
     let b = c .before .before .before .before .loop in
     let e = led (c .before) in
     let z = c .if3 .left in
@@ -93,15 +102,17 @@ onward c =
 add-d : tie.Need-add-d Inv-loop μ-loop
 add-d c =
     let w = onward c in
-    omega (arith, c .before .before .before .before .loop .inv .few, c .before .before .before .before .before .before .before .before .before .before .pre .0 .tree .inside)
+    omega (arith, c .before .before .before .before .loop .inv .few, call (at-if1 c) .pre .0 .tree .inside)
 
 name-bit-requires-2 : tie.Need-name-bit-requires-2 Inv-loop μ-loop
-name-bit-requires-2 c κs = (c .before .before .before .before .before .before .before .before .before .before .pre .1, c .before .before .before .before .before .before .before .before .before .before .pre .2)
+name-bit-requires-2 c κs =
+    let start = call (at-if1 c) in
+    (start .pre .1, start .pre .2)
 
 link-word-requires-2 : tie.Need-link-word-requires-2 Inv-loop μ-loop
 link-word-requires-2 c κs =
     let w = onward (c .before) in
-    omega (arith, c .before .before .before .before .before .before .before .before .before .before .before .pre .0 .tree .inside)
+    omega (arith, call (at-if1 (c .before)) .pre .0 .tree .inside)
 
 loop-less : tie.Need-loop-less Inv-loop μ-loop
 loop-less c =
@@ -110,15 +121,19 @@ loop-less c =
 
 loop-again : tie.Need-loop-again Inv-loop μ-loop
 loop-again c =
+    let name-bit2 = c .before in
+    let loop = name-bit2 .before .before .before .before .before in
+    let if1 = loop .before in
+    let start = if1 .before .before .before .before .before in
     let l = c .before .before in
-    let a = c .before .before .before .before .before .before .before .before .before .before .before .before .args in
+    let a = start .args in
     let k = keyOf (slice (a .from) (a .to) (a .file .now)) in
-    let v = c .before .before .before .before .before .before .loop .inv in
+    let v = loop .loop .inv in
     let w = onward l in
     let e = led (l .before) in
-    let s = seek-on (c .before .before .before .before .before .before .before .before .before .before .before .before .pre .0 .tree) (v .seeking) (other (l .before .before)) (rw (← e) (let w : 0 < l .before .word-at .result = omega arith in w)) in
+    let s = seek-on (start .pre .0 .tree) (v .seeking) (other (l .before .before)) (rw (← e) (let w : 0 < l .before .word-at .result = omega arith in w)) in
     record {
-      seeking = rw (e, ← shr-shr k (c .before .before .before .before .before .before .loop .d) 1) s;
+      seeking = rw (e, ← shr-shr k (loop .loop .d) 1) s;
       leading = c .link-word2 .ensures ∙ ap (linkWord (l .before .word-at .result)) (c .before .name-bit2 .ensures);
       few = omega (arith, v .few);
     }
@@ -126,8 +141,10 @@ loop-again c =
 returns-3 : tie.Need-returns-3 Inv-loop μ-loop
 unfolding named
 returns-3 c =
-    let a = c .before .before .before .before .before .before .before .before .args in
-    let t = c .before .before .before .before .before .before .before .before .pre .0 in
+    let if1 = c .before .before .before in
+    let start = if1 .before .before .before .before .before in
+    let a = start .args in
+    let t = start .pre .0 in
     let k = c .before .before .loop .inv .seeking in
     let at = c .before .before .loop .at in
     let e : sameBytes (nameOf (a .file .now) (a .s .now) at) (slice (a .from) (a .to) (a .file .now)) ≡ true = sym (c .before .has-name .ensures) ∙ not-false _ (c .if2 .left) in

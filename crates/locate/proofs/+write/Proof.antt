@@ -34,33 +34,49 @@ write-enum-known-p : (t : ℕ) → write-lts.Need-enum-known-p (callees t) (writ
 write-enum-known-p t c = search needs
 
 write-slice-write-out : (t : ℕ) → write-lts.Need-slice-write-out (callees t) (write-at t) write.Post
-write-slice-write-out t c = some-words _ _ _ _ (c .before .before .before .before .before .before .before .args .out .now) (c .before .before .before .before .before .before .before .pre .1)
+write-slice-write-out t c =
+    let the-match = c .before .before in
+    let start = the-match .before .before .before .before .before in
+    some-words _ _ _ _ (start .args .out .now) (start .pre .1)
 
 write-enum-known-p-2 : (t : ℕ) → write-lts.Need-enum-known-p-2 (callees t) (write-at t) write.Post
 write-enum-known-p-2 t c = search needs
 
 write-slice-write-out-2 : (t : ℕ) → write-lts.Need-slice-write-out-2 (callees t) (write-at t) write.Post
-write-slice-write-out-2 t c = some-words _ _ _ _ (c .before .before .before .before .before .before .before .args .out .now) (c .before .before .before .before .before .before .before .pre .1)
+write-slice-write-out-2 t c =
+    let the-match = c .before .before in
+    let start = the-match .before .before .before .before .before in
+    some-words _ _ _ _ (start .args .out .now) (start .pre .1)
 
 write-sub-write : (t : ℕ) → write-lts.Need-sub-write (callees t) (write-at t) write.Post
-write-sub-write t c = rw (length-set (c .before .before .before .before .before .before .before .args .out .now) 0 (c .before .p2 .given .0 .0)) (some-words _ _ _ _ (c .before .before .before .before .before .before .before .args .out .now) (c .before .before .before .before .before .before .before .pre .1))
+write-sub-write t c =
+    let the-match = c .before .before in
+    let start = the-match .before .before .before .before .before in
+    rw (length-set (start .args .out .now) 0 (c .before .p2 .given .0 .0)) (some-words _ _ _ _ (start .args .out .now) (start .pre .1))
 
 write-part-write-start : (t : ℕ) → write-lts.Need-part-write-start (callees t) (write-at t) write.Post
-write-part-write-start t c = rw (length-set (c .before .before .before .before .before .before .before .args .out .now) 0 (c .before .p2 .given .0 .0)) (some-words _ _ _ _ (c .before .before .before .before .before .before .before .args .out .now) (c .before .before .before .before .before .before .before .pre .1))
+write-part-write-start t c =
+    let the-match = c .before .before in
+    let start = the-match .before .before .before .before .before in
+    rw (length-set (start .args .out .now) 0 (c .before .p2 .given .0 .0)) (some-words _ _ _ _ (start .args .out .now) (start .pre .1))
 
 write-part-write-end : (t : ℕ) → write-lts.Need-part-write-end (callees t) (write-at t) write.Post
 write-part-write-end t c = search needs
 
 -- the step goes down
-below : (t : ℕ) (c : write-lts.After-known-told2 (callees t) (write-at t) write.Post) →
-    let A = c .before .before .before .before .before .before .before .args in let u = c .before .p2 .given .0 in
+below : (t : ℕ) (c : write-lts.After-known-told2 (callees t) (write-at t) write.Post) → let the-match = c .before .before in let start = the-match .before .before .before .before .before in let A = start .args in let u = c .before .p2 .given .0 in
     Flashed (A .e .now) (A .a .now) (A .k) (A .n) (u .0) (u .1 .0) (u .1 .1 .0)
-below t c = let A = c .before .before .before .before .before .before .before .args in
+below t c =
+    let the-match = c .before .before in
+    let start = the-match .before .before .before .before .before in
+    let A = start .args in
     subst (Steps (A .e .now) (A .a .now) (A .k) (A .n)) (c .before .p2 .given .1) (c .before .before .before .stand-of .ensures)
 
 write-write-requires : (t : ℕ) → write-lts.Need-write-requires (callees t) (write-at t) write.Post
 write-write-requires t c κs =
-    let A = c .before .before .before .before .before .before .before .before .args in let o = c .before .before .before .before .before .before .before .before .pre in (
+    let the-match = c .before .before .before in
+    let start = the-match .before .before .before .before .before in
+    let A = start .args in let o = start .pre in (
       omega (arith, behind-long (A .e .now) (A .a .now) (A .k) (A .n) (A .out .now) (o .1) _ _ _ (below t (c .before)), o .0),
       write-down (A .e .now) (A .a .now) (A .k) (A .n) (A .out .now) (o .1) _ _ _ (below t (c .before)),
     )
@@ -69,16 +85,27 @@ write-same-length : (t : ℕ) → write-lts.Need-same-length (callees t) (write-
 write-same-length t c = search needs
 
 write-returns : (t : ℕ) → write-lts.Need-returns (callees t) (write-at t) write.Post
-write-returns t c = let A = c .before .before .before .before .before .before .before .args in
-    here-written (A .e .now) (A .a .now) (A .k) (A .n) (A .out .now) (c .before .before .before .before .before .before .before .pre .1) _
+write-returns t c =
+    let the-match = c .before .before in
+    let start = the-match .before .before .before .before .before in
+    let A = start .args in
+    here-written (A .e .now) (A .a .now) (A .k) (A .n) (A .out .now) (start .pre .1) _
     (subst (Steps (A .e .now) (A .a .now) (A .k) (A .n)) (c .before .p .given .1) (c .before .before .before .stand-of .ensures))
 
 write-same-length-2 : (t : ℕ) → write-lts.Need-same-length-2 (callees t) (write-at t) write.Post
-write-same-length-2 t c = let A = c .before .before .before .before .before .before .before .before .before .before .before .args in omega (arith, length-set (A .out .now) 0 (c .before .before .before .before .before .p2 .given .0 .0))
+write-same-length-2 t c =
+    let the-write = c .before .before in
+    let the-match = the-write .before .before .before .before in
+    let start = the-match .before .before .before .before .before in
+    let A = start .args in omega (arith, length-set (A .out .now) 0 (c .before .before .before .before .before .p2 .given .0 .0))
 
 write-returns-2 : (t : ℕ) → write-lts.Need-returns-2 (callees t) (write-at t) write.Post
-write-returns-2 t c = let A = c .before .before .before .before .before .before .before .before .before .before .before .args in
-    below-written (A .e .now) (A .a .now) (A .k) (A .n) (A .out .now) (c .before .before .before .before .before .before .before .before .before .before .before .pre .1) _ _ _ (below t (c .before .before .before .before)) _ (c .before .before .write .ensures)
+write-returns-2 t c =
+    let the-write = c .before .before in
+    let the-match = the-write .before .before .before .before in
+    let start = the-match .before .before .before .before .before in
+    let A = start .args in
+    below-written (A .e .now) (A .a .now) (A .k) (A .n) (A .out .now) (start .pre .1) _ _ _ (below t (c .before .before .before .before)) _ (the-write .write .ensures)
 
 pub +write-spec : {M : Type 1} → statement M
 +write-spec = close μ-write λ t. write-lts.spec (callees t)

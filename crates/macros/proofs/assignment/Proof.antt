@@ -28,17 +28,21 @@ assigned-requires c κs = search needs
 
 returns : tie.Need-returns
 returns c =
-    let a = c .before .before .before .before .before .before .before .before .before .args in
-    let n = c .before .before .before .before .before .variable-number in
-    rw (sym (assignment-is (a .v .values) (a .t .now) (n .result) _ (n .ensures ∙ ap variableNumber (c .before .before .before .before .before .before .from-on .ensures ∙ ap (drop 1) (c .before .before .before .before .before .before .before .before2 .ensures))) (c .before .before .before .before .after .ensures)))
-    (assign-fine (a .v .values) (n .result .value) _ (c .before .before .before .worth-of .result) _ _ _ (c .before .before .before .worth-of .ensures) (c .before .before .before .before .before .before .before .before .before .pre) refl (c .before .before .if1 .taken) refl (c .assigned .ensures))
+    let variable-number = c .before .before .before .before .before in
+    let start = variable-number .before .before .before .before in
+    let a = start .args in
+    let n = variable-number .variable-number in
+    rw (sym (assignment-is (a .v .values) (a .t .now) (n .result) _ (n .ensures ∙ ap variableNumber (variable-number .before .from-on .ensures ∙ ap (drop 1) (variable-number .before .before .before2 .ensures))) (c .before .before .before .before .after .ensures)))
+    (assign-fine (a .v .values) (n .result .value) _ (c .before .before .before .worth-of .result) _ _ _ (c .before .before .before .worth-of .ensures) (start .pre) refl (c .before .before .if1 .taken) refl (c .assigned .ensures))
 
 returns-2 : tie.Need-returns-2
 returns-2 c =
-    let a = c .before .before .before .before .before .before .before .args in
+    let after = c .before .before in
+    let start = after .before .before .before .before .before in
+    let a = start .args in
     let n = c .before .before .before .variable-number in
-    rw (sym (assignment-is (a .v .values) (a .t .now) (n .result) _ (n .ensures ∙ ap variableNumber (c .before .before .before .before .from-on .ensures ∙ ap (drop 1) (c .before .before .before .before .before .before2 .ensures))) (c .before .before .after .ensures)))
-    (assign-refused (a .v .values) (n .result .value) _ (c .before .worth-of .result) _ _ _ (c .before .worth-of .ensures) (c .before .before .before .before .before .before .before .pre) refl (c .if1 .left) refl refl)
+    rw (sym (assignment-is (a .v .values) (a .t .now) (n .result) _ (n .ensures ∙ ap variableNumber (c .before .before .before .before .from-on .ensures ∙ ap (drop 1) (c .before .before .before .before .before .before2 .ensures))) (after .after .ensures)))
+    (assign-refused (a .v .values) (n .result .value) _ (c .before .worth-of .result) _ _ _ (c .before .worth-of .ensures) (start .pre) refl (c .if1 .left) refl refl)
 
 pub assignment-spec : {M : Type 1} → statement M
 assignment-spec =

@@ -20,6 +20,10 @@ Inv-loop s from numbers₀ d₀ at₀ numbers d at = Working (workedOut (d₀ .v
 abbrev μ-loop : tie.MeasureT-loop
 μ-loop s from numbers₀ d₀ at₀ numbers d at = length s - at
 
+-- the places that facts are read at
+abbrev at-loop : tie.After-part Inv-loop μ-loop → tie.At-loop Inv-loop μ-loop
+at-loop c = c .before .before .before .before .before
+
 loop-holds : tie.Need-loop-holds Inv-loop μ-loop
 loop-holds c = working-starts _ _ _ _ refl refl (c .before .pre)
 
@@ -36,28 +40,36 @@ part-requires : tie.Need-part-requires Inv-loop μ-loop
 part-requires c κs = search needs
 
 block-requires : tie.Need-block-requires Inv-loop μ-loop
-block-requires c κs = c .before .before .before .before .before .before .loop .inv .small
+block-requires c κs = at-loop (c .before) .loop .inv .small
 
 loop-less : tie.Need-loop-less Inv-loop μ-loop
 loop-less c =
-    let l = c .before .before .before .before .before .before .before .before .before .before .loop in
-    omega (arith, first-from (λ b. eqb b (code "*")) (c .before .before .before .before .before .before .before .before .before .before .before .before .args .s .now) (l .at + 1), c .before .before .before .before .before .before .before .before .find .ensures)
+    let part = c .before .before .before .before .before in
+    let the-loop = at-loop part in
+    let l = the-loop .loop in
+    omega (arith, first-from (λ b. eqb b (code "*")) (the-loop .before .before .args .s .now) (l .at + 1), part .before .before .before .find .ensures)
 
 loop-again : tie.Need-loop-again Inv-loop μ-loop
 loop-again c =
-    let l = c .before .before .before .before .before .before .before .before .before .before .loop in
-    let s = c .before .before .before .before .before .before .before .before .before .before .before .before .args .s .now in
-    rw (c .before .before .before .before .before .before .before .before .find .ensures)
-    (working-goes _ s (l .at) _ _ _ (l .d) (l .inv) _ (c .before .before .before .block .result) (c .before .before .before .before .before .before .before .before .before .loop-test .taken) (rw (c .before .before .before .before .before .part .ensures, c .before .before .before .before .before .before .before .before .find .ensures) at (c .before .before .before .block .ensures)) (c .if1 .taken))
+    let block = c .before .before .before in
+    let find = block .before .before .before .before .before in
+    let start = find .before .before .before .before in
+    let l = find .before .before .loop in
+    let s = start .args .s .now in
+    rw (find .find .ensures)
+    (working-goes _ s (l .at) _ _ _ (l .d) (l .inv) _ (block .block .result) (find .before .loop-test .taken) (rw (c .before .before .before .before .before .part .ensures, find .find .ensures) at (block .block .ensures)) (c .if1 .taken))
 
 same-length : tie.Need-same-length Inv-loop μ-loop
-same-length c = ap length (c .before .before .before .block .ensures .stores) ∙ length-laid _ _ _ ∙ c .before .before .before .before .before .before .before .before .before .before .loop .inv .long
+same-length c = ap length (c .before .before .before .block .ensures .stores) ∙ length-laid _ _ _ ∙ at-loop (c .before .before .before .before .before) .loop .inv .long
 
 returns : tie.Need-returns Inv-loop μ-loop
 returns c =
-    let l = c .before .before .before .before .before .before .before .before .before .before .loop in
-    let s = c .before .before .before .before .before .before .before .before .before .before .before .before .args .s .now in
-    working-stops _ s (l .at) _ _ _ (l .d) (l .inv) _ (c .before .before .before .block .result) (c .before .before .before .before .before .before .before .before .before .loop-test .taken) (rw (c .before .before .before .before .before .part .ensures, c .before .before .before .before .before .before .before .before .find .ensures) at (c .before .before .before .block .ensures)) (c .if1 .left)
+    let block = c .before .before .before in
+    let find = block .before .before .before .before .before in
+    let start = find .before .before .before .before in
+    let l = find .before .before .loop in
+    let s = start .args .s .now in
+    working-stops _ s (l .at) _ _ _ (l .d) (l .inv) _ (block .block .result) (find .before .loop-test .taken) (rw (c .before .before .before .before .before .part .ensures, find .find .ensures) at (block .block .ensures)) (c .if1 .left)
 
 same-length-2 : tie.Need-same-length-2 Inv-loop μ-loop
 same-length-2 c = c .before .loop .inv .long

@@ -22,6 +22,10 @@ Inv-loop s comma v₀ i₀ at₀ v i at = (given i (v .values) (pieces (code "X"
 abbrev μ-loop : tie.MeasureT-loop
 μ-loop s comma v₀ i₀ at₀ v i at = length s - at
 
+-- the places that facts are read at
+abbrev call : tie.After-part Inv-loop μ-loop → tie.Start Inv-loop μ-loop
+call c = c .before .before .before .before .before
+
 loop-holds : tie.Need-loop-holds Inv-loop μ-loop
 unfolding variablesOf
 loop-holds c = (refl, fits-none 64, omega arith)
@@ -48,21 +52,26 @@ assigned-requires : tie.Need-assigned-requires Inv-loop μ-loop
 assigned-requires c κs = search needs
 
 add-i : tie.Need-add-i Inv-loop μ-loop
-add-i c = omega (arith, c .before .before .before .before .before .before .loop .inv .2, c .before .before .before .before .before .loop-test .taken)
+add-i c =
+    let part = c .before .before .before in
+    omega (arith, part .before .before .before .loop .inv .2, c .before .before .before .before .before .loop-test .taken)
 
 loop-less : tie.Need-loop-less Inv-loop μ-loop
 loop-less c =
-    let l = c .before .before .before .before .before .before .loop in
-    omega (arith, first-from (λ b. eqb b (code "X")) (c .before .before .before .before .before .before .before .before .args .s .now) (l .at + 1), c .before .before .before .before .find .ensures)
+    let part = c .before .before .before in
+    let l = part .before .before .before .loop in
+    omega (arith, first-from (λ b. eqb b (code "X")) (call part .args .s .now) (l .at + 1), c .before .before .before .before .find .ensures)
 
 loop-again : tie.Need-loop-again Inv-loop μ-loop
 loop-again c =
-    let l = c .before .before .before .before .before .before .loop in
-    let s = c .before .before .before .before .before .before .before .before .args .s .now in
+    let loop-test = c .before .before .before .before .before in
+    let start = loop-test .before .before .before in
+    let l = loop-test .before .loop in
+    let s = start .args .s .now in
     let k : l .i + 1 - 1 ≡ l .i = omega arith in
     let e = c .assigned .ensures ∙ ap (λ (j : ℕ). set (l .v .values) j (c .before .before .size-of .result .value .millionths)) k in
     let z = c .before .before .size-of .ensures in (
-      rw (e, z, c .before .before .before .part .ensures, c .before .before .before .before .find .ensures) (sym (given-next (code "X") s (l .at) (l .i) (l .v .values) (c .before .before .before .before .before .loop-test .taken)) ∙ l .inv .0),
+      rw (e, z, c .before .before .before .part .ensures, c .before .before .before .before .find .ensures) (sym (given-next (code "X") s (l .at) (l .i) (l .v .values) (loop-test .loop-test .taken)) ∙ l .inv .0),
       rw (e, z) (fits-set (l .v .values) (l .i) _ (l .inv .1) (sized-small _ .size)),
       omega (arith, first-from (λ b. eqb b (code "X")) s (l .at + 1), c .before .before .before .before .find .ensures, l .inv .2),
     )

@@ -14,6 +14,19 @@ use borrow.Author.Needs.{needs}
 use Rattle.macros.proofs.primitive.Statement.{statement}
 use Rattle.macros.proofs.primitive.Tie as tie
 
+-- the places that facts are read at
+abbrev call : tie.After-code-of → tie.Start
+call c = c .before .before .before .before
+
+abbrev at-code-of : tie.After-values → tie.After-code-of
+at-code-of c = c .before .before .before .before .before
+
+abbrev at-values : tie.After-heading → tie.After-values
+at-values c = c .before .before .before .before
+
+abbrev at-heading : tie.After-keeps-rule → tie.After-heading
+at-heading c = c .before .before .before .before .before
+
 find-requires : tie.Need-find-requires
 find-requires c κs = search needs
 
@@ -30,10 +43,15 @@ values-requires : tie.Need-values-requires
 values-requires c κs = search needs
 
 heading-requires : tie.Need-heading-requires
-heading-requires c κs = let h = code-small (c .before .before .before .before .before .before .before .before .before .up-to .result .now) in omega (arith, c .before .before .before .before .before .before .before .before .code-of .ensures)
+heading-requires c κs =
+    let code-of = at-code-of (c .before .before .before) in
+    let h = code-small (code-of .before .up-to .result .now) in omega (arith, code-of .code-of .ensures)
 
 with-sign-requires : tie.Need-with-sign-requires
-with-sign-requires c κs = let s = heading-small (c .before .before .before .before .before .before .before .before .before .before .code-of .result) (c .before .before .before .before .before .values .result .asked .count) (let h = code-small (c .before .before .before .before .before .before .before .before .before .before .before .up-to .result .now) in omega (arith, c .before .before .before .before .before .before .before .before .before .before .code-of .ensures)) in omega (arith, c .before .heading .ensures)
+with-sign-requires c κs =
+    let values = c .before .before .before .before .before in
+    let code-of = at-code-of values in
+    let s = heading-small (code-of .code-of .result) (values .values .result .asked .count) (let h = code-small (code-of .before .up-to .result .now) in omega (arith, code-of .code-of .ensures)) in omega (arith, c .before .heading .ensures)
 
 write-requires-2 : tie.Need-write-requires-2
 write-requires-2 c κs = search needs
@@ -48,7 +66,13 @@ same-length : tie.Need-same-length
 same-length c = search needs
 
 returns : tie.Need-returns
-returns c = let a = c .before .before .before .before .before .before .before .before .before .before .before .before .before .before .before .before .before .before .before .args in let r = c .before .before .before .before .with-sign in let k : c .before .before .before .before .before .before .before .before .before .before .before .before .before .before .before .code-of .result < 100 = let h = code-small (c .before .before .before .before .before .before .before .before .before .before .before .before .before .before .before .before .up-to .result .now) in omega (arith, c .before .before .before .before .before .before .before .before .before .before .before .before .before .before .before .code-of .ensures) in let s = heading-small (c .before .before .before .before .before .before .before .before .before .before .before .before .before .before .before .code-of .result) (c .before .before .before .before .before .before .before .before .before .before .values .result .asked .count) k in let h : natAbs (r .result) < 10 ^ 12 = omega (arith, r .ensures .1, c .before .before .before .before .before .before .heading .ensures) in let e = stored-small (r .result) h ∙ r .ensures .0 ∙ signed-plain (c .before .before .before .before .before .before .heading .result) in primitive-does (a .v .values) (a .t .now) (c .before .before .before .before .before .before .before .before .before .before .before .before .before .before .before .before .before .find .result) (c .before .before .before .before .before .before .before .before .before .before .before .before .before .before .before .code-of .result) (c .before .before .before .before .before .before .heading .result) (a .numbers .now) _ _ _ (a .p) (c .before .before .before .before .before .before .before .before .before .before .before .before .before .write .result) (c .before .before .before .before .before .before .before .before .before .before .values .result) _ (c .before .before .before .before .before .before .before .before .before .before .before .before .before .before .before .before .before .find .ensures) (c .before .before .before .before .before .before .before .before .before .before .before .before .before .before .before .code-of .ensures ∙ ap codeOf (c .before .before .before .before .before .before .before .before .before .before .before .before .before .before .before .before .up-to .ensures)) (c .before .before .before .before .before .before .before .before .before .before .before .before .before .write .ensures .0) (c .before .before .before .before .before .before .before .before .before .before .before .before .before .write .ensures .1) (c .before .before .before .before .before .before .before .before .before .before .values .ensures) (c .before .before .before .before .before .before .before .before .before .before .before .before .before .before .before .before .before .before .before .pre) (c .before .before .before .before .before .before .heading .ensures) (c .before .before .before .write2 .ensures .0) e (c .verdict .ensures ∙ ap (verdict (c .before .before .before .before .before .before .before .before .before .before .values .result .fine)) (c .before .keeps-rule .ensures)) refl refl
+returns c =
+    let heading = at-heading (c .before) in
+    let values = at-values heading in
+    let code-of = at-code-of values in
+    let start = call code-of in
+    let write = values .before .before .before in
+    let a = start .args in let r = c .before .before .before .before .with-sign in let k : code-of .code-of .result < 100 = let h = code-small (code-of .before .up-to .result .now) in omega (arith, code-of .code-of .ensures) in let s = heading-small (code-of .code-of .result) (values .values .result .asked .count) k in let h : natAbs (r .result) < 10 ^ 12 = omega (arith, r .ensures .1, heading .heading .ensures) in let e = stored-small (r .result) h ∙ r .ensures .0 ∙ signed-plain (heading .heading .result) in primitive-does (a .v .values) (a .t .now) (code-of .before .before .find .result) (code-of .code-of .result) (heading .heading .result) (a .numbers .now) _ _ _ (a .p) (write .write .result) (values .values .result) _ (code-of .before .before .find .ensures) (code-of .code-of .ensures ∙ ap codeOf (code-of .before .up-to .ensures)) (write .write .ensures .0) (write .write .ensures .1) (values .values .ensures) (start .pre) (heading .heading .ensures) (c .before .before .before .write2 .ensures .0) e (c .verdict .ensures ∙ ap (verdict (values .values .result .fine)) (c .before .keeps-rule .ensures)) refl refl
 
 pub primitive-spec : {M : Type 1} → statement M
 primitive-spec =

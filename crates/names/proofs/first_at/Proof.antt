@@ -69,7 +69,7 @@ is-requires : tie.Need-is-requires Inv-loop μ-loop
 is-requires c κs = search needs
 
 -- its name is the one sought, or another
-same : (c : tie.After-is Inv-loop μ-loop) → let t = c .before .before .before in let A = t .before .before .before .before .before .before .args in
+same : (c : tie.After-is Inv-loop μ-loop) → let the-match = c .before .before .before .before in let start = the-match .before .before .before .before .before in let t = c .before .before .before in let A = start .args in
     c .is .result ≡ sameBytes (slice (t .l2 .given .0 .1 .0) (t .l2 .given .0 .1 .1 .0) (A .file .now)) (A .name .now)
 same c = rw (c .before .part .ensures) at (c .is .ensures)
 

@@ -49,8 +49,10 @@ same-length-2 c = search needs
 
 returns-2 : tie.Need-returns-2
 returns-2 c =
-    let r = c .before .before .before .before .before .before .repeat-in .ensures in
-    (r .0, c .before .before .clear2 .ensures ∙ ap (λ (n : ℕ). replicate n 0) (r .1))
+    let clear2 = c .before .before in
+    let repeat-in = clear2 .before .before .before .before in
+    let r = repeat-in .repeat-in .ensures in
+    (r .0, clear2 .clear2 .ensures ∙ ap (λ (n : ℕ). replicate n 0) (r .1))
 
 pub first-repeat-spec : {M : Type 1} → statement M
 first-repeat-spec =

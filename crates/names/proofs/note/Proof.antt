@@ -14,6 +14,13 @@ use borrow.Author.Needs.{needs}
 use Rattle.names.proofs.note.Statement.{statement}
 use Rattle.names.proofs.note.Tie as tie
 
+-- the places that facts are read at
+abbrev call : tie.At-match-keys1 → tie.Start
+call c = c .before .before .before .before .before
+
+abbrev at-match : tie.After-put → tie.At-match-keys1
+at-match c = c .before .before .before .before
+
 find-requires : tie.Need-find-requires
 find-requires c κs = search needs
 
@@ -31,7 +38,7 @@ unfolding searchOf
 returns c = note-found _ _ _ _ _ (sym (c .before .before .find .ensures .0) ∙ ap searchOf (c .enum-told .given .1))
 
 -- the search found no such name
-free : (c : tie.After-found) → let A = c .before .before .before .before .before .before .args in
+free : (c : tie.After-found) → let A = call (c .before) .args in
     named (A .file .now) (wide (A .s .now)) (A .used) (slice (A .from) (A .to) (A .file .now)) ≡ Free (linkWord (c .found .given .0 .0) (c .found .given .0 .1 .0))
 unfolding searchOf
 free c = sym (c .before .before .find .ensures .0) ∙ ap searchOf (c .found .given .1)
@@ -39,11 +46,13 @@ free c = sym (c .before .before .find .ensures .0) ∙ ap searchOf (c .found .gi
 put-requires : tie.Need-put-requires
 unfolding recordOf
 put-requires c κs =
-    let w = c .before .before .before .before .before .before .before .before .pre in
+    let the-match = c .before .before .before in
+    let start = the-match .before .before .before .before .before in
+    let w = start .pre in
     (w .3 .records, rw (c .before .before .found .given .1) at (c .before .before .before .before .find .ensures .1), omega (arith, w .3 .places, w .1, w .2), omega (arith, w .3 .places, w .2))
 
 add-t14 : tie.Need-add-t14
-add-t14 c = let w = c .before .before .before .before .before .before .before .before .before .before .before .before .pre in omega (arith, inside _ _ (w .0 .tree .inside), w .3 .records)
+add-t14 c = let w = call (at-match (c .before .before .before)) .pre in omega (arith, inside _ _ (w .0 .tree .inside), w .3 .records)
 
 same-length-2 : tie.Need-same-length-2
 same-length-2 c = search needs

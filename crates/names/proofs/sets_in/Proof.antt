@@ -34,7 +34,9 @@ sets-of-requires c κs = search needs
 
 returns : tie.Need-returns
 unfolding commandOf
-returns c = rw (c .before .before .before .before .before .before .enum-told3 .given .1) (c .sets-of .ensures ∙ ap setsOf (c .before .command-of .ensures))
+returns c =
+    let begins = c .before .before .before .before in
+    rw (begins .before .before .enum-told3 .given .1) (c .sets-of .ensures ∙ ap setsOf (c .before .command-of .ensures))
 
 returns-2 : tie.Need-returns-2
 unfolding commandOf

@@ -21,6 +21,13 @@ Inv-loop book file s₀ from used₀ at₀ rest₀ s used at rest = Going book f
 abbrev μ-loop : tie.MeasureT-loop
 μ-loop book file s₀ from used₀ at₀ rest₀ s used at rest = length file - at
 
+-- the places that facts are read at
+abbrev call : tie.At-loop Inv-loop μ-loop → tie.Start Inv-loop μ-loop
+call c = c .before .before .before
+
+abbrev at-loop : tie.After-known-told2 Inv-loop μ-loop → tie.At-loop Inv-loop μ-loop
+at-loop c = c .before .before .before .before
+
 loop-holds : tie.Need-loop-holds Inv-loop μ-loop
 loop-holds c = let p = c .before .before .pre in (going-start _ _ _ _ (p .0) (omega (arith, p .1, wide-long (c .before .before .args .s .now))), refl)
 
@@ -66,10 +73,11 @@ naming c = sym (c .before .before .look-at .ensures) ∙ c .l2 .given .1
 
 note-requires : tie.Need-note-requires Inv-loop μ-loop
 note-requires c κs =
+    let the-loop = c .before .before .before .before .before in
     let t = c .before .before in
-    let l = t .before .before .before .loop in
+    let l = the-loop .loop in
     let o = naming-onward _ _ (l .at) (l .inv .0 .inside) (naming t) in
-    (l .inv .0 .held .table, o .3, o .4, narrow-same _ _ _ (l .inv .1) (c .before .before .before .before .before .before .before .before .pre .2))
+    (l .inv .0 .held .table, o .3, o .4, narrow-same _ _ _ (l .inv .1) (call the-loop .pre .2))
 
 -- how its name is noted
 noted : (c : tie.After-note Inv-loop μ-loop) → let t = c .before .before .before in let l = t .before .before .before in let v = t .l2 .given .0 in
@@ -80,9 +88,9 @@ noted c =
     let l = t .before .before .before .loop in
     going-naming _ _ _ _ _ (l .at) _ (l .inv .0) (naming t) (c .note .ensures .0) (c .note .ensures .1)
 
-noted-long : (c : tie.After-note Inv-loop μ-loop) → let l = c .before .before .before .before .before .before in
+noted-long : (c : tie.After-note Inv-loop μ-loop) → let l = at-loop (c .before .before) in
     length (c .note .last .1 .0) ≡ length (l .before .before .before .args .s .now)
-noted-long c = c .note .kept .1 .0 ∙ c .before .before .before .before .before .before .loop .inv .1
+noted-long c = c .note .kept .1 .0 ∙ at-loop (c .before .before) .loop .inv .1
 
 -- each turn leads on
 onward : (c : tie.After-note Inv-loop μ-loop) → let t = c .before .before .before in let l = t .before .before .before in let F = l .before .before .before .args .file .now in

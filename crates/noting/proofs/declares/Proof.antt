@@ -60,9 +60,12 @@ returns-2 c = rw (c .enum-told2 .given .1)
 
 returns-3 : tie.Need-returns-3
 unfolding declaresAs
-returns-3 c = let x = c .before .before .before .before .before .is .ensures ∙ ap (λ (s : List ℕ). sameBytes s (text ".FileFunction")) (c .before .before .before .before .before .before .before .part .ensures) in
-    let y = c .before .is2 .ensures ∙ ap (λ (s : List ℕ). sameBytes s (text "Component")) (c .before .before .before .before2 .ensures ∙ ap (beforeByte (code ",")) (c .before .before .before .before .part2 .ensures) ∙ sym (field-first _)) in
-    rw (c .before .before .before .before .before .before .before .before .before .made .given .1) (c .both .ensures ∙ (λ i. x i and y i))
+returns-3 c =
+    let before2 = c .before .before .before in
+    let part = before2 .before .before .before .before in
+    let x = c .before .before .before .before .before .is .ensures ∙ ap (λ (s : List ℕ). sameBytes s (text ".FileFunction")) (part .part .ensures) in
+    let y = c .before .is2 .ensures ∙ ap (λ (s : List ℕ). sameBytes s (text "Component")) (before2 .before2 .ensures ∙ ap (beforeByte (code ",")) (c .before .before .before .before .part2 .ensures) ∙ sym (field-first _)) in
+    rw (part .before .before .made .given .1) (c .both .ensures ∙ (λ i. x i and y i))
 
 returns-4 : tie.Need-returns-4
 unfolding declaresAs

@@ -35,13 +35,22 @@ set-by-requires-2 : tie.Need-set-by-requires-2
 set-by-requires-2 c κs = search needs
 
 add-t23 : tie.Need-add-t23
-add-t23 c = omega (arith, c .set-by2 .ensures, c .before .set-by .ensures, set-few (c .before .before .before .before .before .before .before .before .before .before .before .before .saying-of .result), set-few (c .before .before .before .before .before .before .before .before .before .before .saying-of2 .result))
+add-t23 c =
+    let designator-after2 = c .before .before .before .before in
+    let designator-after = designator-after2 .before .before .before .before in
+    let saying-of2 = designator-after .before .before in
+    omega (arith, c .set-by2 .ensures, c .before .set-by .ensures, set-few (saying-of2 .before .before .saying-of .result), set-few (saying-of2 .saying-of2 .result))
 
 same-length : tie.Need-same-length
 same-length c = search needs
 
 returns : tie.Need-returns
-returns c = both-heard _ _ _ (rw (c .before .before .before .before .before .before .before .before .before .before .before .before .saying-of .ensures) at (c .before .before .before .before .before .before .before .before .designator-after .ensures)) (rw (c .before .before .before .before .before .before .before .before .before .before .saying-of2 .ensures) at (c .before .before .before .before .designator-after2 .ensures)) (rw (c .before .set-by .ensures, c .set-by2 .ensures, c .before .before .before .before .before .before .before .before .before .before .before .before .saying-of .ensures, c .before .before .before .before .before .before .before .before .before .before .saying-of2 .ensures) refl)
+returns c =
+    let designator-after2 = c .before .before .before .before in
+    let designator-after = designator-after2 .before .before .before .before in
+    let saying-of2 = designator-after .before .before in
+    let saying-of = saying-of2 .before .before in
+    both-heard _ _ _ (rw (saying-of .saying-of .ensures) at (designator-after .designator-after .ensures)) (rw (saying-of2 .saying-of2 .ensures) at (designator-after2 .designator-after2 .ensures)) (rw (c .before .set-by .ensures, c .set-by2 .ensures, saying-of .saying-of .ensures, saying-of2 .saying-of2 .ensures) refl)
 
 pub designators-spec : {M : Type 1} → statement M
 designators-spec =

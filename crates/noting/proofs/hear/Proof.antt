@@ -42,7 +42,11 @@ same-length : tie.Need-same-length
 same-length c = search needs
 
 returns : tie.Need-returns
-returns c = all-heard _ _ (c .before .before .before .before .before .before .before .before .before .before .before .before .designators .ensures) (c .before .before .before .before .before .before .before .before .number-of .ensures) (c .before .before .before .before .before .before .text-of .ensures) (c .before .before .before .before .text-of2 .ensures) (c .before .before .text-of3 .ensures) (c .text-of4 .ensures)
+returns c =
+    let text-of2 = c .before .before .before .before in
+    let number-of = text-of2 .before .before .before .before in
+    let designators = number-of .before .before .before .before in
+    all-heard _ _ (designators .designators .ensures) (number-of .number-of .ensures) (text-of2 .before .before .text-of .ensures) (text-of2 .text-of2 .ensures) (c .before .before .text-of3 .ensures) (c .text-of4 .ensures)
 
 pub hear-spec : {M : Type 1} → statement M
 hear-spec =

@@ -6,6 +6,13 @@ use borrow.Author.Needs.{needs}
 use Rattle.noting.proofs.put_role.Statement.{statement}
 use Rattle.noting.proofs.put_role.Tie as tie
 
+-- the places that facts are read at
+abbrev call : tie.After-search-number → tie.Start
+call c = c .before .before .before
+
+abbrev at-search-number : tie.After-put-aperture → tie.After-search-number
+at-search-number c = c .before .before .before .before .before
+
 search-number-requires : tie.Need-search-number-requires
 search-number-requires c κs = search needs
 
@@ -31,13 +38,19 @@ same-length-2 : tie.Need-same-length-2
 same-length-2 c = search needs
 
 returns-2 : tie.Need-returns-2
-returns-2 c = put-new _ _ _ _ (c .before .before .before .before .before .before .before .before .before .before .before .pre) (sym (c .before .before .before .before .before .before .before .before .search-number .ensures) ∙ c .before .before .before .before .before .before .found .given .1) (c .before .before .before .put-aperture .ensures .1) (c .before .before .before .put-aperture .kept .0) (sym (c .before .before .before .put-aperture .ensures .0) ∙ c .if1 .taken)
+returns-2 c =
+    let put-aperture = c .before .before .before in
+    let search-number = at-search-number put-aperture in
+    put-new _ _ _ _ (call search-number .pre) (sym (search-number .search-number .ensures) ∙ put-aperture .before .before .before .found .given .1) (put-aperture .put-aperture .ensures .1) (put-aperture .put-aperture .kept .0) (sym (put-aperture .put-aperture .ensures .0) ∙ c .if1 .taken)
 
 same-length-3 : tie.Need-same-length-3
 same-length-3 c = search needs
 
 returns-3 : tie.Need-returns-3
-returns-3 c = put-full _ _ _ _ (c .before .before .before .before .before .before .before .before .before .before .before .pre) (sym (c .before .before .before .before .before .before .before .before .search-number .ensures) ∙ c .before .before .before .before .before .before .found .given .1) (c .before .before .before .put-aperture .ensures .1) (c .before .before .before .put-aperture .kept .0) (sym (c .before .before .before .put-aperture .ensures .0) ∙ c .if1 .left)
+returns-3 c =
+    let put-aperture = c .before .before .before in
+    let search-number = at-search-number put-aperture in
+    put-full _ _ _ _ (call search-number .pre) (sym (search-number .search-number .ensures) ∙ put-aperture .before .before .before .found .given .1) (put-aperture .put-aperture .ensures .1) (put-aperture .put-aperture .kept .0) (sym (put-aperture .put-aperture .ensures .0) ∙ c .if1 .left)
 
 pub put-role-spec : {M : Type 1} → statement M
 put-role-spec =

@@ -7,6 +7,16 @@ use borrow.Author.Needs.{needs}
 use Rattle.primitives.proofs.code_of.Statement.{statement}
 use Rattle.primitives.proofs.code_of.Tie as tie
 
+-- the places that facts are read at
+abbrev at-if1 : tie.After-is3 → tie.Else1
+at-if1 c = c .before .before .before .before .before
+
+abbrev at-is3 : tie.Else4 → tie.After-is3
+at-is3 c = c .before .before .before .before
+
+abbrev at-if4 : tie.After-is6 → tie.Else4
+at-if4 c = c .before .before .before .before .before
+
 slice-aggregate-is : tie.Need-slice-aggregate-is
 slice-aggregate-is c = search needs
 
@@ -38,7 +48,8 @@ is-requires-3 c κs = search needs
 returns-3 : tie.Need-returns-3
 unfolding codeOf
 returns-3 c =
-    (row-fails _ (sym (c .before .before .before .before .before .before .before .is .ensures) ∙ c .before .before .before .before .before .before .if1 .left)
+    let if1 = at-if1 (c .before) in
+    (row-fails _ (sym (if1 .before .is .ensures) ∙ if1 .if1 .left)
     (row-fails _ (sym (c .before .before .before .before .is2 .ensures) ∙ c .before .before .before .if2 .left)
     (row-holds _ (sym (c .before .is3 .ensures) ∙ c .if3 .taken) refl)))
 
@@ -51,9 +62,11 @@ is-requires-4 c κs = search needs
 returns-4 : tie.Need-returns-4
 unfolding codeOf
 returns-4 c =
-    (row-fails _ (sym (c .before .before .before .before .before .before .before .before .before .before .is .ensures) ∙ c .before .before .before .before .before .before .before .before .before .if1 .left)
-    (row-fails _ (sym (c .before .before .before .before .before .before .before .is2 .ensures) ∙ c .before .before .before .before .before .before .if2 .left)
-    (row-fails _ (sym (c .before .before .before .before .is3 .ensures) ∙ c .before .before .before .if3 .left)
+    let is3 = c .before .before .before .before in
+    let if1 = at-if1 is3 in
+    (row-fails _ (sym (if1 .before .is .ensures) ∙ if1 .if1 .left)
+    (row-fails _ (sym (is3 .before .before .before .is2 .ensures) ∙ is3 .before .before .if2 .left)
+    (row-fails _ (sym (is3 .is3 .ensures) ∙ c .before .before .before .if3 .left)
     (row-holds _ (sym (c .before .is4 .ensures) ∙ c .if4 .taken) refl))))
 
 slice-aggregate-is-5 : tie.Need-slice-aggregate-is-5
@@ -65,10 +78,13 @@ is-requires-5 c κs = search needs
 returns-5 : tie.Need-returns-5
 unfolding codeOf
 returns-5 c =
-    (row-fails _ (sym (c .before .before .before .before .before .before .before .before .before .before .before .before .before .is .ensures) ∙ c .before .before .before .before .before .before .before .before .before .before .before .before .if1 .left)
-    (row-fails _ (sym (c .before .before .before .before .before .before .before .before .before .before .is2 .ensures) ∙ c .before .before .before .before .before .before .before .before .before .if2 .left)
-    (row-fails _ (sym (c .before .before .before .before .before .before .before .is3 .ensures) ∙ c .before .before .before .before .before .before .if3 .left)
-    (row-fails _ (sym (c .before .before .before .before .is4 .ensures) ∙ c .before .before .before .if4 .left)
+    let if4 = c .before .before .before in
+    let is3 = at-is3 if4 in
+    let if1 = at-if1 is3 in
+    (row-fails _ (sym (if1 .before .is .ensures) ∙ if1 .if1 .left)
+    (row-fails _ (sym (is3 .before .before .before .is2 .ensures) ∙ is3 .before .before .if2 .left)
+    (row-fails _ (sym (is3 .is3 .ensures) ∙ if4 .before .before .before .if3 .left)
+    (row-fails _ (sym (c .before .before .before .before .is4 .ensures) ∙ if4 .if4 .left)
     (row-holds _ (sym (c .before .is5 .ensures) ∙ c .if5 .taken) refl)))))
 
 slice-aggregate-is-6 : tie.Need-slice-aggregate-is-6
@@ -80,20 +96,26 @@ is-requires-6 c κs = search needs
 returns-6 : tie.Need-returns-6
 unfolding codeOf
 returns-6 c =
-    (row-fails _ (sym (c .before .before .before .before .before .before .before .before .before .before .before .before .before .before .before .before .is .ensures) ∙ c .before .before .before .before .before .before .before .before .before .before .before .before .before .before .before .if1 .left)
-    (row-fails _ (sym (c .before .before .before .before .before .before .before .before .before .before .before .before .before .is2 .ensures) ∙ c .before .before .before .before .before .before .before .before .before .before .before .before .if2 .left)
-    (row-fails _ (sym (c .before .before .before .before .before .before .before .before .before .before .is3 .ensures) ∙ c .before .before .before .before .before .before .before .before .before .if3 .left)
-    (row-fails _ (sym (c .before .before .before .before .before .before .before .is4 .ensures) ∙ c .before .before .before .before .before .before .if4 .left)
+    let if4 = at-if4 (c .before) in
+    let is3 = at-is3 if4 in
+    let if1 = at-if1 is3 in
+    (row-fails _ (sym (if1 .before .is .ensures) ∙ if1 .if1 .left)
+    (row-fails _ (sym (is3 .before .before .before .is2 .ensures) ∙ is3 .before .before .if2 .left)
+    (row-fails _ (sym (is3 .is3 .ensures) ∙ if4 .before .before .before .if3 .left)
+    (row-fails _ (sym (if4 .before .is4 .ensures) ∙ if4 .if4 .left)
     (row-fails _ (sym (c .before .before .before .before .is5 .ensures) ∙ c .before .before .before .if5 .left)
     (row-holds _ (sym (c .before .is6 .ensures) ∙ c .if6 .taken) refl))))))
 
 returns-7 : tie.Need-returns-7
 unfolding codeOf
 returns-7 c =
-    (row-fails _ (sym (c .before .before .before .before .before .before .before .before .before .before .before .before .before .before .before .before .is .ensures) ∙ c .before .before .before .before .before .before .before .before .before .before .before .before .before .before .before .if1 .left)
-    (row-fails _ (sym (c .before .before .before .before .before .before .before .before .before .before .before .before .before .is2 .ensures) ∙ c .before .before .before .before .before .before .before .before .before .before .before .before .if2 .left)
-    (row-fails _ (sym (c .before .before .before .before .before .before .before .before .before .before .is3 .ensures) ∙ c .before .before .before .before .before .before .before .before .before .if3 .left)
-    (row-fails _ (sym (c .before .before .before .before .before .before .before .is4 .ensures) ∙ c .before .before .before .before .before .before .if4 .left)
+    let if4 = at-if4 (c .before) in
+    let is3 = at-is3 if4 in
+    let if1 = at-if1 is3 in
+    (row-fails _ (sym (if1 .before .is .ensures) ∙ if1 .if1 .left)
+    (row-fails _ (sym (is3 .before .before .before .is2 .ensures) ∙ is3 .before .before .if2 .left)
+    (row-fails _ (sym (is3 .is3 .ensures) ∙ if4 .before .before .before .if3 .left)
+    (row-fails _ (sym (if4 .before .is4 .ensures) ∙ if4 .if4 .left)
     (row-fails _ (sym (c .before .before .before .before .is5 .ensures) ∙ c .before .before .before .if5 .left)
     (row-fails _ (sym (c .before .is6 .ensures) ∙ c .if6 .left)
     refl))))))

@@ -63,8 +63,9 @@ is-center-line-requires c κs = search needs
 returns-6 : tie.Need-returns-6
 unfolding keeps
 returns-6 c =
-    (row-fails _ (ne-eqb _ _ (c .before .before .before .before .before .before .if1 .left))
-    (row-fails _ (ne-eqb _ _ (c .before .before .before .before .before .if2 .left))
+    let if2 = c .before .before .before .before .before in
+    (row-fails _ (ne-eqb _ _ (if2 .before .if1 .left))
+    (row-fails _ (ne-eqb _ _ (if2 .if2 .left))
     (row-fails _ (ne-eqb _ _ (c .before .before .before .before .if3 .left))
     (row-fails _ (ne-eqb _ _ (c .before .before .before .if4 .left))
     (row-fails _ (ne-eqb _ _ (c .before .before .if5 .left))

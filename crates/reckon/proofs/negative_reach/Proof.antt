@@ -27,7 +27,9 @@ both-requires-2 : tie.Need-both-requires-2
 both-requires-2 c κs = search needs
 
 returns : tie.Need-returns
-returns c = let s = c .before .before .before .before .before .before in let a = s .args in cc (neg-parts (a .v) (a .b -ℤ a .a), below-way (a .b) (a .a), toZ-ofZ (s .fits .v), toZ-ofZ (s .fits .a), toZ-ofZ (s .fits .b))
+returns c =
+    let size = c .before .before .before .before .before in
+    let s = size .before in let a = s .args in cc (neg-parts (a .v) (a .b -ℤ a .a), below-way (a .b) (a .a), toZ-ofZ (s .fits .v), toZ-ofZ (s .fits .a), toZ-ofZ (s .fits .b))
 
 pub negative-reach-spec : {M : Type 1} → statement M
 negative-reach-spec =

@@ -7,6 +7,19 @@ use borrow.Author.Needs.{needs}
 use Rattle.recognise.proofs.data_of.Statement.{statement}
 use Rattle.recognise.proofs.data_of.Tie as tie
 
+-- the places that facts are read at
+abbrev at-if1 : tie.After-begins3 → tie.Else1
+at-if1 c = c .before .before .before .before .before
+
+abbrev at-begins3 : tie.Else4 → tie.After-begins3
+at-begins3 c = c .before .before .before .before
+
+abbrev at-if4 : tie.Else5 → tie.Else4
+at-if4 c = c .before .before .before
+
+abbrev at-if5 : tie.After-begins7 → tie.Else5
+at-if5 c = c .before .before .before .before .before
+
 slice-aggregate-begins : tie.Need-slice-aggregate-begins
 slice-aggregate-begins c = search needs
 
@@ -50,9 +63,11 @@ aperture-of-requires c κs = search needs
 returns-3 : tie.Need-returns-3
 unfolding dataOf
 returns-3 c =
-    row-fails _ (sym (c .before .before .before .before .before .before .before .before .begins .ensures) ∙ c .before .before .before .before .before .before .before .if1 .left)
+    let begins3 = c .before .before in
+    let if1 = at-if1 begins3 in
+    row-fails _ (sym (if1 .before .begins .ensures) ∙ if1 .if1 .left)
     (row-fails _ (sym (c .before .before .before .before .before .begins2 .ensures) ∙ c .before .before .before .before .if2 .left)
-    (row-holds _ (sym (c .before .before .begins3 .ensures) ∙ c .before .if3 .taken)
+    (row-holds _ (sym (begins3 .begins3 .ensures) ∙ c .before .if3 .taken)
     (c .aperture-of .ensures)))
 
 slice-aggregate-begins-4 : tie.Need-slice-aggregate-begins-4
@@ -67,9 +82,11 @@ block-of-requires c κs = search needs
 returns-4 : tie.Need-returns-4
 unfolding dataOf
 returns-4 c =
-    row-fails _ (sym (c .before .before .before .before .before .before .before .before .before .before .before .begins .ensures) ∙ c .before .before .before .before .before .before .before .before .before .before .if1 .left)
-    (row-fails _ (sym (c .before .before .before .before .before .before .before .before .begins2 .ensures) ∙ c .before .before .before .before .before .before .before .if2 .left)
-    (row-fails _ (sym (c .before .before .before .before .before .begins3 .ensures) ∙ c .before .before .before .before .if3 .left)
+    let begins3 = c .before .before .before .before .before in
+    let if1 = at-if1 begins3 in
+    row-fails _ (sym (if1 .before .begins .ensures) ∙ if1 .if1 .left)
+    (row-fails _ (sym (begins3 .before .before .before .begins2 .ensures) ∙ begins3 .before .before .if2 .left)
+    (row-fails _ (sym (begins3 .begins3 .ensures) ∙ c .before .before .before .before .if3 .left)
     (row-holds _ (sym (c .before .before .begins4 .ensures) ∙ c .before .if4 .taken)
     (c .block-of .ensures))))
 
@@ -85,10 +102,13 @@ repeat-of-requires c κs = search needs
 returns-5 : tie.Need-returns-5
 unfolding dataOf
 returns-5 c =
-    row-fails _ (sym (c .before .before .before .before .before .before .before .before .before .before .before .before .before .before .begins .ensures) ∙ c .before .before .before .before .before .before .before .before .before .before .before .before .before .if1 .left)
-    (row-fails _ (sym (c .before .before .before .before .before .before .before .before .before .before .before .begins2 .ensures) ∙ c .before .before .before .before .before .before .before .before .before .before .if2 .left)
-    (row-fails _ (sym (c .before .before .before .before .before .before .before .before .begins3 .ensures) ∙ c .before .before .before .before .before .before .before .if3 .left)
-    (row-fails _ (sym (c .before .before .before .before .before .begins4 .ensures) ∙ c .before .before .before .before .if4 .left)
+    let if4 = c .before .before .before .before in
+    let begins3 = at-begins3 if4 in
+    let if1 = at-if1 begins3 in
+    row-fails _ (sym (if1 .before .begins .ensures) ∙ if1 .if1 .left)
+    (row-fails _ (sym (begins3 .before .before .before .begins2 .ensures) ∙ begins3 .before .before .if2 .left)
+    (row-fails _ (sym (begins3 .begins3 .ensures) ∙ if4 .before .before .before .if3 .left)
+    (row-fails _ (sym (c .before .before .before .before .before .begins4 .ensures) ∙ if4 .if4 .left)
     (row-holds _ (sym (c .before .before .begins5 .ensures) ∙ c .before .if5 .taken)
     (c .repeat-of .ensures)))))
 
@@ -104,11 +124,15 @@ transformation-of-requires c κs = search needs
 returns-6 : tie.Need-returns-6
 unfolding dataOf
 returns-6 c =
-    row-fails _ (sym (c .before .before .before .before .before .before .before .before .before .before .before .before .before .before .before .before .before .begins .ensures) ∙ c .before .before .before .before .before .before .before .before .before .before .before .before .before .before .before .before .if1 .left)
-    (row-fails _ (sym (c .before .before .before .before .before .before .before .before .before .before .before .before .before .before .begins2 .ensures) ∙ c .before .before .before .before .before .before .before .before .before .before .before .before .before .if2 .left)
-    (row-fails _ (sym (c .before .before .before .before .before .before .before .before .before .before .before .begins3 .ensures) ∙ c .before .before .before .before .before .before .before .before .before .before .if3 .left)
-    (row-fails _ (sym (c .before .before .before .before .before .before .before .before .begins4 .ensures) ∙ c .before .before .before .before .before .before .before .if4 .left)
-    (row-fails _ (sym (c .before .before .before .before .before .begins5 .ensures) ∙ c .before .before .before .before .if5 .left)
+    let if5 = c .before .before .before .before in
+    let if4 = at-if4 if5 in
+    let begins3 = at-begins3 if4 in
+    let if1 = at-if1 begins3 in
+    row-fails _ (sym (if1 .before .begins .ensures) ∙ if1 .if1 .left)
+    (row-fails _ (sym (begins3 .before .before .before .begins2 .ensures) ∙ begins3 .before .before .if2 .left)
+    (row-fails _ (sym (begins3 .begins3 .ensures) ∙ if4 .before .before .before .if3 .left)
+    (row-fails _ (sym (if4 .before .begins4 .ensures) ∙ if4 .if4 .left)
+    (row-fails _ (sym (c .before .before .before .before .before .begins5 .ensures) ∙ if5 .if5 .left)
     (row-holds _ (sym (c .before .before .begins6 .ensures) ∙ c .before .if6 .taken)
     (c .transformation-of .ensures))))))
 
@@ -124,13 +148,18 @@ deletion-of-requires c κs = search needs
 returns-7 : tie.Need-returns-7
 unfolding dataOf
 returns-7 c =
-    row-fails _ (sym (c .before .before .before .before .before .before .before .before .before .before .before .before .before .before .before .before .before .before .before .before .begins .ensures) ∙ c .before .before .before .before .before .before .before .before .before .before .before .before .before .before .before .before .before .before .before .if1 .left)
-    (row-fails _ (sym (c .before .before .before .before .before .before .before .before .before .before .before .before .before .before .before .before .before .begins2 .ensures) ∙ c .before .before .before .before .before .before .before .before .before .before .before .before .before .before .before .before .if2 .left)
-    (row-fails _ (sym (c .before .before .before .before .before .before .before .before .before .before .before .before .before .before .begins3 .ensures) ∙ c .before .before .before .before .before .before .before .before .before .before .before .before .before .if3 .left)
-    (row-fails _ (sym (c .before .before .before .before .before .before .before .before .before .before .before .begins4 .ensures) ∙ c .before .before .before .before .before .before .before .before .before .before .if4 .left)
-    (row-fails _ (sym (c .before .before .before .before .before .before .before .before .begins5 .ensures) ∙ c .before .before .before .before .before .before .before .if5 .left)
+    let begins7 = c .before .before in
+    let if5 = at-if5 begins7 in
+    let if4 = at-if4 if5 in
+    let begins3 = at-begins3 if4 in
+    let if1 = at-if1 begins3 in
+    row-fails _ (sym (if1 .before .begins .ensures) ∙ if1 .if1 .left)
+    (row-fails _ (sym (begins3 .before .before .before .begins2 .ensures) ∙ begins3 .before .before .if2 .left)
+    (row-fails _ (sym (begins3 .begins3 .ensures) ∙ if4 .before .before .before .if3 .left)
+    (row-fails _ (sym (if4 .before .begins4 .ensures) ∙ if4 .if4 .left)
+    (row-fails _ (sym (if5 .before .begins5 .ensures) ∙ if5 .if5 .left)
     (row-fails _ (sym (c .before .before .before .before .before .begins6 .ensures) ∙ c .before .before .before .before .if6 .left)
-    (row-holds _ (sym (c .before .before .begins7 .ensures) ∙ c .before .if7 .taken)
+    (row-holds _ (sym (begins7 .begins7 .ensures) ∙ c .before .if7 .taken)
     (c .deletion-of .ensures)))))))
 
 attribute-of-requires : tie.Need-attribute-of-requires
@@ -139,13 +168,18 @@ attribute-of-requires c κs = search needs
 returns-8 : tie.Need-returns-8
 unfolding dataOf
 returns-8 c =
-    row-fails _ (sym (c .before .before .before .before .before .before .before .before .before .before .before .before .before .before .before .before .before .before .before .before .begins .ensures) ∙ c .before .before .before .before .before .before .before .before .before .before .before .before .before .before .before .before .before .before .before .if1 .left)
-    (row-fails _ (sym (c .before .before .before .before .before .before .before .before .before .before .before .before .before .before .before .before .before .begins2 .ensures) ∙ c .before .before .before .before .before .before .before .before .before .before .before .before .before .before .before .before .if2 .left)
-    (row-fails _ (sym (c .before .before .before .before .before .before .before .before .before .before .before .before .before .before .begins3 .ensures) ∙ c .before .before .before .before .before .before .before .before .before .before .before .before .before .if3 .left)
-    (row-fails _ (sym (c .before .before .before .before .before .before .before .before .before .before .before .begins4 .ensures) ∙ c .before .before .before .before .before .before .before .before .before .before .if4 .left)
-    (row-fails _ (sym (c .before .before .before .before .before .before .before .before .begins5 .ensures) ∙ c .before .before .before .before .before .before .before .if5 .left)
+    let begins7 = c .before .before in
+    let if5 = at-if5 begins7 in
+    let if4 = at-if4 if5 in
+    let begins3 = at-begins3 if4 in
+    let if1 = at-if1 begins3 in
+    row-fails _ (sym (if1 .before .begins .ensures) ∙ if1 .if1 .left)
+    (row-fails _ (sym (begins3 .before .before .before .begins2 .ensures) ∙ begins3 .before .before .if2 .left)
+    (row-fails _ (sym (begins3 .begins3 .ensures) ∙ if4 .before .before .before .if3 .left)
+    (row-fails _ (sym (if4 .before .begins4 .ensures) ∙ if4 .if4 .left)
+    (row-fails _ (sym (if5 .before .begins5 .ensures) ∙ if5 .if5 .left)
     (row-fails _ (sym (c .before .before .before .before .before .begins6 .ensures) ∙ c .before .before .before .before .if6 .left)
-    (row-fails _ (sym (c .before .before .begins7 .ensures) ∙ c .before .if7 .left)
+    (row-fails _ (sym (begins7 .begins7 .ensures) ∙ c .before .if7 .left)
     (c .attribute-of .ensures)))))))
 
 pub data-of-spec : {M : Type 1} → statement M

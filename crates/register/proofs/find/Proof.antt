@@ -34,6 +34,10 @@ Inv-loop file s used from to d₀ high₀ at₀ d high at = Standing file (wide 
 abbrev μ-loop : tie.MeasureT-loop
 μ-loop file s used from to d₀ high₀ at₀ d high at = used - at
 
+-- the places that facts are read at
+abbrev call : tie.At-loop Inv-loop μ-loop → tie.Start Inv-loop μ-loop
+call c = c .before .before .before .before .before
+
 name-bit-requires : tie.Need-name-bit-requires Inv-loop μ-loop
 name-bit-requires c κs = (c .before .before .pre .1, c .before .before .pre .2)
 
@@ -58,32 +62,39 @@ has-name-requires : tie.Need-has-name-requires Inv-loop μ-loop
 has-name-requires c κs = omega (arith, c .loop .inv .seeking .standing, inside _ _ (c .before .before .before .before .before .pre .0 .tree .inside))
 
 led-requires : tie.Need-led-requires Inv-loop μ-loop
-led-requires c κs = omega (arith, c .before .before .loop .inv .seeking .standing, inside _ _ (c .before .before .before .before .before .before .before .pre .0 .tree .inside))
+led-requires c κs =
+    let loop = c .before .before in
+    omega (arith, loop .loop .inv .seeking .standing, inside _ _ (call loop .pre .0 .tree .inside))
 
 -- the record that the search comes to next, and that the one at hand is not the one sought
-onto : (c : tie.After-led Inv-loop μ-loop) → let A = c .before .before .before .before .before .before .before .before .args in let b = c .before .before .before .loop in
+onto : (c : tie.After-led Inv-loop μ-loop) → let loop = c .before .before .before in let A = call loop .args in let b = loop .loop in
     c .led .result ≡ next (wide (A .s .now)) (b .at) (keyOf (slice (A .from) (A .to) (A .file .now)) / 2 ^ b .d)
-onto c = c .led .ensures ∙ ap (λ h. getD (wide (c .before .before .before .before .before .before .before .before .args .s .now)) (linkWord (c .before .before .before .loop .at) h) 0) (c .before .before .before .loop .inv .leading)
+onto c =
+    let loop = c .before .before .before in
+    c .led .ensures ∙ ap (λ h. getD (wide (call loop .args .s .now)) (linkWord (loop .loop .at) h) 0) (loop .loop .inv .leading)
 
-other : (c : tie.Then2 Inv-loop μ-loop) → let A = c .before .before .before .before .before .before .before .args in
-    sameBytes (nameOf (A .file .now) (wide (A .s .now)) (c .before .before .loop .at)) (slice (A .from) (A .to) (A .file .now)) ≡ false
+other : (c : tie.Then2 Inv-loop μ-loop) → let loop = c .before .before in let A = call loop .args in
+    sameBytes (nameOf (A .file .now) (wide (A .s .now)) (loop .loop .at)) (slice (A .from) (A .to) (A .file .now)) ≡ false
 other c = sym (c .before .has-name .ensures) ∙ not-true _ (c .if2 .taken)
 
 returns-2 : tie.Need-returns-2 Inv-loop μ-loop
 unfolding named searchOf recordOf
 returns-2 c =
+    let loop = c .before .before .before .before in
     let l = c .before in
-    let t = c .before .before .before .before .before .before .before .before .before .pre .0 .tree in
-    let k = c .before .before .before .before .loop .inv in
+    let t = call loop .pre .0 .tree in
+    let k = loop .loop .inv in
     let z = sym (onto l) ∙ c .if3 .taken in
-    (ap Free (ap (linkWord (c .before .before .before .before .loop .at)) (k .leading) ∙ seek-end t (k .seeking) (other (l .before)) z) ∙ sym (seek-none t (k .seeking) (other (l .before)) _ z), omega (arith, k .seeking .standing))
+    (ap Free (ap (linkWord (loop .loop .at)) (k .leading) ∙ seek-end t (k .seeking) (other (l .before)) z) ∙ sym (seek-none t (k .seeking) (other (l .before)) _ z), omega (arith, k .seeking .standing))
 
 -- a link that leads on leads to a later record in use
-onward : (c : tie.Else3 Inv-loop μ-loop) → (c .before .before .before .before .loop .at < c .before .led .result) × (c .before .led .result < c .before .before .before .before .before .before .before .before .before .args .used)
+onward : (c : tie.Else3 Inv-loop μ-loop) → let loop = c .before .before .before .before in (loop .loop .at < c .before .led .result) × (c .before .led .result < call loop .args .used)
 onward c =
-    let t = c .before .before .before .before .before .before .before .before .before .pre .0 .tree in
-    let A = c .before .before .before .before .before .before .before .before .before .args in
-    let b = c .before .before .before .before .loop in
+    let loop = c .before .before .before .before in
+    let start = loop .before .before .before .before .before in
+    let t = start .pre .0 .tree in
+    let A = start .args in
+    let b = loop .loop in
     let e = onto (c .before) in
     let z = c .if3 .left in
     let some : 0 < c .before .led .result = omega arith in
@@ -91,11 +102,14 @@ onward c =
 
 add-d : tie.Need-add-d Inv-loop μ-loop
 add-d c =
+    let loop = c .before .before .before .before in
     let w = onward c in
-    omega (arith, c .before .before .before .before .loop .inv .few, inside _ _ (c .before .before .before .before .before .before .before .before .before .pre .0 .tree .inside))
+    omega (arith, loop .loop .inv .few, inside _ _ (call loop .pre .0 .tree .inside))
 
 name-bit-requires-2 : tie.Need-name-bit-requires-2 Inv-loop μ-loop
-name-bit-requires-2 c κs = (c .before .before .before .before .before .before .before .before .before .pre .1, c .before .before .before .before .before .before .before .before .before .pre .2)
+name-bit-requires-2 c κs =
+    let start = call (c .before .before .before .before) in
+    (start .pre .1, start .pre .2)
 
 loop-less : tie.Need-loop-less Inv-loop μ-loop
 loop-less c =
@@ -104,15 +118,17 @@ loop-less c =
 
 loop-again : tie.Need-loop-again Inv-loop μ-loop
 loop-again c =
+    let loop = c .before .before .before .before .before in
+    let start = loop .before .before .before .before .before in
     let l = c .before in
-    let A = c .before .before .before .before .before .before .before .before .before .before .args in
+    let A = start .args in
     let k = keyOf (slice (A .from) (A .to) (A .file .now)) in
-    let v = c .before .before .before .before .before .loop .inv in
+    let v = loop .loop .inv in
     let w = onward l in
     let e = onto (l .before) in
-    let s = seek-on (c .before .before .before .before .before .before .before .before .before .before .pre .0 .tree) (v .seeking) (other (l .before .before)) (rw (← e) (let w : 0 < l .before .led .result = omega arith in w)) in
+    let s = seek-on (start .pre .0 .tree) (v .seeking) (other (l .before .before)) (rw (← e) (let w : 0 < l .before .led .result = omega arith in w)) in
     record {
-      seeking = rw (e, ← shr-shr k (c .before .before .before .before .before .loop .d) 1) s;
+      seeking = rw (e, ← shr-shr k (loop .loop .d) 1) s;
       leading = c .name-bit2 .ensures;
       few = omega (arith, v .few);
     }
@@ -120,10 +136,12 @@ loop-again c =
 returns-3 : tie.Need-returns-3 Inv-loop μ-loop
 unfolding named searchOf recordOf
 returns-3 c =
-    let A = c .before .before .before .before .before .before .before .args in
-    let t = c .before .before .before .before .before .before .before .pre .0 in
-    let k = c .before .before .loop .inv .seeking in
-    let at = c .before .before .loop .at in
+    let loop = c .before .before in
+    let start = loop .before .before .before .before .before in
+    let A = start .args in
+    let t = start .pre .0 in
+    let k = loop .loop .inv .seeking in
+    let at = loop .loop .at in
     let n = wide (A .s .now) in
     let e : sameBytes (nameOf (A .file .now) n at) (slice (A .from) (A .to) (A .file .now)) ≡ true = sym (c .before .has-name .ensures) ∙ not-false _ (c .if2 .left) in (
       sym (first-at (λ i. sameBytes (nameOf (A .file .now) n i) (slice (A .from) (A .to) (A .file .now))) _ 0 (A .used) at (omega arith) (omega (arith, k .standing)) e

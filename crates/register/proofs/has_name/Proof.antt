@@ -27,7 +27,10 @@ rest-is-requires : tie.Need-rest-is-requires
 rest-is-requires c κs = search needs
 
 returns : tie.Need-returns
-returns c = rw (c .before .part2 .ensures, c .before .before .part .ensures, c .before .before .before .lower .ensures, c .before .before .before .before .upper .ensures, c .before .before .before .before .before .word-at .ensures, name-is _ _ (c .before .before .before .before .before .before .before .before .pre) _) at (c .rest-is .ensures)
+returns c =
+    let lower = c .before .before .before in
+    let start = lower .before .before .before .before .before in
+    rw (c .before .part2 .ensures, c .before .before .part .ensures, lower .lower .ensures, c .before .before .before .before .upper .ensures, c .before .before .before .before .before .word-at .ensures, name-is _ _ (start .pre) _) at (c .rest-is .ensures)
 
 pub has-name-spec : {M : Type 1} → statement M
 has-name-spec =

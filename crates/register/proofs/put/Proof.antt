@@ -34,9 +34,13 @@ same-length c = search needs
 
 returns : tie.Need-returns
 returns c =
-    let room = c .before .before .before .before .before .before .before .before .before .before .before .before .before .if1 .taken in
-    let w = c .before .before .before .before .before .before .before .before .before .before .before .before .before .before .before .pre in
-    let stores = rw (c .before .before .before .before .before .before .put2 .ensures, c .before .before .before .before .before .before .before .before .before .before .put .ensures, c .before .before .before .before .before .before .before .before .before .before .before .halves .ensures) at (c .before .before .relink .ensures) in
+    let relink = c .before .before in
+    let put2 = relink .before .before .before .before in
+    let the-put = put2 .before .before .before .before in
+    let if1 = the-put .before .before .before in
+    let room = if1 .if1 .taken in
+    let w = if1 .before .before .pre in
+    let stores = rw (put2 .put2 .ensures, the-put .put .ensures, the-put .before .halves .ensures) at (relink .relink .ensures) in
     (sym (has-room _ _ ∙ lt-ltb _ _ room), ap wide stores ∙ wide-added _ _ _ _ _ _ room (w .0) (w .1) (w .3))
 
 returns-2 : tie.Need-returns-2

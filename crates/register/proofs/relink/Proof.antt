@@ -27,7 +27,10 @@ same-length c = search needs
 
 returns : tie.Need-returns
 unfolding relinked
-returns c = rw (c .before .before .before .before .before .before .if1 .taken) (rw (c .before .before .before .halves .ensures, c .before .before .before .before .upper .ensures, c .before .before .before .before .before .before .before .word-at .ensures) at (c .before .before .put .ensures))
+returns c =
+    let put = c .before .before in
+    let if1 = put .before .before .before .before in
+    rw (if1 .if1 .taken) (rw (c .before .before .before .halves .ensures, c .before .before .before .before .upper .ensures, if1 .before .word-at .ensures) at (put .put .ensures))
 
 lower-requires : tie.Need-lower-requires
 lower-requires c κs = search needs
@@ -43,7 +46,10 @@ same-length-2 c = search needs
 
 returns-2 : tie.Need-returns-2
 unfolding relinked
-returns-2 c = rw (c .before .before .before .before .before .before .if1 .left) (rw (c .before .before .before .halves2 .ensures, c .before .before .before .before .lower .ensures, c .before .before .before .before .before .before .before .word-at .ensures) at (c .before .before .put2 .ensures))
+returns-2 c =
+    let put2 = c .before .before in
+    let if1 = put2 .before .before .before .before in
+    rw (if1 .if1 .left) (rw (c .before .before .before .halves2 .ensures, c .before .before .before .before .lower .ensures, if1 .before .word-at .ensures) at (put2 .put2 .ensures))
 
 pub relink-spec : {M : Type 1} → statement M
 relink-spec =

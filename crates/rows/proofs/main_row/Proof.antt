@@ -6,6 +6,25 @@ use borrow.Author.Needs.{needs}
 use Rattle.rows.proofs.main_row.Statement.{statement}
 use Rattle.rows.proofs.main_row.Tie as tie
 
+-- the places that facts are read at
+abbrev at-write : tie.After-write-point → tie.After-write
+at-write c = c .before .before .before .before
+
+abbrev at-write-point : tie.After-write-field → tie.After-write-point
+at-write-point c = c .before .before .before .before
+
+abbrev at-write-field : tie.After-write-field2 → tie.After-write-field
+at-write-field c = c .before .before .before .before
+
+abbrev at-write-field2 : tie.After-write-field3 → tie.After-write-field2
+at-write-field2 c = c .before .before .before .before
+
+abbrev at-write-field3 : tie.After-write-field4 → tie.After-write-field3
+at-write-field3 c = c .before .before .before .before
+
+abbrev at-write-field4 : tie.After-write2 → tie.After-write-field4
+at-write-field4 c = c .before .before .before .before .before
+
 write-requires : tie.Need-write-requires
 write-requires c κs = search needs
 
@@ -31,10 +50,24 @@ write-requires-2 : tie.Need-write-requires-2
 write-requires-2 c κs = search needs
 
 same-length : tie.Need-same-length
-same-length c = let w = behind (c .before .before .before .before .before .before .before .before .before .before .before .before .before .before .before .before .before .before .before .before .before .before .before .before .before .before .before .write .ensures) (behind (c .before .before .before .before .before .before .before .before .before .before .before .before .before .before .before .before .before .before .before .before .before .before .before .write-point .ensures) (behind (c .before .before .before .before .before .before .before .before .before .before .before .before .before .before .before .before .before .before .before .write-field .ensures) (behind (c .before .before .before .before .before .before .before .before .before .before .before .before .before .before .before .write-field2 .ensures) (behind (c .before .before .before .before .before .before .before .before .before .before .before .write-field3 .ensures) (behind (c .before .before .before .before .before .before .before .write-field4 .ensures) (c .before .before .write2 .ensures)))))) in w .long
+same-length c =
+    let write2 = c .before .before in
+    let write-field4 = at-write-field4 write2 in
+    let write-field3 = at-write-field3 write-field4 in
+    let write-field2 = at-write-field2 write-field3 in
+    let write-field = at-write-field write-field2 in
+    let write-point = at-write-point write-field in
+    let w = behind (at-write write-point .write .ensures) (behind (write-point .write-point .ensures) (behind (write-field .write-field .ensures) (behind (write-field2 .write-field2 .ensures) (behind (write-field3 .write-field3 .ensures) (behind (write-field4 .write-field4 .ensures) (write2 .write2 .ensures)))))) in w .long
 
 returns : tie.Need-returns
-returns c = is-also (main-pieces _ _ _ _ _ _) (behind (c .before .before .before .before .before .before .before .before .before .before .before .before .before .before .before .before .before .before .before .before .before .before .before .before .before .before .before .write .ensures) (behind (c .before .before .before .before .before .before .before .before .before .before .before .before .before .before .before .before .before .before .before .before .before .before .before .write-point .ensures) (behind (c .before .before .before .before .before .before .before .before .before .before .before .before .before .before .before .before .before .before .before .write-field .ensures) (behind (c .before .before .before .before .before .before .before .before .before .before .before .before .before .before .before .write-field2 .ensures) (behind (c .before .before .before .before .before .before .before .before .before .before .before .write-field3 .ensures) (behind (c .before .before .before .before .before .before .before .write-field4 .ensures) (c .before .before .write2 .ensures)))))))
+returns c =
+    let write2 = c .before .before in
+    let write-field4 = at-write-field4 write2 in
+    let write-field3 = at-write-field3 write-field4 in
+    let write-field2 = at-write-field2 write-field3 in
+    let write-field = at-write-field write-field2 in
+    let write-point = at-write-point write-field in
+    is-also (main-pieces _ _ _ _ _ _) (behind (at-write write-point .write .ensures) (behind (write-point .write-point .ensures) (behind (write-field .write-field .ensures) (behind (write-field2 .write-field2 .ensures) (behind (write-field3 .write-field3 .ensures) (behind (write-field4 .write-field4 .ensures) (write2 .write2 .ensures)))))))
 
 pub main-row-spec : {M : Type 1} → statement M
 main-row-spec =

@@ -22,7 +22,11 @@ same-length : tie.Need-same-length
 same-length c = search needs
 
 returns : tie.Need-returns
-returns c = is-also (pin-pieces _ _) (behind (c .before .before .before .before .before .before .before .before .before .before .before .write-field .ensures) (behind (c .before .before .before .before .before .before .before .write-point .ensures) (c .before .before .write .ensures)))
+returns c =
+    let write = c .before .before in
+    let write-point = write .before .before .before .before .before in
+    let write-field = write-point .before .before .before .before in
+    is-also (pin-pieces _ _) (behind (write-field .write-field .ensures) (behind (write-point .write-point .ensures) (write .write .ensures)))
 
 pub pin-row-spec : {M : Type 1} → statement M
 pin-row-spec =

@@ -25,7 +25,9 @@ same-length : tie.Need-same-length
 same-length c = search needs
 
 returns-4 : tie.Need-returns-4
-returns-4 c = stands (c .before .before .before .before .before .before .if1 .left) (omega arith) (c .before .before .add .kept .0) (c .before .before .add .ensures)
+returns-4 c =
+    let if2 = c .before .before .before .before .before in
+    stands (if2 .before .if1 .left) (omega arith) (c .before .before .add .kept .0) (c .before .before .add .ensures)
 
 pub write-spec : {M : Type 1} → statement M
 write-spec =

@@ -18,7 +18,10 @@ same-length : tie.Need-same-length
 same-length c = search needs
 
 returns : tie.Need-returns
-returns c = behind (c .before .before .before .before .before .before .write .ensures) (c .before .before .write2 .ensures)
+returns c =
+    let write2 = c .before .before in
+    let write = write2 .before .before .before .before in
+    behind (write .write .ensures) (write2 .write2 .ensures)
 
 pub write-field-spec : {M : Type 1} → statement M
 write-field-spec =

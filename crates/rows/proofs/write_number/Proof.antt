@@ -15,6 +15,13 @@ use borrow.Author.Needs.{needs}
 use Rattle.rows.proofs.write_number.Statement.{statement}
 use Rattle.rows.proofs.write_number.Tie as tie
 
+-- the places that facts are read at
+abbrev call : tie.After-word → tie.Start
+call c = c .before .before .before
+
+abbrev at-word : tie.After-write → tie.After-word
+at-word c = c .before .before .before .before .before
+
 slice-aggregate-add-signed : tie.Need-slice-aggregate-add-signed
 slice-aggregate-add-signed c = search needs
 
@@ -26,11 +33,13 @@ add-signed-requires c κs = search needs
 
 array-share-prefix-digits : tie.Need-array-share-prefix-digits
 array-share-prefix-digits c =
-    let z : ℤ = c .before .before .before .before .before .before .args .z in
-    let f : c .before .before .add-signed .result ≡ length (signedOf (c .before .before .before .word .result)) = c .before .before .add-signed .ensures .end ∙ zero-add _ in
+    let the-word = c .before .before .before in
+    let start = call the-word in
+    let z : ℤ = start .args .z in
+    let f : c .before .before .add-signed .result ≡ length (signedOf (the-word .word .result)) = c .before .before .add-signed .ensures .end ∙ zero-add _ in
     let k : length (c .before .before .add-signed .last .0) ≡ 21 = c .before .before .add-signed .kept .0 in
-    let w : c .before .before .before .word .result ≡ ofZ w64 z = c .before .before .before .word .ensures ∙ ap (ofZ w64) (toZ-ofZ (c .before .before .before .before .before .before .fits .z)) in
-    omega (arith, f, k, ap length (ap signedOf w ∙ numeral-word z (c .before .before .before .before .before .before .fits .z)), length-numeral z)
+    let w : the-word .word .result ≡ ofZ w64 z = the-word .word .ensures ∙ ap (ofZ w64) (toZ-ofZ (start .fits .z)) in
+    omega (arith, f, k, ap length (ap signedOf w ∙ numeral-word z (start .fits .z)), length-numeral z)
 
 slice-aggregate-write : tie.Need-slice-aggregate-write
 slice-aggregate-write c =
@@ -45,10 +54,13 @@ same-length c = search needs
 
 returns : tie.Need-returns
 returns c =
-    let z : ℤ = c .before .before .before .before .before .before .before .before .before .before .args .z in
-    let f = c .before .before .before .before .before .before .add-signed .ensures in
-    let w : c .before .before .before .before .before .before .before .word .result ≡ ofZ w64 z = c .before .before .before .before .before .before .before .word .ensures ∙ ap (ofZ w64) (toZ-ofZ (c .before .before .before .before .before .before .before .before .before .before .fits .z)) in
-    is-also (begins-with f ∙ ap signedOf w ∙ numeral-word z (c .before .before .before .before .before .before .before .before .before .before .fits .z)) (c .before .before .write .ensures)
+    let write = c .before .before in
+    let the-word = at-word write in
+    let start = call the-word in
+    let z : ℤ = start .args .z in
+    let f = write .before .before .before .before .add-signed .ensures in
+    let w : the-word .word .result ≡ ofZ w64 z = the-word .word .ensures ∙ ap (ofZ w64) (toZ-ofZ (start .fits .z)) in
+    is-also (begins-with f ∙ ap signedOf w ∙ numeral-word z (start .fits .z)) (write .write .ensures)
 
 pub write-number-spec : {M : Type 1} → statement M
 write-number-spec =

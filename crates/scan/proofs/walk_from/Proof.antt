@@ -54,17 +54,19 @@ leap-requires c κs = tt
 
 loop-less-2 : tie.Need-loop-less-2 Inv-loop μ-loop
 loop-less-2 c =
-    let p = c .before .before .before .before .before .before .before in
+    let way-after = c .before .before .before .before .before in
+    let p = way-after .before .before in
     omega (arith, c .before .leap .ensures .on, p .loop-test .taken)
 
 loop-again-2 : tie.Need-loop-again-2 Inv-loop μ-loop
 loop-again-2 c =
-    let p = c .before .before .before .before .before .before .before in
+    let way-after = c .before .before .before .before .before in
+    let p = way-after .before .before in
     let l = p .before .loop in
     let a = p .before .before .before .args in (
       omega (arith, c .before .leap .ensures .on, l .inv .0),
       c .before .leap .ensures .same (a .book) (l .place)
-          ∙ sym (at-inside (a .book) (a .file .now) (l .place) (l .way) (l .at) (p .loop-test .taken) (sym (c .before .before .before .before .before .way-after .ensures) ∙ c .before .before .before .next .given .1))
+          ∙ sym (at-inside (a .book) (a .file .now) (l .place) (l .way) (l .at) (p .loop-test .taken) (sym (way-after .way-after .ensures) ∙ c .before .before .before .next .given .1))
           ∙ l .inv .1,
     )
 
@@ -76,10 +78,11 @@ to-command-requires c κs = (omega arith, omega arith)
 
 returns : tie.Need-returns Inv-loop μ-loop
 returns c =
-    let p = c .before .before .before .before .before .before in
+    let way-after = c .before .before .before .before in
+    let p = way-after .before .before in
     let l = p .before .loop in
     let a = p .before .before .before .args in
-    c .to-command .ensures ∙ sym (at-complete (a .book) (a .file .now) (l .place) (l .way) (l .at) (p .loop-test .taken) (sym (c .before .before .before .before .way-after .ensures) ∙ c .before .before .next2 .given .1)) ∙ l .inv .1
+    c .to-command .ensures ∙ sym (at-complete (a .book) (a .file .now) (l .place) (l .way) (l .at) (p .loop-test .taken) (sym (way-after .way-after .ensures) ∙ c .before .before .next2 .given .1)) ∙ l .inv .1
 
 enum-known-next-3 : tie.Need-enum-known-next-3 Inv-loop μ-loop
 enum-known-next-3 c = search needs

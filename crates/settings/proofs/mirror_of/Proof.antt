@@ -31,7 +31,9 @@ row-requires-4 c κs = search needs
 
 returns : tie.Need-returns
 unfolding mirrorOf
-returns c = simp (c .row4 .ensures, c .before .before .row3 .ensures, c .before .before .before .before .row2 .ensures, c .before .before .before .before .before .before .row .ensures)
+returns c =
+    let row2 = c .before .before .before .before in
+    simp (c .row4 .ensures, c .before .before .row3 .ensures, row2 .row2 .ensures, row2 .before .before .row .ensures)
 
 pub mirror-of-spec : {M : Type 1} → statement M
 mirror-of-spec =

@@ -40,7 +40,10 @@ repeated-requires c κs = search needs
 
 returns : tie.Need-returns
 unfolding repeatStart
-returns c = simp (c .repeated .ensures, c .before .size-of2 .ensures, c .before .before .size-of .ensures, c .before .before .before .before4 .ensures, c .before .before .before .before .copies2 .ensures, c .before .before .before .before .before .before3 .ensures, c .before .before .before .before .before .before .copies .ensures, c .before .before .before .before .before .before .before .before2 .ensures, c .before .before .before .before .before .before .before .before .after3 .ensures, c .before .before .before .before .before .before .before .before .before .after2 .ensures, c .before .before .before .before .before .before .before .before .before .before .after .ensures)
+returns c =
+    let before3 = c .before .before .before .before .before in
+    let after3 = before3 .before .before .before in
+    simp (c .repeated .ensures, c .before .size-of2 .ensures, c .before .before .size-of .ensures, c .before .before .before .before4 .ensures, c .before .before .before .before .copies2 .ensures, before3 .before3 .ensures, before3 .before .copies .ensures, before3 .before .before .before2 .ensures, after3 .after3 .ensures, after3 .before .after2 .ensures, after3 .before .before .after .ensures)
 
 pub repeat-start-spec : {M : Type 1} → statement M
 repeat-start-spec =

@@ -7,6 +7,13 @@ use borrow.Author.Needs.{needs}
 use Rattle.settings.proofs.repeated.Statement.{statement}
 use Rattle.settings.proofs.repeated.Tie as tie
 
+-- the places that facts are read at
+abbrev call : tie.After-either3 → tie.Start
+call c = c .before .before .before
+
+abbrev at-either3 : tie.After-either4 → tie.After-either3
+at-either3 c = c .before .before .before .before .before
+
 either-requires : tie.Need-either-requires
 either-requires c κs = search needs
 
@@ -23,7 +30,9 @@ counted-requires-2 : tie.Need-counted-requires-2
 counted-requires-2 c κs = search needs
 
 add-rounded : tie.Need-add-rounded
-add-rounded c = omega (arith, counted-within (c .before .before .before .before .before .before .before .args .dx .rounded), counted-within (c .before .before .before .before .before .before .before .args .dy .rounded))
+add-rounded c =
+    let start = call (c .before .before .before .before) in
+    omega (arith, counted-within (start .args .dx .rounded), counted-within (start .args .dy .rounded))
 
 either-requires-4 : tie.Need-either-requires-4
 either-requires-4 c κs = search needs
@@ -34,14 +43,15 @@ judged-requires c κs = search needs
 returns : tie.Need-returns
 unfolding repeats
 returns c =
+    let either3 = at-either3 (c .before) in
     simp (
       c .judged .ensures,
       c .before .either4 .ensures,
       c .before .before .counted2 .ensures,
       c .before .before .before .counted .ensures,
-      c .before .before .before .before .before .before .either3 .ensures,
-      c .before .before .before .before .before .before .before .either2 .ensures,
-      c .before .before .before .before .before .before .before .before .either .ensures,
+      either3 .either3 .ensures,
+      either3 .before .either2 .ensures,
+      either3 .before .before .either .ensures,
     )
 
 pub repeated-spec : {M : Type 1} → statement M

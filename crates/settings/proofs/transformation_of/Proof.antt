@@ -7,6 +7,13 @@ use borrow.Author.Needs.{needs}
 use Rattle.settings.proofs.transformation_of.Statement.{statement}
 use Rattle.settings.proofs.transformation_of.Tie as tie
 
+-- the places that facts are read at
+abbrev at-if1 : tie.After-begins → tie.Else1
+at-if1 c = c .before .before .before .before .before
+
+abbrev at-begins : tie.Else4 → tie.After-begins
+at-begins c = c .before .before .before .before
+
 slice-aggregate-is : tie.Need-slice-aggregate-is
 slice-aggregate-is c = search needs
 
@@ -44,9 +51,11 @@ mirror-of-requires c κs = search needs
 returns-3 : tie.Need-returns-3
 unfolding transformationOf
 returns-3 c =
-    row-fails _ (sym (c .before .before .before .before .before .before .before .before .is .ensures) ∙ c .before .before .before .before .before .before .before .if1 .left)
+    let begins = c .before .before in
+    let if1 = at-if1 begins in
+    row-fails _ (sym (if1 .before .is .ensures) ∙ if1 .if1 .left)
     (row-fails _ (sym (c .before .before .before .before .before .is2 .ensures) ∙ c .before .before .before .before .if2 .left)
-    (row-holds _ (sym (c .before .before .begins .ensures) ∙ c .before .if3 .taken)
+    (row-holds _ (sym (begins .begins .ensures) ∙ c .before .if3 .taken)
     (c .mirror-of .ensures)))
 
 slice-aggregate-begins-2 : tie.Need-slice-aggregate-begins-2
@@ -61,9 +70,11 @@ rotation-of-requires c κs = search needs
 returns-4 : tie.Need-returns-4
 unfolding transformationOf
 returns-4 c =
-    row-fails _ (sym (c .before .before .before .before .before .before .before .before .before .before .before .is .ensures) ∙ c .before .before .before .before .before .before .before .before .before .before .if1 .left)
-    (row-fails _ (sym (c .before .before .before .before .before .before .before .before .is2 .ensures) ∙ c .before .before .before .before .before .before .before .if2 .left)
-    (row-fails _ (sym (c .before .before .before .before .before .begins .ensures) ∙ c .before .before .before .before .if3 .left)
+    let begins = c .before .before .before .before .before in
+    let if1 = at-if1 begins in
+    row-fails _ (sym (if1 .before .is .ensures) ∙ if1 .if1 .left)
+    (row-fails _ (sym (begins .before .before .before .is2 .ensures) ∙ begins .before .before .if2 .left)
+    (row-fails _ (sym (begins .begins .ensures) ∙ c .before .before .before .before .if3 .left)
     (row-holds _ (sym (c .before .before .begins2 .ensures) ∙ c .before .if4 .taken)
     (c .rotation-of .ensures))))
 
@@ -79,20 +90,26 @@ scale-of-requires c κs = search needs
 returns-5 : tie.Need-returns-5
 unfolding transformationOf
 returns-5 c =
-    row-fails _ (sym (c .before .before .before .before .before .before .before .before .before .before .before .before .before .before .is .ensures) ∙ c .before .before .before .before .before .before .before .before .before .before .before .before .before .if1 .left)
-    (row-fails _ (sym (c .before .before .before .before .before .before .before .before .before .before .before .is2 .ensures) ∙ c .before .before .before .before .before .before .before .before .before .before .if2 .left)
-    (row-fails _ (sym (c .before .before .before .before .before .before .before .before .begins .ensures) ∙ c .before .before .before .before .before .before .before .if3 .left)
-    (row-fails _ (sym (c .before .before .before .before .before .begins2 .ensures) ∙ c .before .before .before .before .if4 .left)
+    let if4 = c .before .before .before .before in
+    let begins = at-begins if4 in
+    let if1 = at-if1 begins in
+    row-fails _ (sym (if1 .before .is .ensures) ∙ if1 .if1 .left)
+    (row-fails _ (sym (begins .before .before .before .is2 .ensures) ∙ begins .before .before .if2 .left)
+    (row-fails _ (sym (begins .begins .ensures) ∙ if4 .before .before .before .if3 .left)
+    (row-fails _ (sym (c .before .before .before .before .before .begins2 .ensures) ∙ if4 .if4 .left)
     (row-holds _ (sym (c .before .before .begins3 .ensures) ∙ c .before .if5 .taken)
     (c .scale-of .ensures)))))
 
 returns-6 : tie.Need-returns-6
 unfolding transformationOf
 returns-6 c =
-    row-fails _ (sym (c .before .before .before .before .before .before .before .before .before .before .before .before .before .is .ensures) ∙ c .before .before .before .before .before .before .before .before .before .before .before .before .if1 .left)
-    (row-fails _ (sym (c .before .before .before .before .before .before .before .before .before .before .is2 .ensures) ∙ c .before .before .before .before .before .before .before .before .before .if2 .left)
-    (row-fails _ (sym (c .before .before .before .before .before .before .before .begins .ensures) ∙ c .before .before .before .before .before .before .if3 .left)
-    (row-fails _ (sym (c .before .before .before .before .begins2 .ensures) ∙ c .before .before .before .if4 .left)
+    let if4 = c .before .before .before in
+    let begins = at-begins if4 in
+    let if1 = at-if1 begins in
+    row-fails _ (sym (if1 .before .is .ensures) ∙ if1 .if1 .left)
+    (row-fails _ (sym (begins .before .before .before .is2 .ensures) ∙ begins .before .before .if2 .left)
+    (row-fails _ (sym (begins .begins .ensures) ∙ if4 .before .before .before .if3 .left)
+    (row-fails _ (sym (c .before .before .before .before .begins2 .ensures) ∙ if4 .if4 .left)
     (row-fails _ (sym (c .before .begins3 .ensures) ∙ c .if5 .left)
     refl))))
 

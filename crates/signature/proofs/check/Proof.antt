@@ -14,6 +14,10 @@ Inv-loop book file from₀ at₀ from at = Walking book file from at
 abbrev μ-loop : tie.MeasureT-loop
 μ-loop book file from₀ at₀ from at = length file - at
 
+-- the places that facts are read at
+abbrev at-loop : tie.After-is-last Inv-loop μ-loop → tie.At-loop Inv-loop μ-loop
+at-loop c = c .before .before .before .before .before
+
 loop-holds : tie.Need-loop-holds Inv-loop μ-loop
 loop-holds c = starts _ _
 
@@ -30,13 +34,17 @@ at-end-requires : tie.Need-at-end-requires Inv-loop μ-loop
 at-end-requires c κs = tt
 
 returns : tie.Need-returns Inv-loop μ-loop
-returns c = c .at-end .ensures ∙ ends (c .before .before .before .before .before .before .before .loop .inv) (sym (c .before .before .before .before .before .before .next-command .ensures) ∙ c .before .before .before .before .s .given .1) (sym (c .before .before .is-last .ensures) ∙ c .before .if1 .taken)
+returns c =
+    let is-last = c .before .before in
+    c .at-end .ensures ∙ ends (at-loop is-last .loop .inv) (sym (is-last .before .before .before .before .next-command .ensures) ∙ c .before .before .before .before .s .given .1) (sym (is-last .is-last .ensures) ∙ c .before .if1 .taken)
 
 loop-less : tie.Need-loop-less Inv-loop μ-loop
-loop-less c = omega (arith, moves (c .before .before .before .before .before .before .loop .inv) (sym (c .before .before .before .before .before .next-command .ensures) ∙ c .before .before .before .s .given .1) .0, moves (c .before .before .before .before .before .before .loop .inv) (sym (c .before .before .before .before .before .next-command .ensures) ∙ c .before .before .before .s .given .1) .1)
+loop-less c =
+    let loop = at-loop (c .before) in
+    omega (arith, moves (loop .loop .inv) (sym (c .before .before .before .before .before .next-command .ensures) ∙ c .before .before .before .s .given .1) .0, moves (loop .loop .inv) (sym (c .before .before .before .before .before .next-command .ensures) ∙ c .before .before .before .s .given .1) .1)
 
 loop-again : tie.Need-loop-again Inv-loop μ-loop
-loop-again c = goes (c .before .before .before .before .before .before .loop .inv) (sym (c .before .before .before .before .before .next-command .ensures) ∙ c .before .before .before .s .given .1) (sym (c .before .is-last .ensures) ∙ c .if1 .left)
+loop-again c = goes (at-loop (c .before) .loop .inv) (sym (c .before .before .before .before .before .next-command .ensures) ∙ c .before .before .before .s .given .1) (sym (c .before .is-last .ensures) ∙ c .if1 .left)
 
 enum-known-s-2 : tie.Need-enum-known-s-2 Inv-loop μ-loop
 enum-known-s-2 c = search needs

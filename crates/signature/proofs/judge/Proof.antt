@@ -39,12 +39,15 @@ same-digits-requires c κs = search needs
 returns : tie.Need-returns
 unfolding textOf digitsOf signed
 returns c =
-    let a = c .before .before .before .before .before .before .before .before .before .before .before .args in
-    let t = c .before .before .before .before .before .before .before .before .up-to .ensures in
-    let e : isSignature (textOf (a .h)) ≡ true = rw t at (sym (c .before .before .before .before .before .before .before .is-signature .ensures) ∙ c .before .before .before .before .before .before .if1 .taken) in
+    let finish = c .before .before .before .before .before in
+    let is-signature = finish .before .before in
+    let start = is-signature .before .before .before .before in
+    let a = start .args in
+    let t = is-signature .before .up-to .ensures in
+    let e : isSignature (textOf (a .h)) ≡ true = rw t at (sym (is-signature .is-signature .ensures) ∙ finish .before .if1 .taken) in
     let f : sameDigits (digitsOf (textOf (a .h))) (hexOf (finished (a .s))) ≡ true =
-    rw (c .before .before .before .hex .ensures, c .before .before .before .before .before .finish .ensures, c .before .before .before .before .part .ensures, t) at (sym (c .before .same-digits .ensures) ∙ c .if2 .taken) in
-    rw (c .before .before .before .before .before .finish .ensures) (sym (judged-signed (a .place) (textOf (a .h)) (finished (a .s)) e f))
+    rw (c .before .before .before .hex .ensures, finish .finish .ensures, c .before .before .before .before .part .ensures, t) at (sym (c .before .same-digits .ensures) ∙ c .if2 .taken) in
+    rw (finish .finish .ensures) (sym (judged-signed (a .place) (textOf (a .h)) (finished (a .s)) e f))
 
 refuse-requires : tie.Need-refuse-requires
 refuse-requires c κs = search needs
@@ -52,11 +55,14 @@ refuse-requires c κs = search needs
 returns-2 : tie.Need-returns-2
 unfolding textOf digitsOf
 returns-2 c =
-    let a = c .before .before .before .before .before .before .before .before .before .before .before .before .args in
-    let t = c .before .before .before .before .before .before .before .before .before .up-to .ensures in
-    let e : isSignature (textOf (a .h)) ≡ true = rw t at (sym (c .before .before .before .before .before .before .before .before .is-signature .ensures) ∙ c .before .before .before .before .before .before .before .if1 .taken) in
+    let part = c .before .before .before .before .before in
+    let if1 = part .before .before in
+    let start = if1 .before .before .before .before .before in
+    let a = start .args in
+    let t = if1 .before .before .up-to .ensures in
+    let e : isSignature (textOf (a .h)) ≡ true = rw t at (sym (if1 .before .is-signature .ensures) ∙ if1 .if1 .taken) in
     let f : sameDigits (digitsOf (textOf (a .h))) (hexOf (finished (a .s))) ≡ false =
-    rw (c .before .before .before .before .hex .ensures, c .before .before .before .before .before .before .finish .ensures, c .before .before .before .before .before .part .ensures, t) at (sym (c .before .before .same-digits .ensures) ∙ c .before .if2 .left) in
+    rw (c .before .before .before .before .hex .ensures, part .before .finish .ensures, part .part .ensures, t) at (sym (c .before .before .same-digits .ensures) ∙ c .before .if2 .left) in
     c .refuse .ensures ∙ sym (judged-other (a .place) (textOf (a .h)) (finished (a .s)) e f)
 
 refuse-requires-2 : tie.Need-refuse-requires-2
@@ -65,7 +71,9 @@ refuse-requires-2 c κs = search needs
 returns-3 : tie.Need-returns-3
 unfolding textOf
 returns-3 c =
-    let a = c .before .before .before .before .before .before .args in
+    let if1 = c .before in
+    let start = if1 .before .before .before .before .before in
+    let a = start .args in
     let e : isSignature (textOf (a .h)) ≡ false = rw (c .before .before .before .up-to .ensures) at (sym (c .before .before .is-signature .ensures) ∙ c .before .if1 .left) in
     c .refuse2 .ensures ∙ sym (judged-none (a .place) (textOf (a .h)) (finished (a .s)) e)
 

@@ -29,7 +29,9 @@ judge-requires c κs = search needs
 
 returns : tie.Need-returns
 unfolding bare
-returns c = rw (c .judge .ensures, c .before .feed-text .ensures, c .before .before .part2 .ensures, c .before .before .before .start .ensures, c .before .before .before .before .hold .ensures, c .before .before .before .before .before .part .ensures, c .before .before .before .before .before .before .none .ensures, finished-md5) (judged-held _ _ _)
+returns c =
+    let part = c .before .before .before .before .before in
+    rw (c .judge .ensures, c .before .feed-text .ensures, c .before .before .part2 .ensures, c .before .before .before .start .ensures, c .before .before .before .before .hold .ensures, part .part .ensures, part .before .none .ensures, finished-md5) (judged-held _ _ _)
 
 pub judge-part-spec : {M : Type 1} → statement M
 judge-part-spec =

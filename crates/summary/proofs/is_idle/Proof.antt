@@ -34,7 +34,9 @@ enum-told : tie.Need-enum-told
 enum-told c = search needs
 
 returns : tie.Need-returns
-returns c = rw (c .before .before .before .before .q .given .1) (rw (c .before .both .ensures, c .before .before .word-at2 .ensures, c .before .before .before .before .before .before .word-at .ensures) at (c .both2 .ensures) ∙ sym (idle-aperture _ _ _))
+returns c =
+    let the-match = c .before .before .before .before .before in
+    rw (c .before .before .before .before .q .given .1) (rw (c .before .both .ensures, c .before .before .word-at2 .ensures, the-match .before .word-at .ensures) at (c .both2 .ensures) ∙ sym (idle-aperture _ _ _))
 
 returns-2 : tie.Need-returns-2
 returns-2 c = rw (c .enum-told .given .1, c .before .before .word-at .ensures) (sym (idle-regions _ _))

@@ -7,7 +7,7 @@ use borrow.Author.Needs.{needs}
 use Rattle.summary.proofs.list_block.Statement.{statement}
 use Rattle.summary.proofs.list_block.Tie as tie
 
-tested : (c : tie.After-both) → isAt (c .before .before .before .before .before .before .args .a .now) (c .before .before .before .before .before .before .args .h) (c .before .before .before .before .before .before .args .b) ≡ c .both .result
+tested : (c : tie.After-both) → let is-block = c .before .before in let start = is-block .before .before .before .before in isAt (start .args .a .now) (start .args .h) (start .args .b) ≡ c .both .result
 unfolding isAt
 tested c = sym (rw (c .before .before .is-block .ensures, c .before .before .before .block-at .ensures) at (c .both .ensures))
 

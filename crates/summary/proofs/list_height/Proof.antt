@@ -27,7 +27,10 @@ loop-less : tie.Need-loop-less Inv-loop μ-loop
 loop-less c = omega arith
 
 loop-again : tie.Need-loop-again Inv-loop μ-loop
-loop-again c = let w = c .before .before .before .before .before .before .before .before .pre in let i = c .before .before .before .before .before .loop .inv in let e = c .before .before .list-block .ensures in (omega arith, c .before .before .list-block .kept .1 .1 .1 .1 .1 .0 ∙ i .1, rw (e .0, e .1) (listed-more _ _ _ _ _ _ (rw (i .1) (w .1)) (omega arith) (i .2)))
+loop-again c =
+    let loop-test = c .before .before .before .before in
+    let start = loop-test .before .before .before .before in
+    let w = start .pre in let i = c .before .before .before .before .before .loop .inv in let e = c .before .before .list-block .ensures in (omega arith, c .before .before .list-block .kept .1 .1 .1 .1 .1 .0 ∙ i .1, rw (e .0, e .1) (listed-more _ _ _ _ _ _ (rw (i .1) (w .1)) (omega arith) (i .2)))
 
 same-length : tie.Need-same-length Inv-loop μ-loop
 same-length c = c .before .loop .inv .1

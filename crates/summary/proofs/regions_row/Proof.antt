@@ -12,10 +12,16 @@ index-requires : tie.Need-index-requires
 index-requires c κs = search needs
 
 list-blocks-requires : tie.Need-list-blocks-requires
-list-blocks-requires c κs = let w = c .before .before .before .before .before .before .pre in let r = rooms _ _ _ (w .ok) .1 in rw (c .before .index .ensures) (r, w .room)
+list-blocks-requires c κs =
+    let index = c .before in
+    let start = index .before .before .before .before .before in
+    let w = start .pre in let r = rooms _ _ _ (w .ok) .1 in rw (c .before .index .ensures) (r, w .room)
 
 row-of-requires : tie.Need-row-of-requires
-row-of-requires c κs = record { fits = fits-same _ _ _ _ _ (c .before .before .before .list-blocks .kept .1 .1 .0) (c .before .before .before .before .before .before .before .before .before .before .pre); listed = rw (c .before .before .before .before .before .index .ensures) at (c .before .before .before .list-blocks .ensures) }
+row-of-requires c κs =
+    let index = c .before .before .before .before .before in
+    let start = index .before .before .before .before .before in
+    record { fits = fits-same _ _ _ _ _ (c .before .before .before .list-blocks .kept .1 .1 .0) (start .pre); listed = rw (index .index .ensures) at (c .before .before .before .list-blocks .ensures) }
 
 same-length : tie.Need-same-length
 same-length c = search needs

@@ -15,9 +15,11 @@ body-of-requires c κs = search needs
 
 add-run-requires : tie.Need-add-run-requires
 add-run-requires c κs =
-    let A = c .before .before .before .before .before .before .before .before .args in
-    let w = c .before .before .before .before .before .before .before .before .pre in
-    let t = eq-eqb _ _ (c .before .before .before .if1 .taken) in
+    let if1 = c .before .before .before in
+    let start = if1 .before .before .before .before .before in
+    let A = start .args in
+    let w = start .pre in
+    let t = eq-eqb _ _ (if1 .if1 .taken) in
     rw (c .before .body-of .ensures, c .before .before .repeat-of .ensures) (room-same (repeat-row (A .e .now) (A .r) t) (w .0), w .1 .copies t, w .1 .body t)
 
 same-length : tie.Need-same-length
@@ -25,10 +27,13 @@ same-length c = c .before .before .add-run .kept .1 .1 .1 .1 .1 .0
 
 returns : tie.Need-returns
 returns c =
-    let A = c .before .before .before .before .before .before .before .before .before .before .before .args in
-    let t = eq-eqb _ _ (c .before .before .before .before .before .before .if1 .taken) in
+    let add-run = c .before .before in
+    let if1 = add-run .before .before .before .before in
+    let start = if1 .before .before .before .before .before in
+    let A = start .args in
+    let t = eq-eqb _ _ (if1 .if1 .taken) in
     λ z.
-    let x = rw (c .before .before .before .before .body-of .ensures, c .before .before .before .before .before .repeat-of .ensures) at (c .before .before .add-run .ensures z) in
+    let x = rw (c .before .before .before .before .body-of .ensures, c .before .before .before .before .before .repeat-of .ensures) at (add-run .add-run .ensures z) in
     (repeat-free (A .e .now) (A .r) t (x .0), adds-same (λ q. sym (repeat-row (A .e .now) (A .r) t q)) (x .1))
 
 once-requires : tie.Need-once-requires
@@ -36,9 +41,11 @@ once-requires c κs = search needs
 
 add-row-requires : tie.Need-add-row-requires
 add-row-requires c κs =
-    let A = c .before .before .before .before .before .before .before .args in
-    let w = c .before .before .before .before .before .before .before .pre in
-    let f = ne-eqb _ _ (c .before .before .if1 .left) in
+    let if1 = c .before .before in
+    let start = if1 .before .before .before .before .before in
+    let A = start .args in
+    let w = start .pre in
+    let f = ne-eqb _ _ (if1 .if1 .left) in
     rw (c .before .once .ensures) (room-same (other-row (A .e .now) (A .r) f) (w .0), single-copies, w .1 .near)
 
 same-length-2 : tie.Need-same-length-2
@@ -46,8 +53,10 @@ same-length-2 c = c .before .before .add-row .kept .1 .1 .1 .1 .0
 
 returns-2 : tie.Need-returns-2
 returns-2 c =
-    let A = c .before .before .before .before .before .before .before .before .before .before .args in
-    let f = ne-eqb _ _ (c .before .before .before .before .before .if1 .left) in
+    let if1 = c .before .before .before .before .before in
+    let start = if1 .before .before .before .before .before in
+    let A = start .args in
+    let f = ne-eqb _ _ (if1 .if1 .left) in
     λ z.
     let x = rw (c .before .before .before .before .once .ensures) at (c .before .before .add-row .ensures z) in
     (other-free (A .e .now) (A .r) f (x .0), adds-same (λ q. sym (other-row (A .e .now) (A .r) f q)) (x .1))

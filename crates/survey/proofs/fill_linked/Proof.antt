@@ -13,11 +13,16 @@ index-requires : tie.Need-index-requires
 index-requires c κs = search needs
 
 is-linked-requires : tie.Need-is-linked-requires
-is-linked-requires c κs = let A = c .before .before .before .before .before .before .args in rw (c .index .ensures) (rooms (A .head .now) (A .e .now) (A .a .now) (c .before .before .before .before .before .before .pre .0 .ok) .1)
+is-linked-requires c κs =
+    let index-arg = c .before in
+    let start = index-arg .before .before .before .before .before in
+    let A = start .args in rw (c .index .ensures) (rooms (A .head .now) (A .e .now) (A .a .now) (start .pre .0 .ok) .1)
 
 fill-at-once-requires : tie.Need-fill-at-once-requires
 fill-at-once-requires c κs =
-    let w = c .before .before .before .before .before .before .before .before .before .before .pre in
+    let index-arg = c .before .before .before .before .before in
+    let start = index-arg .before .before .before .before .before in
+    let w = start .pre in
     (w .0, rw (c .before .before .before .before .index .ensures) at (sym (c .before .before .before .is-linked .ensures) ∙ c .before .before .if1 .taken), w .1, w .2)
 
 same-length : tie.Need-same-length

@@ -24,7 +24,10 @@ kept-row-requires : tie.Need-kept-row-requires Inv-loop μ-loop
 kept-row-requires c κs = let w = c .before .before .before .before .before .pre .0 in let t = c .before .loop-test .taken in omega arith
 
 put-row-requires : tie.Need-put-row-requires Inv-loop μ-loop
-put-row-requires c κs = let i = c .before .before .before .loop .inv in let w = c .before .before .before .before .before .before .pre .1 in let t = c .before .before .loop-test .taken in omega arith
+put-row-requires c κs =
+    let loop-test = c .before .before in
+    let start = loop-test .before .before .before .before in
+    let i = c .before .before .before .loop .inv in let w = start .pre .1 in let t = loop-test .loop-test .taken in omega arith
 
 add-b : tie.Need-add-b Inv-loop μ-loop
 add-b c = omega (arith, c .before .before .before .before .before .loop-test .taken)
@@ -34,9 +37,11 @@ loop-less c = omega (arith, c .before .before .before .before .before .loop-test
 
 loop-again : tie.Need-loop-again Inv-loop μ-loop
 loop-again c =
-    let i = c .before .before .before .before .before .before .loop .inv in
-    let w = c .before .before .before .before .before .before .before .before .before .pre .1 in
-    let t = c .before .before .before .before .before .loop-test .taken in (
+    let loop-test = c .before .before .before .before .before in
+    let start = loop-test .before .before .before .before in
+    let i = loop-test .before .loop .inv in
+    let w = start .pre .1 in
+    let t = loop-test .loop-test .taken in (
       omega arith,
       c .before .before .put-row .kept .0 ∙ i .1,
       rw (i .2, c .before .before .before .kept-row .ensures) at (c .before .before .put-row .ensures) ∙ rows-more _ _ _ (omega arith),

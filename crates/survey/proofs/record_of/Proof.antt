@@ -15,6 +15,13 @@ Inv-loop a n number steps₀ at₀ key₀ steps at key = leadsTo a n steps at ke
 abbrev μ-loop : tie.MeasureT-loop
 μ-loop a n number steps₀ at₀ key₀ steps at key = steps
 
+-- the places that facts are read at
+abbrev call : tie.In-loop Inv-loop μ-loop → tie.Start Inv-loop μ-loop
+call c = c .before .before .before
+
+abbrev in-loop : tie.After-word-at2 Inv-loop μ-loop → tie.In-loop Inv-loop μ-loop
+in-loop c = c .before .before .before .before .before
+
 loop-holds : tie.Need-loop-holds Inv-loop μ-loop
 loop-holds c = record-start _ _ _
 
@@ -31,16 +38,16 @@ returns-2 : tie.Need-returns-2 Inv-loop μ-loop
 returns-2 c = sym (lead-here _ _ _ _ _ _ (c .before .before .before .loop-test .taken) (c .before .before .if1 .left) (sym (c .before .word-at .ensures) ∙ c .if2 .taken)) ∙ c .before .before .before .before .loop .inv
 
 mul-word-at-2 : tie.Need-mul-word-at-2 Inv-loop μ-loop
-mul-word-at-2 c = omega (arith, c .before .before .before .before .before .before .pre)
+mul-word-at-2 c = omega (arith, call (c .before .before .before) .pre)
 
 add-word-at : tie.Need-add-word-at Inv-loop μ-loop
-add-word-at c = omega (arith, c .before .before .before .before .before .before .pre)
+add-word-at c = omega (arith, call (c .before .before .before) .pre)
 
 index-requires : tie.Need-index-requires Inv-loop μ-loop
 index-requires c κs = search needs
 
 add-word-at-2 : tie.Need-add-word-at-2 Inv-loop μ-loop
-add-word-at-2 c = omega (arith, c .index .ensures, c .before .before .before .before .before .before .before .pre)
+add-word-at-2 c = omega (arith, c .index .ensures, call (c .before .before .before .before) .pre)
 
 word-at-requires-2 : tie.Need-word-at-requires-2 Inv-loop μ-loop
 word-at-requires-2 c κs = search needs
@@ -49,18 +56,19 @@ index-requires-2 : tie.Need-index-requires-2 Inv-loop μ-loop
 index-requires-2 c κs = search needs
 
 sub-steps : tie.Need-sub-steps Inv-loop μ-loop
-sub-steps c = omega (arith, c .before .before .before .before .before .before .loop-test .taken)
+sub-steps c = omega (arith, in-loop (c .before) .loop-test .taken)
 
 loop-less : tie.Need-loop-less Inv-loop μ-loop
-loop-less c = omega (arith, c .before .before .before .before .before .before .loop-test .taken)
+loop-less c = omega (arith, in-loop (c .before) .loop-test .taken)
 
 loop-again : tie.Need-loop-again Inv-loop μ-loop
 loop-again c =
-    let A = c .before .before .before .before .before .before .before .before .before .args in
-    let L = c .before .before .before .before .before .before .before .loop in
+    let loop-test = in-loop (c .before) in
+    let A = call loop-test .args in
+    let L = loop-test .before .loop in
     let led = c .index2 .ensures ∙ c .before .word-at2 .ensures ∙ ap (λ (i : ℕ). getD (A .a .now) (L .at * 8 + 6 + i) 0) (c .before .before .index .ensures) in
     ap (λ (x : ℕ). leadsTo (A .a .now) (A .n) (L .steps - 1) x (L .key / 2) (A .number)) led
-    ∙ sym (lead-on (A .a .now) (A .n) (L .steps) (L .at) (L .key) (A .number) (c .before .before .before .before .before .before .loop-test .taken) (c .before .before .before .before .before .if1 .left)
+    ∙ sym (lead-on (A .a .now) (A .n) (L .steps) (L .at) (L .key) (A .number) (loop-test .loop-test .taken) (c .before .before .before .before .before .if1 .left)
     (λ q. c .before .before .before .if2 .left (c .before .before .before .before .word-at .ensures ∙ q)))
     ∙ L .inv
 

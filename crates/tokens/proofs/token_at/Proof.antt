@@ -28,8 +28,9 @@ token-of-requires c κs = search needs
 returns : tie.Need-returns
 unfolding lexed wordEnd
 returns c =
-    let j = sym (c .before .before .before .before .is-joined .ensures) ∙ c .before .before .before .if2 .taken in
-    rw (lt-ltb _ _ (c .before .before .before .before .before .before .if1 .taken), j, c .token-of .ensures, c .before .part .ensures, c .before .before .numeral-end .ensures)
+    let is-joined = c .before .before .before .before in
+    let j = sym (is-joined .is-joined .ensures) ∙ c .before .before .before .if2 .taken in
+    rw (lt-ltb _ _ (is-joined .before .before .if1 .taken), j, c .token-of .ensures, c .before .part .ensures, c .before .before .numeral-end .ensures)
 
 add-part : tie.Need-add-part
 add-part c = search needs

@@ -59,8 +59,9 @@ returns-4 c =
 returns-5 : tie.Need-returns-5
 unfolding tokenOf
 returns-5 c =
-    rw (sym (c .before .before .before .before .before .before .byte-at .ensures))
-    (row-fails _ (sym (c .before .before .before .before .before .is-numeral .ensures) ∙ c .before .before .before .before .if1 .left)
+    let is-numeral = c .before .before .before .before .before in
+    rw (sym (is-numeral .before .byte-at .ensures))
+    (row-fails _ (sym (is-numeral .is-numeral .ensures) ∙ c .before .before .before .before .if1 .left)
     (row-fails _ (ne-eqb _ _ (c .before .before .before .if2 .left))
     (row-fails _ (ne-eqb _ _ (c .before .before .if3 .left))
     (row-fails _ (ne-eqb _ _ (c .before .if4 .left))
@@ -69,8 +70,9 @@ returns-5 c =
 returns-6 : tie.Need-returns-6
 unfolding tokenOf
 returns-6 c =
-    rw (sym (c .before .before .before .before .before .before .before .byte-at .ensures))
-    (row-fails _ (sym (c .before .before .before .before .before .before .is-numeral .ensures) ∙ c .before .before .before .before .before .if1 .left)
+    let if1 = c .before .before .before .before .before in
+    rw (sym (if1 .before .before .byte-at .ensures))
+    (row-fails _ (sym (if1 .before .is-numeral .ensures) ∙ if1 .if1 .left)
     (row-fails _ (ne-eqb _ _ (c .before .before .before .before .if2 .left))
     (row-fails _ (ne-eqb _ _ (c .before .before .before .if3 .left))
     (row-fails _ (ne-eqb _ _ (c .before .before .if4 .left))
@@ -80,9 +82,11 @@ returns-6 c =
 returns-7 : tie.Need-returns-7
 unfolding tokenOf
 returns-7 c =
-    rw (sym (c .before .before .before .before .before .before .before .before .byte-at .ensures))
-    (row-fails _ (sym (c .before .before .before .before .before .before .before .is-numeral .ensures) ∙ c .before .before .before .before .before .before .if1 .left)
-    (row-fails _ (ne-eqb _ _ (c .before .before .before .before .before .if2 .left))
+    let if2 = c .before .before .before .before .before in
+    let is-numeral = if2 .before .before in
+    rw (sym (is-numeral .before .byte-at .ensures))
+    (row-fails _ (sym (is-numeral .is-numeral .ensures) ∙ if2 .before .if1 .left)
+    (row-fails _ (ne-eqb _ _ (if2 .if2 .left))
     (row-fails _ (ne-eqb _ _ (c .before .before .before .before .if3 .left))
     (row-fails _ (ne-eqb _ _ (c .before .before .before .if4 .left))
     (row-fails _ (ne-eqb _ _ (c .before .before .if5 .left))
@@ -92,10 +96,12 @@ returns-7 c =
 returns-8 : tie.Need-returns-8
 unfolding tokenOf
 returns-8 c =
-    rw (sym (c .before .before .before .before .before .before .before .before .before .byte-at .ensures))
-    (row-fails _ (sym (c .before .before .before .before .before .before .before .before .is-numeral .ensures) ∙ c .before .before .before .before .before .before .before .if1 .left)
-    (row-fails _ (ne-eqb _ _ (c .before .before .before .before .before .before .if2 .left))
-    (row-fails _ (ne-eqb _ _ (c .before .before .before .before .before .if3 .left))
+    let if3 = c .before .before .before .before .before in
+    let if1 = if3 .before .before in
+    rw (sym (if1 .before .before .byte-at .ensures))
+    (row-fails _ (sym (if1 .before .is-numeral .ensures) ∙ if1 .if1 .left)
+    (row-fails _ (ne-eqb _ _ (if3 .before .if2 .left))
+    (row-fails _ (ne-eqb _ _ (if3 .if3 .left))
     (row-fails _ (ne-eqb _ _ (c .before .before .before .before .if4 .left))
     (row-fails _ (ne-eqb _ _ (c .before .before .before .if5 .left))
     (row-fails _ (ne-eqb _ _ (c .before .before .if6 .left))
@@ -105,10 +111,12 @@ returns-8 c =
 returns-9 : tie.Need-returns-9
 unfolding tokenOf
 returns-9 c =
-    rw (sym (c .before .before .before .before .before .before .before .before .before .byte-at .ensures))
-    (row-fails _ (sym (c .before .before .before .before .before .before .before .before .is-numeral .ensures) ∙ c .before .before .before .before .before .before .before .if1 .left)
-    (row-fails _ (ne-eqb _ _ (c .before .before .before .before .before .before .if2 .left))
-    (row-fails _ (ne-eqb _ _ (c .before .before .before .before .before .if3 .left))
+    let if3 = c .before .before .before .before .before in
+    let if1 = if3 .before .before in
+    rw (sym (if1 .before .before .byte-at .ensures))
+    (row-fails _ (sym (if1 .before .is-numeral .ensures) ∙ if1 .if1 .left)
+    (row-fails _ (ne-eqb _ _ (if3 .before .if2 .left))
+    (row-fails _ (ne-eqb _ _ (if3 .if3 .left))
     (row-fails _ (ne-eqb _ _ (c .before .before .before .before .if4 .left))
     (row-fails _ (ne-eqb _ _ (c .before .before .before .if5 .left))
     (row-fails _ (ne-eqb _ _ (c .before .before .if6 .left))
