@@ -4,7 +4,8 @@ ghost use lib.IntN.{natAbs, _+ℤ_};
 ghost use Prim.Native.Nat.{_≤_, _^_};
 ghost use Rattle.points.specs.Points.{pt, Within};
 ghost use Rattle.graphics.specs.Orientation.{angleOf};
-ghost use Rattle.graphics.specs.Graphics.{unset, noRegion, withHeader, withNotation, withPoint, withTransform, withRegion};
+ghost use Rattle.graphics.specs.declared.Graphics.{Graphics};
+ghost use Rattle.graphics.specs.Graphics.{unset, noRegion, withHeader, withNotation, withPoint, withMode, withTransform, withRegion};
 ghost use Rattle.changes.specs.After.{along, target, goal, goingTo, emptyRegion, startsContour, drawing, ended, withFormat, withUnit, withCoded, withClear, withMirror, withRotation, withScale, afterSetting, afterOperation, after, Reached};
 use command::Axis;
 use command::Command;
@@ -305,6 +306,22 @@ pub fn after_setting(s: Setting, g: Graphics) -> Graphics
         Setting::RegionEnd => end_region(g),
         Setting::Halt => g,
     }
+}
+
+// The mode of a setting that changes the mode alone: 1 for G01, 2 for G02, 3 for G03, and 0 for any other.
+pub fn mode_of(s: Setting) -> u64
+    ensures { λ r. ⌜ ((g : Graphics) → 1 ≤ r → afterSetting s g ≡ withMode r g) ⌝ }
+{
+    if let Setting::Linear = s {
+        return 1;
+    }
+    if let Setting::Clockwise = s {
+        return 2;
+    }
+    if let Setting::Counterclockwise = s {
+        return 3;
+    }
+    0
 }
 
 // The state after a D01, D02 or D03 that is accepted.

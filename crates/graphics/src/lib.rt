@@ -222,22 +222,9 @@ pub fn with_aperture(v: Selected, g: Graphics) -> Graphics
 pub fn with_mode(v: u64, g: Graphics) -> Graphics
     ensures { λ r. ⌜ r ≡ withMode v g ⌝ }
 {
-    let header = g.header;
-    let point = g.point;
-    let aperture = g.aperture;
-    let transform = g.transform;
-    let region = g.region;
-    Graphics {
-        old: g.old,
-        header: header,
-        incremental: g.incremental,
-        point: point,
-        aperture: aperture,
-        mode: v,
-        quadrants: g.quadrants,
-        transform: transform,
-        region: region,
-    }
+    let mut h = g;
+    h.mode = v;
+    h
 }
 
 // The state with G74 or G75 set anew.

@@ -11,6 +11,8 @@ ghost use Rattle.progress.specs.Knows.{Knows, Known, Follows, StepsTo, StrikesT
 ghost use Rattle.progress.specs.Lent.{Lent, lentOf, withEntries, withApertures, withMacros, withNumbers};
 ghost use Rattle.definitions.specs.Lends.{Lends};
 ghost use Rattle.steps.specs.Steps.{Sound, AgainBy, Reads, Operates};
+ghost use Rattle.changes.specs.After.{afterSetting};
+ghost use Rattle.progress.specs.Parts.{withGraphics};
 ghost use Rattle.steps.specs.Coded.{heldIn, codeFault, behindCode, joined};
 ghost use Rattle.steps.specs.declared.Held.the-variants.{Nothing};
 use command::Bracket;
@@ -18,6 +20,7 @@ use command::Command;
 use command::Deed;
 use command::Definition;
 use command::Operation;
+use command::Setting;
 use commands::Placed;
 use graphics::Graphics;
 use progress::Progress;
@@ -143,13 +146,25 @@ pub fn code_fault(g: Graphics, c: Command) -> u64
     }
 }
 
+// How far reading has come after a code. The codes that set the mode alone, which films have before every coordinate, leave the rest where
+// it is.
+fn after_code(code: Setting, p: Progress) -> Progress
+    ensures { λ r. ⌜ r ≡ withGraphics (afterSetting code (p .graphics)) p ⌝ }
+{
+    let g = p.graphics;
+    let mode = changes::mode_of(code);
+    if mode == 0 {
+        return progress::with_graphics(changes::after_setting(code, g), p);
+    }
+    progress::with_graphics(graphics::with_mode(mode, g), p)
+}
+
 // How far reading has come after that code, and before its operation.
 pub fn behind_code(c: Command, p: Progress) -> Progress
     ensures { λ r. ⌜ r ≡ behindCode c p ⌝ }
 {
-    let g = p.graphics;
     match c {
-        Command::Coded { code, .. } => progress::with_graphics(changes::after_setting(code, g), p),
+        Command::Coded { code, .. } => after_code(code, p),
         Command::Broken(_) => p,
         Command::Note => p,
         Command::End => p,

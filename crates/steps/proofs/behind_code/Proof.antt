@@ -9,11 +9,8 @@ use Rattle.steps.proofs.behind_code.Tie as tie
 enum-known-c : tie.Need-enum-known-c
 enum-known-c c = search needs
 
-after-setting-requires : tie.Need-after-setting-requires
-after-setting-requires c κs = search needs
-
-with-graphics-requires : tie.Need-with-graphics-requires
-with-graphics-requires c κs = search needs
+after-code-requires : tie.Need-after-code-requires
+after-code-requires c κs = search needs
 
 enum-told : tie.Need-enum-told
 enum-told c = search needs
@@ -44,7 +41,7 @@ enum-told-9 c = search needs
 
 returns : tie.Need-returns
 unfolding behindCode
-returns c = rw (c .with-graphics .ensures, c .before .after-setting .ensures, c .before .before .before .c .given .1) refl
+returns c = rw (c .after-code .ensures, c .before .before .c .given .1) refl
 
 returns-2 : tie.Need-returns-2
 unfolding behindCode
@@ -87,8 +84,7 @@ behind-code-spec =
     tie.close
     (tie.spec
     enum-known-c
-    after-setting-requires
-    with-graphics-requires
+    after-code-requires
     enum-told
     enum-told-2
     enum-told-3
