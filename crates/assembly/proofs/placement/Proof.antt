@@ -10,6 +10,28 @@ use borrow.Author.Needs.{needs}
 use Rattle.assembly.proofs.placement.Statement.{statement}
 use Rattle.assembly.proofs.placement.Tie as tie
 
+-- the places that facts are read at
+abbrev at-clear-bytes : tie.After-read-as-arg3 → tie.After-clear-bytes
+at-clear-bytes c = c .before .before .before .before .before
+
+abbrev at-read-as-arg3 : tie.After-read-as → tie.After-read-as-arg3
+at-read-as-arg3 c = c .before .before .before
+
+abbrev at-read-as : tie.After-m → tie.After-read-as
+at-read-as c = c .before .before .before .before .before
+
+abbrev at-m : tie.After-enum-told → tie.After-m
+at-m c = c .before .before .before .before
+
+abbrev at-enum-told : tie.After-assemble-arg5 → tie.After-enum-told
+at-enum-told c = c .before .before .before .before .before
+
+abbrev at-assemble-arg5 : tie.After-assemble → tie.After-assemble-arg5
+at-assemble-arg5 c = c .before .before .before .before
+
+abbrev at-assemble : tie.After-roles → tie.After-assemble
+at-assemble c = c .before .before .before .before .before
+
 clear-bytes-requires : tie.Need-clear-bytes-requires
 clear-bytes-requires c κs = search needs
 
@@ -27,7 +49,11 @@ enum-told c = search needs
 
 assemble-requires : tie.Need-assemble-requires
 unfolding lentOf sheeted
-assemble-requires c κs = (sheeted _ _ _ _ (is-accepted _ _ _ _ _ _ (c .before .before .before .before .before .before .before .before .before .before .before .before .before .before .before .before .before .read-as .ensures) (c .before .before .before .before .before .before .before .before .enum-told .given .1)), c .before .before .before .before .before .before .before .before .before .before .before .before .before .before .before .before .before .before .before .before .before .before .before .before .before .clear-bytes .ensures ∙ ap (λ (n : ℕ). replicate n 0) (sym (c .before .before .before .before .before .before .before .before .before .before .before .before .before .before .before .before .before .before .before .before .before .before .before .before .before .clear-bytes .kept .0)))
+assemble-requires c κs =
+    let the-enum-told = at-enum-told (c .before .before .before) in
+    let read-as = at-read-as (at-m the-enum-told) in
+    let clear-bytes = at-clear-bytes (at-read-as-arg3 read-as) in
+    (sheeted _ _ _ _ (is-accepted _ _ _ _ _ _ (read-as .read-as .ensures) (the-enum-told .enum-told .given .1)), clear-bytes .clear-bytes .ensures ∙ ap (λ (n : ℕ). replicate n 0) (sym (clear-bytes .clear-bytes .kept .0)))
 
 same-length : tie.Need-same-length
 same-length c = search needs
@@ -46,7 +72,10 @@ same-length-5 c = search needs
 
 returns : tie.Need-returns
 unfolding lentOf sheeted
-returns c = places-refused _ _ _ _ _ _ _ (c .before .before .before .before .before .before .before .before .before .before .before .read-as .ensures) (is-refused _ _ _ _ _ _ (c .before .before .before .before .before .before .before .before .before .before .before .read-as .ensures) (c .before .before .r .given .1)) (c .before .before .before .before .before .before .before .before .before .before .before .before .before .before .before .before .before .before .before .clear-bytes .ensures) (c .refused .ensures)
+returns c =
+    let the-match = c .before .before .before in
+    let read-as = at-read-as (the-match .before .before .before) in
+    places-refused _ _ _ _ _ _ _ (read-as .read-as .ensures) (is-refused _ _ _ _ _ _ (read-as .read-as .ensures) (c .before .before .r .given .1)) (at-clear-bytes (at-read-as-arg3 read-as) .clear-bytes .ensures) (c .refused .ensures)
 
 same-length-6 : tie.Need-same-length-6
 same-length-6 c = search needs
@@ -73,11 +102,17 @@ same-length-13 : tie.Need-same-length-13
 same-length-13 c = search needs
 
 same-length-14 : tie.Need-same-length-14
-same-length-14 c = c .before .before .before .before .before .before .before .before .before .before .assemble .kept .1 .1 .1 .1 .1 .1 .1 .1 .1 .0 ∙ c .before .before .before .before .before .before .before .before .before .before .before .before .before .before .before .before .before .before .before .before .before .before .before .before .before .before .before .before .before .before .before .before .before .before .before .before .clear-bytes .kept .0
+same-length-14 c =
+    let the-assemble = at-assemble (c .before .before .before .before .before) in
+    the-assemble .assemble .kept .1 .1 .1 .1 .1 .1 .1 .1 .1 .0 ∙ at-clear-bytes (at-read-as-arg3 (at-read-as (at-m (at-enum-told (at-assemble-arg5 the-assemble))))) .clear-bytes .kept .0
 
 returns-2 : tie.Need-returns-2
 unfolding lentOf sheeted
-returns-2 c = let k = is-accepted _ _ _ _ _ _ (c .before .before .before .before .before .before .before .before .before .before .before .before .before .before .before .before .before .before .before .before .before .before .before .before .before .before .before .before .read-as .ensures) (c .before .before .before .before .before .before .before .before .before .before .before .before .before .before .before .before .before .before .before .enum-told .given .1) in places-read _ _ _ _ _ _ _ (c .before .before .before .before .before .before .before .before .before .before .before .before .before .before .before .before .before .before .before .before .before .before .before .before .before .before .before .before .read-as .ensures) (k .is) (c .before .before .before .before .before .before .before .before .before .before .before .before .before .before .before .before .before .before .before .before .before .before .before .before .before .before .before .before .before .before .before .before .before .before .before .before .clear-bytes .kept .0) (c .before .before .before .before .before .before .before .before .before .before .assemble .ensures (sheeted _ _ _ _ k))
+returns-2 c =
+    let the-assemble = at-assemble (c .before .before .before .before .before) in
+    let the-enum-told = at-enum-told (at-assemble-arg5 the-assemble) in
+    let read-as = at-read-as (at-m the-enum-told) in
+    let k = is-accepted _ _ _ _ _ _ (read-as .read-as .ensures) (the-enum-told .enum-told .given .1) in places-read _ _ _ _ _ _ _ (read-as .read-as .ensures) (k .is) (at-clear-bytes (at-read-as-arg3 read-as) .clear-bytes .kept .0) (the-assemble .assemble .ensures (sheeted _ _ _ _ k))
 
 pub placement-spec : {M : Type 1} → statement M
 placement-spec =

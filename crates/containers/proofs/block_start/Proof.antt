@@ -7,6 +7,28 @@ use borrow.Author.Needs.{needs}
 use Rattle.containers.proofs.block_start.Statement.{statement}
 use Rattle.containers.proofs.block_start.Tie as tie
 
+-- the places that facts are read at
+abbrev call : tie.After-b → tie.Start
+call c = c .before .before .before .before
+
+abbrev at-b : tie.After-either → tie.After-b
+at-b c = c .before .before .before
+
+abbrev at-either : tie.After-search-number → tie.After-either
+at-either c = c .before .before .before
+
+abbrev at-search-number : tie.After-block-start-fault2 → tie.After-search-number
+at-search-number c = c .before .before .before .before
+
+abbrev at-block-start-fault2 : tie.After-put-aperture → tie.After-block-start-fault2
+at-block-start-fault2 c = c .before .before .before
+
+abbrev at-put-aperture : tie.After-open-block → tie.After-put-aperture
+at-put-aperture c = c .before .before .before .before
+
+abbrev at-open-block : tie.After-with-builder → tie.After-open-block
+at-open-block c = c .before .before .before .before .before
+
 has-room-requires : tie.Need-has-room-requires
 has-room-requires c κs = search needs
 
@@ -17,7 +39,7 @@ level-of-requires : tie.Need-level-of-requires
 level-of-requires c κs = search needs
 
 search-number-requires : tie.Need-search-number-requires
-search-number-requires c κs = blocks.lent-numbered _ _ _ (c .before .before .before .before .before .before .before .before .before .pre)
+search-number-requires c κs = blocks.lent-numbered _ _ _ (call (c .before .before .before .before .before) .pre)
 
 enum-known-found : tie.Need-enum-known-found
 enum-known-found c = search needs
@@ -35,7 +57,11 @@ same-length-2 : tie.Need-same-length-2
 same-length-2 c = search needs
 
 returns : tie.Need-returns
-returns c = (refl, refl, blocks.block-taken _ _ (c .before .before .before .before .before .before .before .before .before .before .before .before .before .args .p) (c .before .before .before .before .before .before .before .before .before .before .before .before .before .args .place) (c .before .before .before .before .before .before .before .before .before .before .before .before .before .args .n) (c .before .before .before .before .before .before .before .before .before .before .before .before .before .pre) _ (c .before .before .before .before .before .before .before .has-room .ensures) _ (c .before .before .before .before .before .before .either .ensures) _ (c .before .before .before .before .before .level-of .ensures) _ (c .before .before .before .search-number .ensures) _ _ _ (c .before .enum-told .given .1) _ (c .block-start-fault .ensures))
+returns c =
+    let search-number = c .before .before .before in
+    let either = at-either search-number in
+    let start = call (at-b either) in
+    (refl, refl, blocks.block-taken _ _ (start .args .p) (start .args .place) (start .args .n) (start .pre) _ (either .before .has-room .ensures) _ (either .either .ensures) _ (c .before .before .before .before .before .level-of .ensures) _ (search-number .search-number .ensures) _ _ _ (c .before .enum-told .given .1) _ (c .block-start-fault .ensures))
 
 block-start-fault-requires-2 : tie.Need-block-start-fault-requires-2
 block-start-fault-requires-2 c κs = search needs
@@ -47,13 +73,22 @@ same-length-4 : tie.Need-same-length-4
 same-length-4 c = search needs
 
 returns-2 : tie.Need-returns-2
-returns-2 c = (refl, refl, blocks.block-refused _ _ (c .before .before .before .before .before .before .before .before .before .before .before .before .before .before .before .args .p) (c .before .before .before .before .before .before .before .before .before .before .before .before .before .before .before .args .place) (c .before .before .before .before .before .before .before .before .before .before .before .before .before .before .before .args .n) (c .before .before .before .before .before .before .before .before .before .before .before .before .before .before .before .pre) _ (c .before .before .before .before .before .before .before .before .before .has-room .ensures) _ (c .before .before .before .before .before .before .before .before .either .ensures) _ (c .before .before .before .before .before .before .before .level-of .ensures) _ (c .before .before .before .before .before .search-number .ensures) _ (c .before .before .before .found .given .1) _ (c .before .block-start-fault2 .ensures) _ _ (omega arith))
+returns-2 c =
+    let search-number = c .before .before .before .before .before in
+    let either = at-either search-number in
+    let start = call (at-b either) in
+    (refl, refl, blocks.block-refused _ _ (start .args .p) (start .args .place) (start .args .n) (start .pre) _ (either .before .has-room .ensures) _ (either .either .ensures) _ (search-number .before .before .level-of .ensures) _ (search-number .search-number .ensures) _ (c .before .before .before .found .given .1) _ (c .before .block-start-fault2 .ensures) _ _ (omega arith))
 
 put-aperture-requires : tie.Need-put-aperture-requires
 put-aperture-requires c κs = search needs
 
 open-block-requires : tie.Need-open-block-requires
-open-block-requires c κs = blocks.block-fits _ _ (c .before .before .before .before .before .before .before .before .before .before .before .before .before .before .before .before .before .before .before .before .args .p) (c .before .before .before .before .before .before .before .before .before .before .before .before .before .before .before .before .before .before .before .before .args .place) (c .before .before .before .before .before .before .before .before .before .before .before .before .before .before .before .before .before .before .before .before .args .n) (c .before .before .before .before .before .before .before .before .before .before .before .before .before .before .before .before .before .before .before .before .pre) _ (c .before .before .before .before .before .before .before .before .before .before .before .before .before .before .has-room .ensures) _ (c .before .before .before .before .before .before .before .before .before .before .before .before .before .either .ensures) _ (c .before .before .before .before .before .before .before .before .before .before .before .before .level-of .ensures) _ (c .before .before .before .before .before .before .before .before .before .before .search-number .ensures) _ (c .before .before .before .before .before .before .before .before .found .given .1) _ (c .before .before .before .before .before .before .block-start-fault2 .ensures) (omega (arith, c .before .before .before .before .before .if1 .left))
+open-block-requires c κs =
+    let block-start-fault2 = at-block-start-fault2 (c .before .before .before) in
+    let search-number = at-search-number block-start-fault2 in
+    let either = at-either search-number in
+    let start = call (at-b either) in
+    blocks.block-fits _ _ (start .args .p) (start .args .place) (start .args .n) (start .pre) _ (either .before .has-room .ensures) _ (either .either .ensures) _ (search-number .before .before .level-of .ensures) _ (search-number .search-number .ensures) _ (block-start-fault2 .before .before .found .given .1) _ (block-start-fault2 .block-start-fault2 .ensures) (omega (arith, c .before .before .before .before .before .if1 .left))
 
 after-requires : tie.Need-after-requires
 unfolding Reached
@@ -66,10 +101,22 @@ with-builder-requires : tie.Need-with-builder-requires
 with-builder-requires c κs = search needs
 
 add-with-apertures : tie.Need-add-with-apertures
-add-with-apertures c = let fits = blocks.record-fits _ _ (c .before .before .before .before .before .before .before .before .before .before .before .before .before .before .before .before .before .before .before .before .before .before .before .before .before .before .args .p) (c .before .before .before .before .before .before .before .before .before .before .before .before .before .before .before .before .before .before .before .before .before .before .before .before .before .before .args .place) (c .before .before .before .before .before .before .before .before .before .before .before .before .before .before .before .before .before .before .before .before .before .before .before .before .before .before .args .n) (c .before .before .before .before .before .before .before .before .before .before .before .before .before .before .before .before .before .before .before .before .before .before .before .before .before .before .pre) _ (c .before .before .before .before .before .before .before .before .before .before .before .before .before .before .before .before .before .before .before .before .has-room .ensures) _ (c .before .before .before .before .before .before .before .before .before .before .before .before .before .before .before .before .before .before .before .either .ensures) _ (c .before .before .before .before .before .before .before .before .before .before .before .before .before .before .before .before .before .before .level-of .ensures) _ (c .before .before .before .before .before .before .before .before .before .before .before .before .before .before .before .before .search-number .ensures) _ (c .before .before .before .before .before .before .before .before .before .before .before .before .before .before .found .given .1) _ (c .before .before .before .before .before .before .before .before .before .before .before .before .block-start-fault2 .ensures) (omega (arith, c .before .before .before .before .before .before .before .before .before .before .before .if1 .left)) in omega (arith, c .before .before .before .before .before .before .before .before .before .before .before .before .before .before .before .before .before .before .before .before .before .before .before .before .before .before .good .1 .0 .0)
+add-with-apertures c =
+    let put-aperture = at-put-aperture (at-open-block c) in
+    let block-start-fault2 = at-block-start-fault2 put-aperture in
+    let search-number = at-search-number block-start-fault2 in
+    let either = at-either search-number in
+    let start = call (at-b either) in
+    let fits = blocks.record-fits _ _ (start .args .p) (start .args .place) (start .args .n) (start .pre) _ (either .before .has-room .ensures) _ (either .either .ensures) _ (search-number .before .before .level-of .ensures) _ (search-number .search-number .ensures) _ (block-start-fault2 .before .before .found .given .1) _ (block-start-fault2 .block-start-fault2 .ensures) (omega (arith, put-aperture .before .before .if1 .left)) in omega (arith, start .good .1 .0 .0)
 
 add-with-depth : tie.Need-add-with-depth
-add-with-depth c = let deep = blocks.block-deeper _ _ (c .before .before .before .before .before .before .before .before .before .before .before .before .before .before .before .before .before .before .before .before .before .before .before .before .before .before .before .args .p) (c .before .before .before .before .before .before .before .before .before .before .before .before .before .before .before .before .before .before .before .before .before .before .before .before .before .before .before .args .place) (c .before .before .before .before .before .before .before .before .before .before .before .before .before .before .before .before .before .before .before .before .before .before .before .before .before .before .before .args .n) (c .before .before .before .before .before .before .before .before .before .before .before .before .before .before .before .before .before .before .before .before .before .before .before .before .before .before .before .pre) _ (c .before .before .before .before .before .before .before .before .before .before .before .before .before .before .before .before .before .before .before .before .before .has-room .ensures) _ (c .before .before .before .before .before .before .before .before .before .before .before .before .before .before .before .before .before .before .before .before .either .ensures) _ (c .before .before .before .before .before .before .before .before .before .before .before .before .before .before .before .before .before .before .before .level-of .ensures) _ (c .before .before .before .before .before .before .before .before .before .before .before .before .before .before .before .before .before .search-number .ensures) _ (c .before .before .before .before .before .before .before .before .before .before .before .before .before .before .before .found .given .1) _ (c .before .before .before .before .before .before .before .before .before .before .before .before .before .block-start-fault2 .ensures) (omega (arith, c .before .before .before .before .before .before .before .before .before .before .before .before .if1 .left)) in omega arith
+add-with-depth c =
+    let put-aperture = at-put-aperture (at-open-block (c .before)) in
+    let block-start-fault2 = at-block-start-fault2 put-aperture in
+    let search-number = at-search-number block-start-fault2 in
+    let either = at-either search-number in
+    let start = call (at-b either) in
+    let deep = blocks.block-deeper _ _ (start .args .p) (start .args .place) (start .args .n) (start .pre) _ (either .before .has-room .ensures) _ (either .either .ensures) _ (search-number .before .before .level-of .ensures) _ (search-number .search-number .ensures) _ (block-start-fault2 .before .before .found .given .1) _ (block-start-fault2 .block-start-fault2 .ensures) (omega (arith, put-aperture .before .before .if1 .left)) in omega arith
 
 with-depth-requires : tie.Need-with-depth-requires
 with-depth-requires c κs = search needs
@@ -81,10 +128,21 @@ same-length-5 : tie.Need-same-length-5
 same-length-5 c = search needs
 
 same-length-6 : tie.Need-same-length-6
-same-length-6 c = search (needs, c .before .before .before .before .before .before .before .before .before .before .before .a .given, c .before .before .before .before .before .before .before .before .before .before .before .before .put-aperture)
+same-length-6 c =
+    let open-block = at-open-block (c .before .before .before) in
+    search (needs, open-block .before .before .before .a .given, at-put-aperture open-block .put-aperture)
 
 returns-3 : tie.Need-returns-3
-returns-3 c = (same-length-5 c, same-length-6 c, blocks.block-opens _ _ (c .before .before .before .before .before .before .before .before .before .before .before .before .before .before .before .before .before .before .before .before .before .before .before .before .before .before .before .before .before .args .p) (c .before .before .before .before .before .before .before .before .before .before .before .before .before .before .before .before .before .before .before .before .before .before .before .before .before .before .before .before .before .args .place) (c .before .before .before .before .before .before .before .before .before .before .before .before .before .before .before .before .before .before .before .before .before .before .before .before .before .before .before .before .before .args .n) (c .before .before .before .before .before .before .before .before .before .before .before .before .before .before .before .before .before .before .before .before .before .before .before .before .before .before .before .before .before .pre) _ (c .before .before .before .before .before .before .before .before .before .before .before .before .before .before .before .before .before .before .before .before .before .before .before .has-room .ensures) _ (c .before .before .before .before .before .before .before .before .before .before .before .before .before .before .before .before .before .before .before .before .before .before .either .ensures) _ (c .before .before .before .before .before .before .before .before .before .before .before .before .before .before .before .before .before .before .before .before .before .level-of .ensures) _ (c .before .before .before .before .before .before .before .before .before .before .before .before .before .before .before .before .before .before .before .search-number .ensures) _ (c .before .before .before .before .before .before .before .before .before .before .before .before .before .before .before .before .before .found .given .1) _ (c .before .before .before .before .before .before .before .before .before .before .before .before .before .before .before .block-start-fault2 .ensures) (omega (arith, c .before .before .before .before .before .before .before .before .before .before .before .before .before .before .if1 .left)) _ _ (c .before .before .before .before .before .before .before .before .before .before .before .before .put-aperture .ensures .1) (c .before .before .before .before .before .before .before .before .open-block .ensures) (c .before .before .before .before .before .after .ensures) (rw (c .before .with-depth .ensures, c .before .before .before .with-builder .ensures, c .before .before .before .before .with-graphics .ensures) at (c .with-apertures .ensures)))
+returns-3 c =
+    let with-builder = c .before .before .before in
+    let open-block = with-builder .before .before .before .before .before in
+    let put-aperture = open-block .before .before .before .before in
+    let if1 = put-aperture .before .before in
+    let search-number = if1 .before .before .before .before .before in
+    let either = search-number .before .before .before in
+    let b = either .before .before .before in
+    let start = b .before .before .before .before in
+    (same-length-5 c, same-length-6 c, blocks.block-opens _ _ (start .args .p) (start .args .place) (start .args .n) (start .pre) _ (either .before .has-room .ensures) _ (either .either .ensures) _ (search-number .before .before .level-of .ensures) _ (search-number .search-number .ensures) _ (if1 .before .before .before .found .given .1) _ (if1 .before .block-start-fault2 .ensures) (omega (arith, if1 .if1 .left)) _ _ (put-aperture .put-aperture .ensures .1) (open-block .open-block .ensures) (c .before .before .before .before .before .after .ensures) (rw (c .before .with-depth .ensures, with-builder .with-builder .ensures, c .before .before .before .before .with-graphics .ensures) at (c .with-apertures .ensures)))
 
 pub block-start-spec : {M : Type 1} → statement M
 block-start-spec =

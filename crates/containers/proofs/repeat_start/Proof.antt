@@ -7,6 +7,16 @@ use borrow.Author.Needs.{needs}
 use Rattle.containers.proofs.repeat_start.Statement.{statement}
 use Rattle.containers.proofs.repeat_start.Tie as tie
 
+-- the places that facts are read at
+abbrev call : tie.After-has-room → tie.Start
+call c = c .before .before .before .before .before
+
+abbrev at-has-room : tie.Else1 → tie.After-has-room
+at-has-room c = c .before .before .before .before
+
+abbrev at-if1 : tie.After-open-repeat → tie.Else1
+at-if1 c = c .before .before .before
+
 has-room-requires : tie.Need-has-room-requires
 has-room-requires c κs = search needs
 
@@ -23,13 +33,20 @@ same-length : tie.Need-same-length
 same-length c = search needs
 
 returns : tie.Need-returns
-returns c = (refl, repeats.repeat-refused _ (c .before .before .before .before .before .before .before .before .before .args .p) (c .before .before .before .before .before .before .before .before .before .args .place) _ _ _ _ (c .before .before .before .before .before .before .before .before .before .pre .1) _ (c .before .before .before .before .has-room .ensures) _ (c .before .before .before .level-of .ensures) _ (c .before .before .is-repeat .ensures) _ (c .before .repeat-start-fault .ensures) _ (omega arith))
+returns c =
+    let has-room = c .before .before .before .before in
+    let start = call has-room in
+    (refl, repeats.repeat-refused _ (start .args .p) (start .args .place) _ _ _ _ (start .pre .1) _ (has-room .has-room .ensures) _ (c .before .before .before .level-of .ensures) _ (c .before .before .is-repeat .ensures) _ (c .before .repeat-start-fault .ensures) _ (omega arith))
 
 repeat-of-requires : tie.Need-repeat-of-requires
 repeat-of-requires c κs = search needs
 
 open-repeat-requires : tie.Need-open-repeat-requires
-open-repeat-requires c κs = repeats.repeat-fits _ (c .before .before .before .before .before .before .before .before .before .before .before .args .p) (c .before .before .before .before .before .before .before .before .before .before .before .args .place) _ _ _ _ (c .before .before .before .before .before .before .before .before .before .before .before .pre .1) _ (c .before .before .before .before .before .before .has-room .ensures) _ (c .before .before .before .before .before .level-of .ensures) _ (c .before .before .before .before .is-repeat .ensures) _ (c .before .before .before .repeat-start-fault .ensures) (c .before .before .before .before .before .before .before .before .before .before .before .pre .0) (omega (arith, c .before .before .if1 .left))
+open-repeat-requires c κs =
+    let if1 = c .before .before in
+    let has-room = at-has-room if1 in
+    let start = call has-room in
+    repeats.repeat-fits _ (start .args .p) (start .args .place) _ _ _ _ (start .pre .1) _ (has-room .has-room .ensures) _ (c .before .before .before .before .before .level-of .ensures) _ (c .before .before .before .before .is-repeat .ensures) _ (c .before .before .before .repeat-start-fault .ensures) (start .pre .0) (omega (arith, if1 .if1 .left))
 
 after-requires : tie.Need-after-requires
 unfolding Reached
@@ -42,7 +59,11 @@ with-builder-requires : tie.Need-with-builder-requires
 with-builder-requires c κs = search needs
 
 mul-with-repeat : tie.Need-mul-with-repeat
-mul-with-repeat c = let few = repeats.repeat-few _ (c .before .before .before .before .before .before .before .before .before .before .before .before .before .before .before .before .before .args .p) (c .before .before .before .before .before .before .before .before .before .before .before .before .before .before .before .before .before .args .place) _ _ _ _ (c .before .before .before .before .before .before .before .before .before .before .before .before .before .before .before .before .before .pre .1) _ (c .before .before .before .before .before .before .before .before .before .before .before .before .has-room .ensures) _ (c .before .before .before .before .before .before .before .before .before .before .before .level-of .ensures) _ (c .before .before .before .before .before .before .before .before .before .before .is-repeat .ensures) _ (c .before .before .before .before .before .before .before .before .before .repeat-start-fault .ensures) (c .before .before .before .before .before .before .before .before .before .before .before .before .before .before .before .before .before .pre .0) (omega (arith, c .before .before .before .before .before .before .before .before .if1 .left)) in omega arith
+mul-with-repeat c =
+    let if1 = at-if1 (c .before .before .before .before .before) in
+    let has-room = at-has-room if1 in
+    let start = call has-room in
+    let few = repeats.repeat-few _ (start .args .p) (start .args .place) _ _ _ _ (start .pre .1) _ (has-room .has-room .ensures) _ (if1 .before .before .before .level-of .ensures) _ (if1 .before .before .is-repeat .ensures) _ (if1 .before .repeat-start-fault .ensures) (start .pre .0) (omega (arith, if1 .if1 .left)) in omega arith
 
 with-repeat-requires : tie.Need-with-repeat-requires
 with-repeat-requires c κs = search needs
@@ -51,7 +72,14 @@ same-length-2 : tie.Need-same-length-2
 same-length-2 c = search needs
 
 returns-2 : tie.Need-returns-2
-returns-2 c = (same-length-2 c, repeats.repeat-opens _ (c .before .before .before .before .before .before .before .before .before .before .before .before .before .before .before .before .before .before .args .p) (c .before .before .before .before .before .before .before .before .before .before .before .before .before .before .before .before .before .before .args .place) _ _ _ _ (c .before .before .before .before .before .before .before .before .before .before .before .before .before .before .before .before .before .before .pre .1) _ (c .before .before .before .before .before .before .before .before .before .before .before .before .before .has-room .ensures) _ (c .before .before .before .before .before .before .before .before .before .before .before .before .level-of .ensures) _ (c .before .before .before .before .before .before .before .before .before .before .before .is-repeat .ensures) _ (c .before .before .before .before .before .before .before .before .before .before .repeat-start-fault .ensures) (c .before .before .before .before .before .before .before .before .before .before .before .before .before .before .before .before .before .before .pre .0) (omega (arith, c .before .before .before .before .before .before .before .before .before .if1 .left)) _ (c .before .before .before .before .before .before .before .repeat-of .ensures) (c .before .before .before .before .before .before .open-repeat .ensures) (c .before .before .before .after .ensures) (rw (c .before .with-builder .ensures, c .before .before .with-graphics .ensures) at (c .with-repeat .ensures)))
+returns-2 c =
+    let with-builder = c .before in
+    let open-repeat = with-builder .before .before .before .before .before in
+    let if1 = open-repeat .before .before .before in
+    let is-repeat = if1 .before .before in
+    let has-room = is-repeat .before .before in
+    let start = has-room .before .before .before .before .before in
+    (same-length-2 c, repeats.repeat-opens _ (start .args .p) (start .args .place) _ _ _ _ (start .pre .1) _ (has-room .has-room .ensures) _ (is-repeat .before .level-of .ensures) _ (is-repeat .is-repeat .ensures) _ (if1 .before .repeat-start-fault .ensures) (start .pre .0) (omega (arith, if1 .if1 .left)) _ (open-repeat .before .repeat-of .ensures) (open-repeat .open-repeat .ensures) (c .before .before .before .after .ensures) (rw (c .before .with-builder .ensures, c .before .before .with-graphics .ensures) at (c .with-repeat .ensures)))
 
 pub repeat-start-spec : {M : Type 1} → statement M
 repeat-start-spec =

@@ -39,7 +39,10 @@ both-requires-2 c κs = search needs
 returns-2 : tie.Need-returns-2
 unfolding chosenBy asStored selected
 returns-2 c =
-    rw (← c .before .before .before .before .before .before .before .before .before .before .before .before .search-number .ensures, c .before .before .before .before .before .before .before .before .before .before .found .given .1, ← c .before .before .before .before .before .before .before .before .aperture-at .ensures, ← c .before .before .before .before .both .ensures, ← c .before .both2 .ensures)
+    let both = c .before .before .before .before in
+    let aperture-at = both .before .before .before .before in
+    let search-number = aperture-at .before .before .before .before in
+    rw (← search-number .search-number .ensures, aperture-at .before .before .found .given .1, ← aperture-at .aperture-at .ensures, ← both .both .ensures, ← c .before .both2 .ensures)
 
 pub aperture-with-spec : {M : Type 1} → statement M
 aperture-with-spec =

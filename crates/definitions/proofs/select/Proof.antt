@@ -20,7 +20,10 @@ with-graphics-requires : tie.Need-with-graphics-requires
 with-graphics-requires c κs = search needs
 
 returns-2 : tie.Need-returns-2
-returns-2 c = λ w s is k. select-goes w (c .before .before .before .before .before .before .before .args .p) s k (c .before .before .before .before .before .before .before .args .n) (c .before .before .before .before .before .before .before .args .a .now) is _ (c .before .before .before .before .before .aperture-with .ensures) _ (c .before .before .before .select-fault .ensures) (c .before .before .if1 .left) (c .before .with-aperture .ensures) (c .with-graphics .ensures)
+returns-2 c =
+    let if1 = c .before .before in
+    let start = if1 .before .before .before .before .before in
+    λ w s is k. select-goes w (start .args .p) s k (start .args .n) (start .args .a .now) is _ (c .before .before .before .before .before .aperture-with .ensures) _ (c .before .before .before .select-fault .ensures) (if1 .if1 .left) (c .before .with-aperture .ensures) (c .with-graphics .ensures)
 
 pub select-spec : {M : Type 1} → statement M
 select-spec =

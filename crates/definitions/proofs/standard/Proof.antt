@@ -20,6 +20,16 @@ Inv-loop kind t numbers₀ used q₀ pen₀ at₀ numbers q pen at = Gathering (
 abbrev μ-loop : tie.MeasureT-loop
 μ-loop kind t numbers₀ used q₀ pen₀ at₀ numbers q pen at = length t - at
 
+-- the places that facts are read at
+abbrev call : tie.At-loop Inv-loop μ-loop → tie.Start Inv-loop μ-loop
+call c = c .before .before .before
+
+abbrev at-loop : tie.After-part Inv-loop μ-loop → tie.At-loop Inv-loop μ-loop
+at-loop c = c .before .before .before
+
+abbrev at-part : tie.After-write Inv-loop μ-loop → tie.After-part Inv-loop μ-loop
+at-part c = c .before .before .before .before
+
 nothing-requires : tie.Need-nothing-requires Inv-loop μ-loop
 nothing-requires c κs = search needs
 
@@ -45,18 +55,25 @@ write-requires : tie.Need-write-requires Inv-loop μ-loop
 write-requires c κs = search needs
 
 one-more-requires : tie.Need-one-more-requires Inv-loop μ-loop
-one-more-requires c κs = omega (arith, c .before .before .before .before .before .before .before .before .loop .inv .counted, c .before .before .before .before .before .before .before .loop-test .taken)
+one-more-requires c κs =
+    let part = c .before .before .before .before .before in
+    omega (arith, at-loop part .loop .inv .counted, part .before .before .loop-test .taken)
 
 loop-less : tie.Need-loop-less Inv-loop μ-loop
 loop-less c =
-    let l = c .before .before .before .before .before .before .before .before .before .loop in
-    omega (arith, first-from (λ b. eqb b (code "X")) (c .before .before .before .before .before .before .before .before .before .before .before .before .args .t .now) (l .at + 1), c .before .before .before .before .before .before .before .find .ensures)
+    let part = at-part (c .before .before) in
+    let the-loop = at-loop part in
+    let l = the-loop .loop in
+    omega (arith, first-from (λ b. eqb b (code "X")) (call the-loop .args .t .now) (l .at + 1), part .before .find .ensures)
 
 loop-again : tie.Need-loop-again Inv-loop μ-loop
 loop-again c =
-    let l = c .before .before .before .before .before .before .before .before .before .loop in
-    standard-step (c .before .before .before .before .before .before .before .before .before .before .before .before .args .t .now) (l .at) _ _ _ _ _ (l .q) (l .inv) (c .before .before .before .before .before .before .before .before .loop-test .taken) (c .before .before .before .before .before .before .before .find .ensures) _
-    (ap (λ d. d .value) (c .before .before .before .before .before .size-of .ensures ∙ ap sizeOf (c .before .before .before .before .before .before .part .ensures))) _ _ _ (c .before .before .write .ensures .0) (c .before .before .write .ensures .1) (c .one-more .ensures)
+    let write = c .before .before in
+    let part = at-part write in
+    let the-loop = at-loop part in
+    let l = the-loop .loop in
+    standard-step (call the-loop .args .t .now) (l .at) _ _ _ _ _ (l .q) (l .inv) (part .before .before .loop-test .taken) (part .before .find .ensures) _
+    (ap (λ d. d .value) (c .before .before .before .before .before .size-of .ensures ∙ ap sizeOf (part .part .ensures))) _ _ _ (write .write .ensures .0) (write .write .ensures .1) (c .one-more .ensures)
 
 keeps-rule-requires : tie.Need-keeps-rule-requires Inv-loop μ-loop
 keeps-rule-requires c κs = search needs
@@ -72,8 +89,9 @@ same-length c = c .before .before .before .before .loop .inv .long
 
 returns : tie.Need-returns Inv-loop μ-loop
 returns c =
-    let l = c .before .before .before .before .loop in
-    let a = c .before .before .before .before .before .before .before .args in
+    let the-loop = c .before .before .before .before in
+    let l = the-loop .loop in
+    let a = call the-loop .args in
     standard-end (a .t .now) (l .at) (l .at) _ _ _ _ (l .q) (l .inv) (c .before .before .before .loop-test .left) (a .kind) (a .used) refl _ (c .before .before .keeps-rule .ensures) _ (c .before .row .ensures) _ (c .answered .ensures)
 
 pub standard-spec : {M : Type 1} → statement M

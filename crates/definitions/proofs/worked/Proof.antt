@@ -8,6 +8,10 @@ use borrow.Author.Needs.{needs}
 use Rattle.definitions.proofs.worked.Statement.{statement}
 use Rattle.definitions.proofs.worked.Tie as tie
 
+-- the places that facts are read at
+abbrev call : tie.After-shared-slice-known3 → tie.Start
+call c = c .before .before .before
+
 standard-requires : tie.Need-standard-requires
 standard-requires c κs = search needs
 
@@ -16,8 +20,9 @@ same-length c = search needs
 
 returns : tie.Need-returns
 returns c =
-    let a = c .before .before .before .before .before .before .before .args in
-    works-standard (a .file .now) (a .m .now) (a .known) _ (a .t .now) _ _ (a .used) _ (a .kind) (c .before .before .before .before .before .before .before .pre .0) (c .before .before .before .if1 .taken) (c .before .standard .ensures)
+    let start = call (c .before .before .before .before) in
+    let a = start .args in
+    works-standard (a .file .now) (a .m .now) (a .known) _ (a .t .now) _ _ (a .used) _ (a .kind) (start .pre .0) (c .before .before .before .if1 .taken) (c .before .standard .ensures)
 
 search-name-requires : tie.Need-search-name-requires
 search-name-requires c κs = search needs
@@ -30,15 +35,17 @@ enum-told c = search needs
 
 returns-2 : tie.Need-returns-2
 returns-2 c =
-    let a = c .before .before .before .before .before .before .before .args in
-    works-unknown (a .file .now) (a .m .now) (a .known) _ (a .t .now) _ _ (a .used) _ (a .kind) (c .before .before .before .before .before .before .before .pre .0) (c .before .before .before .if1 .left) _
+    let start = call (c .before .before .before .before) in
+    let a = start .args in
+    works-unknown (a .file .now) (a .m .now) (a .known) _ (a .t .now) _ _ (a .used) _ (a .kind) (start .pre .0) (c .before .before .before .if1 .left) _
     (sym (c .before .before .search-name .ensures) ∙ c .enum-told .given .1) refl
 
 macro-at-requires : tie.Need-macro-at-requires
 macro-at-requires c κs =
-    let a = c .before .before .before .before .before .before .before .before .args in
+    let start = call (c .before .before .before .before .before) in
+    let a = start .args in
     let l = macro-below (a .file .now) (a .m .now) (a .known) _ _ (sym (c .before .before .before .search-name .ensures) ∙ c .before .found .given .1) in
-    omega (arith, l, c .before .before .before .before .before .before .before .before .pre .1 .tree .inside)
+    omega (arith, l, start .pre .1 .tree .inside)
 
 part-requires : tie.Need-part-requires
 part-requires c κs = search needs
@@ -51,9 +58,12 @@ same-length-2 c = search needs
 
 returns-3 : tie.Need-returns-3
 returns-3 c =
-    let a = c .before .before .before .before .before .before .before .before .before .before .before .before .before .args in
-    works-macro (a .file .now) (a .m .now) (a .known) _ (a .t .now) _ _ (a .used) _ (a .kind) (c .before .before .before .before .before .before .before .before .before .before .before .before .before .pre .0) (c .before .before .before .before .before .before .before .before .before .if1 .left) _
-    (sym (c .before .before .before .before .before .before .before .before .search-name .ensures) ∙ c .before .before .before .before .before .before .found .given .1) _ (c .before .before .before .before .macro-at .ensures) (rw (c .before .before .before .part .ensures) at (c .before .work-out .ensures))
+    let macro-at = c .before .before .before .before in
+    let search-name = macro-at .before .before .before .before in
+    let start = search-name .before .before .before .before .before in
+    let a = start .args in
+    works-macro (a .file .now) (a .m .now) (a .known) _ (a .t .now) _ _ (a .used) _ (a .kind) (start .pre .0) (search-name .before .if1 .left) _
+    (sym (search-name .search-name .ensures) ∙ macro-at .before .before .found .given .1) _ (macro-at .macro-at .ensures) (rw (c .before .before .before .part .ensures) at (c .before .work-out .ensures))
 
 pub worked-spec : {M : Type 1} → statement M
 worked-spec =

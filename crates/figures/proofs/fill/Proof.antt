@@ -21,6 +21,10 @@ Inv-loop numbers from end out₀ room at₀ j₀ out at j =
 abbrev μ-loop : tie.MeasureT-loop
 μ-loop numbers from end out₀ room at₀ j₀ out at j = room - j
 
+-- the places that facts are read at
+abbrev at-loop : tie.After-put Inv-loop μ-loop → tie.At-loop Inv-loop μ-loop
+at-loop c = c .before .before .before .before .before
+
 loop-holds : tie.Need-loop-holds Inv-loop μ-loop
 loop-holds c = let w = c .before .pre in (omega arith, refl, w .1 ∙ filled-none _ 0 _, w .0, refl, refl)
 
@@ -45,36 +49,44 @@ put-requires : tie.Need-put-requires Inv-loop μ-loop
 put-requires c κs = let i = c .before .before .before .before .loop .inv in omega (arith, i .1, i .5, c .before .before .before .loop-test .taken)
 
 -- where the next primitive stands: behind this one, and before the end
-next : (c : tie.After-struct-known Inv-loop μ-loop) →
-    let p = c .before .before .before .before .before .primitive-at .result in
-    p .first + p .count ≡ behind (c .before .before .before .before .before .before .before .before .before .before .args .numbers .now) (c .before .before .before .before .before .before .before .before .loop .at)
+next : (c : tie.After-struct-known Inv-loop μ-loop) → let the-loop = at-loop (c .before .before .before) in let p = c .before .before .before .before .before .primitive-at .result in
+    p .first + p .count ≡ behind (the-loop .before .before .args .numbers .now) (the-loop .loop .at)
 next c =
+    let the-loop = at-loop (c .before .before .before) in
     let p = c .before .before .before .before .before .primitive-at .ensures .0 in
-    (λ i. p i .first + p i .count) ∙ behind-is (c .before .before .before .before .before .before .before .before .before .before .args .numbers .now) (c .before .before .before .before .before .before .before .before .loop .at)
+    (λ i. p i .first + p i .count) ∙ behind-is (the-loop .before .before .args .numbers .now) (the-loop .loop .at)
 
-on : (c : tie.After-struct-known Inv-loop μ-loop) →
-    let a = c .before .before .before .before .before .before .before .before .before .before .args in
-    Whole (a .numbers .now) (behind (a .numbers .now) (c .before .before .before .before .before .before .before .before .loop .at)) (a .end)
-on c = whole-on _ _ _ (c .before .before .before .before .before .before .if1 .left) (c .before .before .before .before .before .before .before .before .loop .inv .3)
+on : (c : tie.After-struct-known Inv-loop μ-loop) → let the-loop = at-loop (c .before .before .before) in let a = the-loop .before .before .args in
+    Whole (a .numbers .now) (behind (a .numbers .now) (the-loop .loop .at)) (a .end)
+on c =
+    let the-put = c .before .before .before in
+    whole-on _ _ _ (the-put .before .before .before .if1 .left) (at-loop the-put .loop .inv .3)
 
 add-at : tie.Need-add-at Inv-loop μ-loop
 add-at c = omega (arith, next c, on c .ordered)
 
 add-j : tie.Need-add-j Inv-loop μ-loop
-add-j c = omega (arith, c .before .before .before .before .before .before .before .loop-test .taken)
+add-j c =
+    let the-put = c .before .before .before in
+    omega (arith, the-put .before .before .before .before .loop-test .taken)
 
 loop-less : tie.Need-loop-less Inv-loop μ-loop
-loop-less c = omega (arith, c .before .before .before .before .before .before .before .loop-test .taken)
+loop-less c =
+    let the-put = c .before .before .before in
+    omega (arith, the-put .before .before .before .before .loop-test .taken)
 
 loop-again : tie.Need-loop-again Inv-loop μ-loop
 loop-again c =
-    let l = c .before .before .before .before .before .before .before .before .loop in
-    let a = c .before .before .before .before .before .before .before .before .before .before .args in
-    let test = c .before .before .before .before .before .before .before .loop-test .taken in
-    let all = whole-list (a .numbers .now) (l .at) (a .end) (c .before .before .before .before .before .before .if1 .left) (l .inv .3) in
+    let primitive-at = c .before .before .before .before .before in
+    let loop-test = primitive-at .before .before in
+    let start = loop-test .before .before .before in
+    let l = loop-test .before .loop in
+    let a = start .args in
+    let test = loop-test .loop-test .taken in
+    let all = whole-list (a .numbers .now) (l .at) (a .end) (primitive-at .before .if1 .left) (l .inv .3) in
     let e = sym all ∙ l .inv .4 in
     let put = c .before .before .before .put in
-    let q = c .before .before .before .before .before .primitive-at .ensures .0 ∙ list-first _ _ (l .j) _ e in (
+    let q = primitive-at .primitive-at .ensures .0 ∙ list-first _ _ (l .j) _ e in (
       omega (arith, test),
       put .kept .0 ∙ l .inv .1,
       put .ensures ∙ rw (q, l .inv .2) (rw (zero-add (l .j)) at (filled-more (primitivesIn (a .numbers .now) (a .from) (a .end) .list) 0 (length (a .out .now)) (l .j) (omega (arith, test, l .inv .5)))),

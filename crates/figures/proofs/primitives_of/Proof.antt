@@ -8,6 +8,13 @@ use borrow.Author.Needs.{needs}
 use Rattle.figures.proofs.primitives_of.Statement.{statement}
 use Rattle.figures.proofs.primitives_of.Tie as tie
 
+-- the places that facts are read at
+abbrev at-clear : tie.After-shape-of → tie.After-clear
+at-clear c = c .before .before .before
+
+abbrev at-shape-of : tie.Then1 → tie.After-shape-of
+at-shape-of c = c .before .before .before .before .before
+
 clear-requires : tie.Need-clear-requires
 clear-requires c κs = search needs
 
@@ -19,25 +26,32 @@ enum-known-l c = search needs
 
 add-end : tie.Need-add-end
 add-end c =
-    let d = lookup-sound _ _ _ _ _ (sym (c .before .before .before .before .before .before .shape-of .ensures) ∙ c .before .before .before .before .l .given .1) in
+    let d = lookup-sound _ _ _ _ _ (sym (at-shape-of (c .before) .shape-of .ensures) ∙ c .before .before .before .before .l .given .1) in
     let w = d .whole (omega (arith, c .before .if1 .taken)) .inside in
     search needs
 
 skip-requires : tie.Need-skip-requires
 skip-requires c κs =
-    let d = lookup-sound _ _ _ _ _ (sym (c .before .before .before .before .before .before .shape-of .ensures) ∙ c .before .before .before .before .l .given .1) in
+    let d = lookup-sound _ _ _ _ _ (sym (at-shape-of (c .before) .shape-of .ensures) ∙ c .before .before .before .before .l .given .1) in
     d .whole (omega (arith, c .before .if1 .taken))
 
 fill-requires : tie.Need-fill-requires
-fill-requires c κs = (c .before .skip .ensures .0, rw (c .before .before .before .before .before .before .before .before .before .before .before .clear .kept .0) (c .before .before .before .before .before .before .before .before .before .before .before .clear .ensures))
+fill-requires c κs =
+    let if1 = c .before .before .before in
+    let the-match = if1 .before .before .before .before in
+    let clear = the-match .before .before .before .before in
+    (c .before .skip .ensures .0, rw (clear .clear .kept .0) (clear .clear .ensures))
 
 same-length : tie.Need-same-length
 same-length c = search needs
 
 returns : tie.Need-returns
 returns c =
-    fetch-done _ _ _ _ _ _ _ (sym (c .before .before .before .before .before .before .before .before .before .before .before .shape-of .ensures) ∙ c .before .before .before .before .before .before .before .before .before .l .given .1) _ (c .before .before .before .before .before .before .if1 .taken) (c .before .before .before .before .skip .ensures .1)
-    (rw (c .before .before .before .before .before .before .before .before .before .before .before .before .before .before .clear .kept .0) at (c .before .before .fill .ensures))
+    let fill = c .before .before in
+    let if1 = fill .before .before .before .before in
+    let shape-of = if1 .before .before .before .before .before in
+    fetch-done _ _ _ _ _ _ _ (sym (shape-of .shape-of .ensures) ∙ if1 .before .before .before .l .given .1) _ (if1 .if1 .taken) (c .before .before .before .before .skip .ensures .1)
+    (rw (shape-of .before .before .before .clear .kept .0) at (fill .fill .ensures))
 
 enum-told : tie.Need-enum-told
 enum-told c = search needs
@@ -49,7 +63,9 @@ same-length-2 : tie.Need-same-length-2
 same-length-2 c = search needs
 
 returns-2 : tie.Need-returns-2
-returns-2 c = fetch-past _ _ _ _ _ _ _ (sym (c .before .before .before .before .before .shape-of .ensures) ∙ c .before .before .before .l .given .1) (c .if1 .left) (c .before .before .before .before .before .before .before .before .clear .ensures)
+returns-2 c =
+    let shape-of = c .before .before .before .before .before in
+    fetch-past _ _ _ _ _ _ _ (sym (shape-of .shape-of .ensures) ∙ c .before .before .before .l .given .1) (c .if1 .left) (at-clear shape-of .clear .ensures)
 
 same-length-3 : tie.Need-same-length-3
 same-length-3 c = search needs

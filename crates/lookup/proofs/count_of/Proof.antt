@@ -15,6 +15,10 @@ Inv-loop numbers first end at₀ k₀ at k = (at ≤ end) × (k ≤ at) × (coun
 abbrev μ-loop : tie.MeasureT-loop
 μ-loop numbers first end at₀ k₀ at k = end - at
 
+-- the places that facts are read at
+abbrev call : tie.After-primitive-at Inv-loop μ-loop → tie.Start Inv-loop μ-loop
+call c = c .before .before .before .before .before
+
 loop-holds : tie.Need-loop-holds Inv-loop μ-loop
 loop-holds c = (c .pre .0, omega arith, count-starts _)
 
@@ -26,15 +30,16 @@ primitive-at-requires c κs = omega (arith, c .before .before .loop-test .taken,
 
 -- where the next primitive stands: behind this one, and before the end
 next : (c : tie.After-struct-known Inv-loop μ-loop) →
-    let p = c .before .primitive-at .result in p .first + p .count ≡ behind (c .before .before .before .before .before .before .args .numbers .now) (c .before .before .before .before .before .loop .at)
+    let p = c .before .primitive-at .result in p .first + p .count ≡ behind (call (c .before) .args .numbers .now) (c .before .before .before .before .before .loop .at)
 next c =
     let p = c .before .primitive-at .ensures .0 in
-    (λ i. p i .first + p i .count) ∙ behind-is (c .before .before .before .before .before .before .args .numbers .now) (c .before .before .before .before .before .loop .at)
+    (λ i. p i .first + p i .count) ∙ behind-is (call (c .before) .args .numbers .now) (c .before .before .before .before .before .loop .at)
 
 moves : (c : tie.After-struct-known Inv-loop μ-loop) →
-    let p = c .before .primitive-at .result in (c .before .before .before .before .before .loop .at + 1 ≤ p .first + p .count) × (p .first + p .count ≤ c .before .before .before .before .before .before .args .end)
+    let p = c .before .primitive-at .result in (c .before .before .before .before .before .loop .at + 1 ≤ p .first + p .count) × (p .first + p .count ≤ call (c .before) .args .end)
 moves c =
-    let w = stands-within (c .before .before .before .before .before .before .args .numbers .now) (c .before .before .before .before .before .before .args .end) (c .before .before .before .before .before .loop .at) (sym (c .before .before .before .stands .ensures) ∙ c .before .before .if1 .taken) in
+    let start = call (c .before) in
+    let w = stands-within (start .args .numbers .now) (start .args .end) (c .before .before .before .before .before .loop .at) (sym (c .before .before .before .stands .ensures) ∙ c .before .before .if1 .taken) in
     let e = next c in
     (omega arith, omega arith)
 
@@ -42,13 +47,15 @@ add-at : tie.Need-add-at Inv-loop μ-loop
 add-at c = omega (arith, moves c)
 
 add-k : tie.Need-add-k Inv-loop μ-loop
-add-k c = omega (arith, c .before .before .before .before .loop-test .taken, c .before .before .before .before .before .loop .inv .1, c .before .before .before .before .before .before .pre .1)
+add-k c = omega (arith, c .before .before .before .before .loop-test .taken, c .before .before .before .before .before .loop .inv .1, call (c .before) .pre .1)
 
 loop-less : tie.Need-loop-less Inv-loop μ-loop
 loop-less c = omega (arith, moves c, c .before .before .before .before .loop-test .taken)
 
 loop-again : tie.Need-loop-again Inv-loop μ-loop
-loop-again c = let a = c .before .before .before .before .before .before .args in let l = c .before .before .before .before .before .loop in (omega (arith, moves c), omega (arith, moves c, l .inv .1), rw (next c) (sym (count-on (a .numbers .now) (a .end) (l .k) (l .at) (c .before .before .before .before .loop-test .taken) (sym (c .before .before .before .stands .ensures) ∙ c .before .before .if1 .taken)) ∙ l .inv .2))
+loop-again c =
+    let the-loop = c .before .before .before .before .before in
+    let a = the-loop .before .args in let l = the-loop .loop in (omega (arith, moves c), omega (arith, moves c, l .inv .1), rw (next c) (sym (count-on (a .numbers .now) (a .end) (l .k) (l .at) (c .before .before .before .before .loop-test .taken) (sym (c .before .before .before .stands .ensures) ∙ c .before .before .if1 .taken)) ∙ l .inv .2))
 
 returns : tie.Need-returns Inv-loop μ-loop
 returns c = let a = c .before .before .before .before .args in let l = c .before .before .before .loop in sym (count-broken (a .numbers .now) (a .end) (l .k) (l .at) (c .before .before .loop-test .taken) (sym (c .before .stands .ensures) ∙ c .if1 .left)) ∙ l .inv .2

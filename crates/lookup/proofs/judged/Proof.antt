@@ -9,6 +9,10 @@ use borrow.Author.Needs.{needs}
 use Rattle.lookup.proofs.judged.Statement.{statement}
 use Rattle.lookup.proofs.judged.Tie as tie
 
+-- the places that facts are read at
+abbrev call : tie.After-over → tie.Start
+call c = c .before .before .before .before .before
+
 returns : tie.Need-returns
 unfolding judged
 returns c = row-holds _ (eq-eqb _ _ (c .if1 .taken)) refl
@@ -25,18 +29,25 @@ unfolding judged
 returns-3 c = row-fails _ (ne-eqb _ _ (c .before .before .before .before .if1 .left)) (row-fails _ (ne-eqb _ _ (c .before .before .if2 .left)) (row-holds _ (sym (c .before .over .ensures) ∙ c .if3 .taken) refl))
 
 judged-macro-requires : tie.Need-judged-macro-requires
-judged-macro-requires c κs = let a = c .before .before .before .before .before .before .before .before .args in let h = ltb-false (a .used) _ (sym (c .before .before .before .over .ensures) ∙ c .before .before .if3 .left) in omega (arith, c .before .before .before .before .before .before .before .before .pre)
+judged-macro-requires c κs =
+    let over = c .before .before .before in
+    let start = call over in
+    let a = start .args in let h = ltb-false (a .used) _ (sym (over .over .ensures) ∙ c .before .before .if3 .left) in omega (arith, start .pre)
 
 returns-4 : tie.Need-returns-4
 unfolding judged
-returns-4 c = row-fails _ (ne-eqb _ _ (c .before .before .before .before .before .before .before .if1 .left)) (row-fails _ (ne-eqb _ _ (c .before .before .before .before .before .if2 .left)) (row-fails _ (sym (c .before .before .before .before .over .ensures) ∙ c .before .before .before .if3 .left) (row-holds _ (eq-eqb _ _ (c .before .if4 .taken)) (c .judged-macro .ensures))))
+returns-4 c =
+    let over = c .before .before .before .before in
+    row-fails _ (ne-eqb _ _ (over .before .before .before .if1 .left)) (row-fails _ (ne-eqb _ _ (c .before .before .before .before .before .if2 .left)) (row-fails _ (sym (over .over .ensures) ∙ c .before .before .before .if3 .left) (row-holds _ (eq-eqb _ _ (c .before .if4 .taken)) (c .judged-macro .ensures))))
 
 judged-template-requires : tie.Need-judged-template-requires
 judged-template-requires c κs = search needs
 
 returns-5 : tie.Need-returns-5
 unfolding judged
-returns-5 c = row-fails _ (ne-eqb _ _ (c .before .before .before .before .before .before .before .if1 .left)) (row-fails _ (ne-eqb _ _ (c .before .before .before .before .before .if2 .left)) (row-fails _ (sym (c .before .before .before .before .over .ensures) ∙ c .before .before .before .if3 .left) (row-fails _ (ne-eqb _ _ (c .before .if4 .left)) (c .judged-template .ensures))))
+returns-5 c =
+    let over = c .before .before .before .before in
+    row-fails _ (ne-eqb _ _ (over .before .before .before .if1 .left)) (row-fails _ (ne-eqb _ _ (c .before .before .before .before .before .if2 .left)) (row-fails _ (sym (over .over .ensures) ∙ c .before .before .before .if3 .left) (row-fails _ (ne-eqb _ _ (c .before .if4 .left)) (c .judged-template .ensures))))
 
 pub judged-spec : {M : Type 1} → statement M
 judged-spec =

@@ -15,6 +15,13 @@ Inv-loop a used number steps₀ at₀ key₀ steps at key = ledFrom a used numbe
 abbrev μ-loop : tie.MeasureT-loop
 μ-loop a used number steps₀ at₀ key₀ steps at key = steps
 
+-- the places that facts are read at
+abbrev call : tie.At-loop Inv-loop μ-loop → tie.Start Inv-loop μ-loop
+call c = c .before .before .before
+
+abbrev at-loop : tie.After-link-of Inv-loop μ-loop → tie.At-loop Inv-loop μ-loop
+at-loop c = c .before .before .before .before .before
+
 returns : tie.Need-returns Inv-loop μ-loop
 returns c = sym (led-none _ _ _ (c .if1 .taken))
 
@@ -34,10 +41,10 @@ returns-3 : tie.Need-returns-3 Inv-loop μ-loop
 returns-3 c = let l = c .before .before .before .before .loop in sym (lead-here _ _ _ (l .steps) (l .at) (l .key) (c .before .before .before .loop-test .taken) (c .before .before .if2 .left) (sym (c .before .word-at .ensures) ∙ c .if3 .taken)) ∙ l .inv
 
 link-of-requires : tie.Need-link-of-requires Inv-loop μ-loop
-link-of-requires c κs = omega (arith, c .before .before .if2 .left, c .before .before .before .before .before .before .before .pre)
+link-of-requires c κs = omega (arith, c .before .before .if2 .left, call (c .before .before .before .before) .pre)
 
 returns-4 : tie.Need-returns-4 Inv-loop μ-loop
-returns-4 c = let l = c .before .before .before .before .before .before .loop in sym (lead-end _ _ _ (l .steps) (l .at) (l .key) (c .before .before .before .before .before .loop-test .taken) (c .before .before .before .before .if2 .left) (λ q. c .before .before .if3 .left (c .before .before .before .word-at .ensures ∙ q)) (sym (c .before .link-of .ensures) ∙ c .if4 .taken)) ∙ l .inv
+returns-4 c = let l = at-loop (c .before) .loop in sym (lead-end _ _ _ (l .steps) (l .at) (l .key) (c .before .before .before .before .before .loop-test .taken) (c .before .before .before .before .if2 .left) (λ q. c .before .before .if3 .left (c .before .before .before .word-at .ensures ∙ q)) (sym (c .before .link-of .ensures) ∙ c .if4 .taken)) ∙ l .inv
 
 sub-steps : tie.Need-sub-steps Inv-loop μ-loop
 sub-steps c = omega (arith, c .before .before .before .before .before .loop-test .taken)
@@ -46,7 +53,10 @@ loop-less : tie.Need-loop-less Inv-loop μ-loop
 loop-less c = omega (arith, c .before .before .before .before .before .loop-test .taken)
 
 loop-again : tie.Need-loop-again Inv-loop μ-loop
-loop-again c = let l = c .before .before .before .before .before .before .loop in let a = c .before .before .before .before .before .before .before .before .before .args in rw (c .before .link-of .ensures) (sym (lead-on (a .a .now) (a .used) (a .number) (l .steps) (l .at) (l .key) (c .before .before .before .before .before .loop-test .taken) (c .before .before .before .before .if2 .left) (λ q. c .before .before .if3 .left (c .before .before .before .word-at .ensures ∙ q)) (λ q. c .if4 .left (c .before .link-of .ensures ∙ q))) ∙ l .inv)
+loop-again c =
+    let loop-test = c .before .before .before .before .before in
+    let start = loop-test .before .before .before .before in
+    let l = loop-test .before .loop in let a = start .args in rw (c .before .link-of .ensures) (sym (lead-on (a .a .now) (a .used) (a .number) (l .steps) (l .at) (l .key) (loop-test .loop-test .taken) (c .before .before .before .before .if2 .left) (λ q. c .before .before .if3 .left (c .before .before .before .word-at .ensures ∙ q)) (λ q. c .if4 .left (c .before .link-of .ensures ∙ q))) ∙ l .inv)
 
 returns-5 : tie.Need-returns-5 Inv-loop μ-loop
 returns-5 c = let l = c .before .loop in let a = c .before .before .before .before .args in let z : l .steps ≡ 0 = omega (arith, c .loop-test .left) in sym (ap (λ (s : ℕ). ledFrom (a .a .now) (a .used) (a .number) s (l .at) (l .key)) z ∙ lead-none (a .a .now) (a .used) (a .number) (l .at) (l .key)) ∙ l .inv

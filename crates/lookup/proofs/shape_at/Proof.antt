@@ -10,6 +10,10 @@ use borrow.Author.Needs.{needs}
 use Rattle.lookup.proofs.shape_at.Statement.{statement}
 use Rattle.lookup.proofs.shape_at.Tie as tie
 
+-- the places that facts are read at
+abbrev call : tie.Then2 → tie.Start
+call c = c .before .before .before .before .before
+
 store-ok-requires : tie.Need-store-ok-requires
 store-ok-requires c κs = search needs
 
@@ -23,14 +27,21 @@ index-requires : tie.Need-index-requires
 index-requires c κs = search needs
 
 aperture-at-requires : tie.Need-aperture-at-requires
-aperture-at-requires c κs = let a = c .before .before .before .before .before .before .before .args in let h = apertures-there (a .head .now) (a .a .now) (a .numbers .now) (sym (c .before .before .before .before .before .store-ok .ensures) ∙ c .before .before .before .before .if1 .taken) in omega (arith, c .index .ensures, c .before .before .if2 .taken)
+aperture-at-requires c κs =
+    let if2 = c .before .before in
+    let a = call if2 .args in let h = apertures-there (a .head .now) (a .a .now) (a .numbers .now) (sym (c .before .before .before .before .before .store-ok .ensures) ∙ c .before .before .before .before .if1 .taken) in omega (arith, c .index .ensures, if2 .if2 .taken)
 
 judged-requires : tie.Need-judged-requires
-judged-requires c κs = let a = c .before .before .before .before .before .before .before .before .args in numbers-there (a .head .now) (a .a .now) (a .numbers .now) (sym (c .before .before .before .before .before .before .store-ok .ensures) ∙ c .before .before .before .before .before .if1 .taken)
+judged-requires c κs =
+    let if2 = c .before .before .before in
+    let a = call if2 .args in numbers-there (a .head .now) (a .a .now) (a .numbers .now) (sym (if2 .before .before .before .store-ok .ensures) ∙ c .before .before .before .before .before .if1 .taken)
 
 returns : tie.Need-returns
 unfolding recordOf
-returns c = row-holds _ (sym (c .before .before .before .before .before .before .before .store-ok .ensures) ∙ c .before .before .before .before .before .before .if1 .taken) (row-holds _ (lt-ltb _ _ (c .before .before .before .before .if2 .taken)) (c .judged .ensures ∙ ap (judged _ _) (rw (c .before .before .index .ensures) at (c .before .aperture-at .ensures))))
+returns c =
+    let aperture-at = c .before in
+    let if1 = aperture-at .before .before .before .before .before in
+    row-holds _ (sym (if1 .before .store-ok .ensures) ∙ if1 .if1 .taken) (row-holds _ (lt-ltb _ _ (c .before .before .before .before .if2 .taken)) (c .judged .ensures ∙ ap (judged _ _) (rw (c .before .before .index .ensures) at (c .before .aperture-at .ensures))))
 
 returns-2 : tie.Need-returns-2
 unfolding recordOf

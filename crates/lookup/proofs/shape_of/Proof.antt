@@ -29,10 +29,18 @@ element-copy-out-judged : tie.Need-element-copy-out-judged
 element-copy-out-judged c = search needs
 
 aperture-at-requires : tie.Need-aperture-at-requires
-aperture-at-requires c κs = let a = c .before .before .before .before .before .before .before .before .before .before .args in let h = apertures-there (a .head .now) (a .a .now) (a .numbers .now) (sym (c .before .before .before .before .before .before .before .before .store-ok .ensures) ∙ c .before .before .before .before .before .before .before .if1 .taken) in let k = led-within _ _ _ _ (sym (rw (c .before .before .before .before .before .index .ensures) at (c .before .before .before .before .search .ensures)) ∙ c .before .before .l .given .1) in omega (arith, h, k)
+aperture-at-requires c κs =
+    let the-match = c .before .before .before in
+    let if1 = the-match .before .before .before .before in
+    let start = if1 .before .before .before in
+    let a = start .args in let h = apertures-there (a .head .now) (a .a .now) (a .numbers .now) (sym (if1 .before .store-ok .ensures) ∙ if1 .if1 .taken) in let k = led-within _ _ _ _ (sym (rw (c .before .before .before .before .before .index .ensures) at (c .before .before .before .before .search .ensures)) ∙ c .before .before .l .given .1) in omega (arith, h, k)
 
 judged-requires : tie.Need-judged-requires
-judged-requires c κs = let a = c .before .before .before .before .before .before .before .before .before .before .before .args in numbers-there (a .head .now) (a .a .now) (a .numbers .now) (sym (c .before .before .before .before .before .before .before .before .before .store-ok .ensures) ∙ c .before .before .before .before .before .before .before .before .if1 .taken)
+judged-requires c κs =
+    let the-match = c .before .before .before .before in
+    let if1 = the-match .before .before .before .before in
+    let start = if1 .before .before .before in
+    let a = start .args in numbers-there (a .head .now) (a .a .now) (a .numbers .now) (sym (if1 .before .store-ok .ensures) ∙ if1 .if1 .taken)
 
 enum-told : tie.Need-enum-told
 enum-told c = search needs
@@ -42,15 +50,22 @@ enum-told-2 c = search needs
 
 returns : tie.Need-returns
 unfolding lookupOf foundBy
-returns c = row-holds _ (sym (c .before .before .before .before .before .before .before .before .before .before .store-ok .ensures) ∙ c .before .before .before .before .before .before .before .before .before .if1 .taken) (rw (sym (rw (c .before .before .before .before .before .before .before .index .ensures) at (c .before .before .before .before .before .before .search .ensures)) ∙ c .before .before .before .before .l .given .1) (c .judged .ensures ∙ ap (judged _ _) (c .before .aperture-at .ensures)))
+returns c =
+    let the-match = c .before .before .before .before .before in
+    let if1 = the-match .before .before .before .before in
+    row-holds _ (sym (if1 .before .store-ok .ensures) ∙ if1 .if1 .taken) (rw (sym (rw (the-match .before .before .index .ensures) at (the-match .before .search .ensures)) ∙ c .before .before .before .before .l .given .1) (c .judged .ensures ∙ ap (judged _ _) (c .before .aperture-at .ensures)))
 
 returns-2 : tie.Need-returns-2
 unfolding lookupOf foundBy
-returns-2 c = row-holds _ (sym (c .before .before .before .before .before .before .store-ok .ensures) ∙ c .before .before .before .before .before .if1 .taken) (rw (sym (rw (c .before .before .before .index .ensures) at (c .before .before .search .ensures)) ∙ c .enum-told .given .1) refl)
+returns-2 c =
+    let if1 = c .before .before .before .before .before in
+    row-holds _ (sym (if1 .before .store-ok .ensures) ∙ if1 .if1 .taken) (rw (sym (rw (c .before .before .before .index .ensures) at (c .before .before .search .ensures)) ∙ c .enum-told .given .1) refl)
 
 returns-3 : tie.Need-returns-3
 unfolding lookupOf foundBy
-returns-3 c = row-holds _ (sym (c .before .before .before .before .before .before .store-ok .ensures) ∙ c .before .before .before .before .before .if1 .taken) (rw (sym (rw (c .before .before .before .index .ensures) at (c .before .before .search .ensures)) ∙ c .enum-told2 .given .1) refl)
+returns-3 c =
+    let if1 = c .before .before .before .before .before in
+    row-holds _ (sym (if1 .before .store-ok .ensures) ∙ if1 .if1 .taken) (rw (sym (rw (c .before .before .before .index .ensures) at (c .before .before .search .ensures)) ∙ c .enum-told2 .given .1) refl)
 
 returns-4 : tie.Need-returns-4
 unfolding lookupOf

@@ -38,7 +38,9 @@ both-requires-2 c κs = search needs
 
 returns : tie.Need-returns
 unfolding stands primitiveAt
-returns c = rw (c .both2 .ensures, c .before .count-fits .ensures, c .before .before .size-at .ensures, c .before .before .before .both .ensures, c .before .before .before .before .before .negative-at .ensures, c .before .before .before .before .before .before .primitive-at .ensures .0)
+returns c =
+    let negative-at = c .before .before .before .before .before in
+    rw (c .both2 .ensures, c .before .count-fits .ensures, c .before .before .size-at .ensures, c .before .before .before .both .ensures, negative-at .negative-at .ensures, negative-at .before .primitive-at .ensures .0)
 
 pub stands-spec : {M : Type 1} → statement M
 stands-spec =

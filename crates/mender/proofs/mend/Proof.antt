@@ -9,26 +9,61 @@ use borrow.Author.Needs.{needs}
 use Rattle.mender.proofs.mend.Statement.{statement}
 use Rattle.mender.proofs.mend.Tie as tie
 
+-- the places that facts are read at
+abbrev call : tie.After-slice-known4 → tie.Start
+call c = c .before .before .before .before .before
+
+abbrev at-entry : tie.After-clear-report → tie.After-slice-known4
+at-entry c = c .before .before .before .before
+
+abbrev at-clear-report : tie.After-report → tie.After-clear-report
+at-clear-report c = c .before .before .before
+
+abbrev at-report : tie.After-mend-over-arg4 → tie.After-report
+at-report c = c .before .before .before .before .before
+
+abbrev at-mend-over-arg4 : tie.After-mend-over → tie.After-mend-over-arg4
+at-mend-over-arg4 c = c .before .before .before .before
+
+abbrev at-mend-over : tie.After-e → tie.After-mend-over
+at-mend-over c = c .before .before .before .before .before
+
+abbrev at-e : tie.After-m → tie.After-e
+at-e c = c .before .before .before .before
+
+abbrev at-if1 : tie.After-clear-arg5 → tie.Else1
+at-if1 c = c .before .before .before .before .before
+
+abbrev at-clear-arg5 : tie.After-clear → tie.After-clear-arg5
+at-clear-arg5 c = c .before .before .before
+
+abbrev at-clear : tie.After-e2 → tie.After-clear
+at-clear c = c .before .before .before .before .before
+
+abbrev at-e2 : tie.After-m2 → tie.After-e2
+at-e2 c = c .before .before .before .before
+
 -- the calls, from the last one back
 abbrev was-cleared : tie.After-numbers2 → tie.After-clear
-was-cleared c = c .before .before .before .before .before .before .before .before .before .before .before
+was-cleared c = at-clear (at-e2 (c .before .before))
 
 abbrev from-clear : tie.After-clear → tie.Else1
-from-clear c = c .before .before .before .before .before .before .before .before
+from-clear c = at-if1 (at-clear-arg5 c)
 
 abbrev mended : tie.After-is-mended → tie.After-mend-over
-mended c = c .before .before .before .before .before .before .before .before .before .before .before .before
+mended c = at-mend-over (at-e (c .before .before .before))
 
 abbrev first-cleared : tie.After-mend-over → tie.After-clear-report
-first-cleared c = c .before .before .before .before .before .before .before .before .before .before .before .before
+first-cleared c = at-clear-report (at-report (at-mend-over-arg4 c))
 
 clear-report-requires : tie.Need-clear-report-requires
 clear-report-requires c κs = search needs
 
 mend-over-requires : tie.Need-mend-over-requires
 mend-over-requires c κs =
-    let z = c .before .before .before .before .before .before .before .before .before .before .before in
-    let A = z .before .before .before .before .before .before .before .before .before .args in
+    let clear-report = at-clear-report (at-report (c .before .before .before)) in
+    let z = clear-report in
+    let A = call (at-entry clear-report) .args in
     (zeros-own (length (A .out .now)) (z .clear-report .ensures .0), zeros-own (length (A .report .now)) (z .clear-report .ensures .1))
 
 is-mended-requires : tie.Need-is-mended-requires

@@ -7,12 +7,22 @@ use borrow.Author.Needs.{needs}
 use Rattle.mender.proofs.mend_over.Statement.{statement}
 use Rattle.mender.proofs.mend_over.Tie as tie
 
+-- the places that facts are read at
+abbrev call : tie.After-slice-known4 → tie.Start
+call c = c .before .before .before .before .before
+
+abbrev at-bytes-of : tie.After-read-bytes-arg5 → tie.After-bytes-of
+at-bytes-of c = c .before .before .before .before .before
+
+abbrev at-a : tie.After-has-report → tie.After-a
+at-a c = c .before .before .before .before .before
+
 -- the calls, from the last one back
 abbrev was-read : tie.After-answer-from → tie.After-read-bytes
-was-read c = c .before .before .before .before .before .before .before .before .before .before
+was-read c = at-a (c .before .before) .before .before .before
 
 abbrev counted : tie.After-read-bytes → tie.After-bytes-of
-counted c = c .before .before .before .before .before .before .before
+counted c = at-bytes-of (c .before .before)
 
 abbrev wrote : tie.After-has-file → tie.After-mend-into
 wrote c = c .before .before .before .before .before
@@ -83,7 +93,7 @@ returns-2 c =
 
 returns-3 : tie.Need-returns-3
 returns-3 c =
-    let A = c .before .before .before .before .before .before .before .before .args in
+    let A = call (c .before .before .before) .args in
     let v : Lent = lentOf (A .file .now) (A .e .now) (A .a .now) (A .m .now) (A .numbers .now) in
     comes-over _ _ _ (A .out .now) (A .report .now) (A .head .now) v v (sym (c .before .file-fits .ensures) ∙ c .if1 .left) (same-long v)
 

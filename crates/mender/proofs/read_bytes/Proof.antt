@@ -23,7 +23,11 @@ same-length-4 : tie.Need-same-length-4
 same-length-4 c = search needs
 
 returns : tie.Need-returns
-returns c = rw (c .before .before .before .before .before .before .before .before .before .before .before .before .before .up-to .ensures) at (c .before .before .before .before .before .before .before .read-as .ensures)
+returns c =
+    let m = c .before .before in
+    let read-as = m .before .before .before .before .before in
+    let read-as-arg = read-as .before .before .before .before .before in
+    rw (read-as-arg .before .up-to .ensures) at (read-as .read-as .ensures)
 
 pub read-bytes-spec : {M : Type 1} → statement M
 read-bytes-spec =

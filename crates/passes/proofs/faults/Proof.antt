@@ -21,6 +21,22 @@ Inv-loop e a top notes operations roles roled names₀ o₀ k₀ names o k = (k 
 abbrev μ-loop : tie.MeasureT-loop
 μ-loop e a top notes operations roles roled names₀ o₀ k₀ names o k = top .items - k
 
+-- the places that facts are read at
+abbrev call : tie.After-slice-known Inv-loop μ-loop → tie.Start Inv-loop μ-loop
+call c = c .before .before .before .before .before
+
+abbrev at-entry : tie.After-see Inv-loop μ-loop → tie.After-slice-known Inv-loop μ-loop
+at-entry c = c .before .before .before .before .before
+
+abbrev at-see : tie.After-main-of Inv-loop μ-loop → tie.After-see Inv-loop μ-loop
+at-see c = c .before .before .before
+
+abbrev at-main-of : tie.After-step-fault Inv-loop μ-loop → tie.After-main-of Inv-loop μ-loop
+at-main-of c = c .before .before .before
+
+abbrev at-step-fault : tie.After-set-word Inv-loop μ-loop → tie.After-step-fault Inv-loop μ-loop
+at-step-fault c = c .before .before .before .before
+
 no-outline-requires : tie.Need-no-outline-requires Inv-loop μ-loop
 no-outline-requires c κs = search needs
 
@@ -28,7 +44,7 @@ loop-holds : tie.Need-loop-holds Inv-loop μ-loop
 loop-holds c = (omega arith, refl, λ l g. rw (c .no-outline .ensures) (passing-start l g))
 
 see-requires : tie.Need-see-requires Inv-loop μ-loop
-see-requires c κs = (c .before .before .before .before .before .before .before .before .before .pre, c .if1 .taken)
+see-requires c κs = (call (c .before .before .before .before) .pre, c .if1 .taken)
 
 met-requires : tie.Need-met-requires Inv-loop μ-loop
 met-requires c κs = search needs
@@ -43,10 +59,14 @@ step-fault-requires : tie.Need-step-fault-requires Inv-loop μ-loop
 step-fault-requires c κs = search needs
 
 same-length : tie.Need-same-length Inv-loop μ-loop
-same-length c = c .before .before .before .before .before .before .before .before .before .before .before .loop .inv .1
+same-length c = at-see (c .before .before .before .before .before) .before .before .before .loop .inv .1
 
 returns : tie.Need-returns Inv-loop μ-loop
-returns c = λ l g. passing-out l (c .before .before .before .before .before .before .before .before .before .before .before .loop .inv .2 l g) (c .before .before .before .before .before .before .before .before .before .if1 .taken) (c .before .before .before .before .before .before .before .before .see .ensures l) (c .before .before .before .before .before .before .before .met .ensures ∙ met-is (c .before .before .before .before .before .before .before .before .see .ensures l)) (ap (λ (x : ℕ). eqb x 1) (c .before .before .before .word-of .ensures ∙ ap (λ (d : ℕ). wordOf (c .before .before .before .before .before .before .before .before .before .before .before .loop .names) d 2) (c .before .before .before .before .before .main-of .ensures))) (c .before .before .step-fault .ensures) (c .if2 .taken)
+returns c =
+    let main-of = c .before .before .before .before .before in
+    let see = at-see main-of in
+    let the-loop = see .before .before .before in
+    λ l g. passing-out l (the-loop .loop .inv .2 l g) (see .before .if1 .taken) (see .see .ensures l) (main-of .before .before .met .ensures ∙ met-is (see .see .ensures l)) (ap (λ (x : ℕ). eqb x 1) (c .before .before .before .word-of .ensures ∙ ap (λ (d : ℕ). wordOf (the-loop .loop .names) d 2) (main-of .main-of .ensures))) (c .before .before .step-fault .ensures) (c .if2 .taken)
 
 set-word-requires : tie.Need-set-word-requires Inv-loop μ-loop
 set-word-requires c κs = omega arith
@@ -55,13 +75,21 @@ outline-after-requires : tie.Need-outline-after-requires Inv-loop μ-loop
 outline-after-requires c κs = search needs
 
 add-k : tie.Need-add-k Inv-loop μ-loop
-add-k c = let f = few-items (c .before .before .before .before .before .before .before .before .before .before .before .before .before .before .before .before .before .before .before .before .before .before .before .pre) in let t = c .before .before .before .before .before .before .before .before .before .before .before .before .before .before .if1 .taken in omega arith
+add-k c =
+    let see = at-see (at-main-of (at-step-fault (c .before .before .before))) in
+    let f = few-items (call (at-entry see) .pre) in let t = see .before .if1 .taken in omega arith
 
 loop-less : tie.Need-loop-less Inv-loop μ-loop
-loop-less c = let t = c .before .before .before .before .before .before .before .before .before .before .before .before .before .before .if1 .taken in omega arith
+loop-less c = let t = at-see (at-main-of (at-step-fault (c .before .before .before))) .before .if1 .taken in omega arith
 
 loop-again : tie.Need-loop-again Inv-loop μ-loop
-loop-again c = let t = c .before .before .before .before .before .before .before .before .before .before .before .before .before .before .if1 .taken in let i = c .before .before .before .before .before .before .before .before .before .before .before .before .before .before .before .before .loop .inv in (omega arith, c .before .before .before .set-word .kept .0 ∙ i .1, λ l g. passing-on l (i .2 l g) t (c .before .before .before .before .before .before .before .before .before .before .before .before .before .see .ensures l) (c .before .before .before .before .before .before .before .before .before .before .before .before .met .ensures ∙ met-is (c .before .before .before .before .before .before .before .before .before .before .before .before .before .see .ensures l)) (ap (λ (x : ℕ). eqb x 1) (c .before .before .before .before .before .before .before .before .word-of .ensures ∙ ap (λ (d : ℕ). wordOf (c .before .before .before .before .before .before .before .before .before .before .before .before .before .before .before .before .loop .names) d 2) (c .before .before .before .before .before .before .before .before .before .before .main-of .ensures))) (c .before .before .before .before .before .before .before .step-fault .ensures) (c .before .before .before .before .before .if2 .left) (c .before .before .before .set-word .ensures ∙ ap (λ (d : ℕ). withWord (c .before .before .before .before .before .before .before .before .before .before .before .before .before .before .before .before .loop .names) d 2 1) (c .before .before .before .before .before .before .before .before .before .before .main-of .ensures)) (c .outline-after .ensures))
+loop-again c =
+    let set-word = c .before .before .before in
+    let step-fault = at-step-fault set-word in
+    let main-of = at-main-of step-fault in
+    let see = at-see main-of in
+    let the-loop = see .before .before .before in
+    let t = see .before .if1 .taken in let i = the-loop .loop .inv in (omega arith, set-word .set-word .kept .0 ∙ i .1, λ l g. passing-on l (i .2 l g) t (see .see .ensures l) (main-of .before .before .met .ensures ∙ met-is (see .see .ensures l)) (ap (λ (x : ℕ). eqb x 1) (step-fault .before .word-of .ensures ∙ ap (λ (d : ℕ). wordOf (the-loop .loop .names) d 2) (main-of .main-of .ensures))) (step-fault .step-fault .ensures) (c .before .before .before .before .before .if2 .left) (set-word .set-word .ensures ∙ ap (λ (d : ℕ). withWord (the-loop .loop .names) d 2 1) (main-of .main-of .ensures)) (c .outline-after .ensures))
 
 end-fault-requires : tie.Need-end-fault-requires Inv-loop μ-loop
 end-fault-requires c κs = search needs

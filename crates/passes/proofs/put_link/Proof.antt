@@ -40,7 +40,13 @@ same-length-2 c = search needs
 
 returns : tie.Need-returns
 unfolding withLink
-returns c = (c .before .before .before .before .before .before .put2 .ensures ∙ (λ i. set (c .before .before .before .before .before .before .before .before .before .before .before .before .put .ensures i) (c .before .before .before .before .before .before .before .before .before .before .before .before .before .before .before .before .args .links * 2 + 1) (c .before .before .before .before .before .before .before .word-of .ensures i)), c .before .before .set-word .ensures)
+returns c =
+    let set-word = c .before .before in
+    let put2 = set-word .before .before .before .before in
+    let word-of = put2 .before in
+    let put = word-of .before .before .before .before .before in
+    let start = put .before .before .before .before in
+    (put2 .put2 .ensures ∙ (λ i. set (put .put .ensures i) (start .args .links * 2 + 1) (word-of .word-of .ensures i)), set-word .set-word .ensures)
 
 pub put-link-spec : {M : Type 1} → statement M
 put-link-spec =

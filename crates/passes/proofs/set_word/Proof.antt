@@ -36,7 +36,10 @@ same-length : tie.Need-same-length
 same-length c = search needs
 
 returns-3 : tie.Need-returns-3
-returns-3 c = let a = c .before .before .before .before .before .before .before .before .args in c .before .before .put .ensures ∙ ap (λ (j : ℕ). set (a .names .now) (j * 8 + a .i) (a .v)) (c .before .before .before .before .before .index .ensures) ∙ sym (with-some (a .names .now) (a .i) (a .v) (a .d) (c .before .before .before .before .before .before .if1 .left))
+returns-3 c =
+    let index = c .before .before .before .before .before in
+    let start = index .before .before .before in
+    let a = start .args in c .before .before .put .ensures ∙ ap (λ (j : ℕ). set (a .names .now) (j * 8 + a .i) (a .v)) (index .index .ensures) ∙ sym (with-some (a .names .now) (a .i) (a .v) (a .d) (index .before .if1 .left))
 
 pub set-word-spec : {M : Type 1} → statement M
 set-word-spec =

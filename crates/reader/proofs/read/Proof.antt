@@ -24,7 +24,9 @@ same-length-4 : tie.Need-same-length-4
 same-length-4 c = search needs
 
 abbrev was-read : tie.After-numbers → tie.After-read-as
-was-read c = c .before .before .before .before .before .before .before
+was-read c =
+    let a = c .before .before .before .before in
+    a .before .before .before
 
 returns : tie.Need-returns
 returns c =

@@ -7,6 +7,13 @@ use Rattle.reader.proofs.Outcome.{reads-long}
 use Rattle.reader.proofs.read_as.Statement.{statement}
 use Rattle.reader.proofs.read_as.Tie as tie
 
+-- the places that facts are read at
+abbrev at-clear : tie.After-m2 → tie.After-clear
+at-clear c = c .before .before .before .before .before
+
+abbrev at-read-file : tie.After-m → tie.After-read-file
+at-read-file c = c .before .before .before .before .before
+
 file-fits-requires : tie.Need-file-fits-requires
 file-fits-requires c κs = search needs
 
@@ -26,13 +33,13 @@ same-length-4 : tie.Need-same-length-4
 same-length-4 c = search needs
 
 returns : tie.Need-returns
-returns c = c .before .before .before .before .before .before .before .read-file .ensures
+returns c = at-read-file (c .before .before) .read-file .ensures
 
 clear-requires : tie.Need-clear-requires
 clear-requires c κs = search needs
 
 abbrev was-cleared : tie.After-numbers2 → tie.After-clear
-was-cleared c = c .before .before .before .before .before .before .before
+was-cleared c = at-clear (c .before .before)
 
 same-length-5 : tie.Need-same-length-5
 same-length-5 c = search needs

@@ -7,15 +7,28 @@ use Rattle.reader.proofs.Outcome.{reads-refused, sheet-fits, reads-acce
 use Rattle.reader.proofs.read_file.Statement.{statement}
 use Rattle.reader.proofs.read_file.Tie as tie
 
+-- the places that facts are read at
+abbrev call : tie.After-run-over-arg → tie.Start
+call c = c .before .before .before .before .before
+
+abbrev at-run-over-arg : tie.After-run-over → tie.After-run-over-arg
+at-run-over-arg c = c .before .before .before .before
+
+abbrev at-run-over : tie.After-m → tie.After-run-over
+at-run-over c = c .before .before .before .before .before
+
+abbrev at-r : tie.After-clear-arg4 → tie.After-r
+at-r c = c .before .before .before .before .before
+
 run-over-requires : tie.Need-run-over-requires
 run-over-requires c κs = search needs
 
 -- what was lent, and what the commands left
 abbrev begins : tie.After-run-over → tie.Start
-begins c = c .before .before .before .before .before .before .before .before .before
+begins c = call (at-run-over-arg c)
 
 abbrev ran : tie.After-numbers → tie.After-run-over
-ran c = c .before .before .before .before .before .before .before
+ran c = at-run-over (c .before .before)
 
 abbrev lent : tie.After-run-over → Lent
 lent c = let A = begins c .args in lentOf (A .file .now) (A .e .now) (A .a .now) (A .m .now) (A .numbers .now)
@@ -51,10 +64,12 @@ same-length-4 : tie.Need-same-length-4
 same-length-4 c = search needs
 
 abbrev was-cleared : tie.After-numbers2 → tie.After-clear
-was-cleared c = c .before .before .before .before .before .before .before
+was-cleared c =
+    let a2 = c .before .before .before .before in
+    a2 .before .before .before
 
 abbrev fault : tie.After-clear → tie.After-r
-fault c = c .before .before .before .before .before .before
+fault c = at-r (c .before)
 
 returns : tie.Need-returns
 unfolding lentOf

@@ -20,6 +20,13 @@ Inv-loop book file e₀ a₀ m₀ numbers₀ repeat₀ e a m numbers repeat = As
 abbrev μ-loop : tie.MeasureT-loop
 μ-loop book file e₀ a₀ m₀ numbers₀ repeat₀ e a m numbers repeat = looksLeft repeat
 
+-- the places that facts are read at
+abbrev at-clear : tie.After-m Inv-loop μ-loop → tie.After-clear Inv-loop μ-loop
+at-clear c = c .before .before .before .before .before
+
+abbrev at-m : tie.After-run-arg3 Inv-loop μ-loop → tie.After-m Inv-loop μ-loop
+at-m c = c .before .before .before .before .before
+
 loop-holds : tie.Need-loop-holds Inv-loop μ-loop
 unfolding Looked
 loop-holds c = (same-long _, tt)
@@ -52,17 +59,19 @@ zeros-empty c =
     empty (lentOf (begins l .args .file .now) (l .loop .e) (l .loop .a) (l .loop .m) (l .loop .numbers)) (zeros c) refl (z .0) (z .1) (z .2) (z .3)
 
 run-requires : tie.Need-run-requires Inv-loop μ-loop
-run-requires c κs = let k = c .before .before .before .before .before .before .before .before .before .before .before in (zeros-empty k, turn k .loop .inv .1)
+run-requires c κs = let k = at-clear (at-m (c .before)) in (zeros-empty k, turn k .loop .inv .1)
 
 enum-known-r : tie.Need-enum-known-r Inv-loop μ-loop
 enum-known-r c = search needs
 
 -- the run over them
 abbrev cleared : tie.After-run Inv-loop μ-loop → tie.After-clear Inv-loop μ-loop
-cleared c = c .before .before .before .before .before .before .before .before .before .before .before .before
+cleared c = at-clear (at-m (c .before .before))
 
 abbrev ran : tie.After-numbers2 Inv-loop μ-loop → tie.After-run Inv-loop μ-loop
-ran c = c .before .before .before .before .before .before .before
+ran c =
+    let a2 = c .before .before .before .before in
+    a2 .before .before .before
 
 abbrev left : tie.After-run Inv-loop μ-loop → Lent
 left c = let L = c .run .last .1 .1 in lentOf (begins (turn (cleared c)) .args .file .now) (L .0) (L .1 .0) (L .1 .1 .0) (L .1 .1 .1 .0)

@@ -9,19 +9,30 @@ use borrow.Author.Needs.{needs}
 use Rattle.steps.proofs.define.Statement.{statement}
 use Rattle.steps.proofs.define.Tie as tie
 
+-- the places that facts are read at
+abbrev call : tie.After-slice-known2 → tie.Start
+call c = c .before .before .before
+
+abbrev at-entry : tie.After-known-told → tie.After-slice-known2
+at-entry c = c .before .before .before
+
 enum-known-d : tie.Need-enum-known-d
 enum-known-d c = search needs
 
 define-requires : tie.Need-define-requires
 unfolding DefinitionBounded
-define-requires c κs = (c .before .before .before .before .before .before .before .before .before .pre .0, c .before .before .before .before .before .before .before .before .before .pre .1, c .before .before .before .before .before .before .before .before .before .pre .2, subst (DefinitionBounded _) (c .before .before .before .before .d .given .1) (c .before .before .before .before .before .before .before .before .before .pre .3))
+define-requires c κs =
+    let start = call (at-entry (c .before .before .before)) in
+    (start .pre .0, start .pre .1, start .pre .2, subst (DefinitionBounded _) (c .before .before .before .before .d .given .1) (start .pre .3))
 
 enum-known-d-2 : tie.Need-enum-known-d-2
 enum-known-d-2 c = search needs
 
 add-macro-requires : tie.Need-add-macro-requires
 unfolding DefinitionBounded
-add-macro-requires c κs = (known-of (Lends _ _ _ _) (λ w. (w .file ≡ _) × (w .macros ≡ _)) _ (λ w q. (q .file-is, q .macros-are)) (c .before .before .before .before .before .before .before .pre .0), c .before .before .before .before .before .before .before .pre .1, c .before .before .before .before .before .before .before .pre .2, subst (DefinitionBounded _) (c .before .before .d2 .given .1) (c .before .before .before .before .before .before .before .pre .3))
+add-macro-requires c κs =
+    let start = call (c .before .before .before .before) in
+    (known-of (Lends _ _ _ _) (λ w. (w .file ≡ _) × (w .macros ≡ _)) _ (λ w q. (q .file-is, q .macros-are)) (start .pre .0), start .pre .1, start .pre .2, subst (DefinitionBounded _) (c .before .before .d2 .given .1) (start .pre .3))
 
 same-length : tie.Need-same-length
 same-length c = search needs
@@ -34,7 +45,9 @@ same-length-3 c = search needs
 
 returns : tie.Need-returns
 unfolding definitionStep
-returns c = (c .before .before .before .define .ensures .0, refl, c .before .before .before .define .ensures .1, λ w s q k. keeps-macros w _ _ _ _ _ (q .macros-are) (rw (c .before .before .before .before .before .before .before .before .d .given .1) (c .before .before .before .define .ensures .2 w s q k)))
+returns c =
+    let the-define = c .before .before .before in
+    (the-define .define .ensures .0, refl, the-define .define .ensures .1, λ w s q k. keeps-macros w _ _ _ _ _ (q .macros-are) (rw (the-define .before .before .before .before .before .d .given .1) (the-define .define .ensures .2 w s q k)))
 
 same-length-4 : tie.Need-same-length-4
 same-length-4 c = search needs

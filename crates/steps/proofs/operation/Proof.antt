@@ -14,7 +14,9 @@ enum-known-held : tie.Need-enum-known-held
 enum-known-held c = search needs
 
 operate-requires : tie.Need-operate-requires
-operate-requires c κs = c .before .before .before .before .before .before .pre
+operate-requires c κs =
+    let held-in = c .before .before .before .before in
+    held-in .before .before .pre
 
 joined-requires : tie.Need-joined-requires
 joined-requires c κs = search needs

@@ -14,26 +14,37 @@ use borrow.Author.Needs.{needs}
 use Rattle.steps.proofs.step.Statement.{statement}
 use Rattle.steps.proofs.step.Tie as tie
 
+-- the places that facts are read at
+abbrev call : tie.After-slice-known3 → tie.Start
+call c = c .before .before .before .before
+
+abbrev at-entry : tie.After-known-told2 → tie.After-slice-known3
+at-entry c = c .before .before .before
+
 enum-known-command : tie.Need-enum-known-command
 enum-known-command c = search needs
 
 select-requires : tie.Need-select-requires
 unfolding lentOf
-select-requires c κs = known-of (λ w. w ≡ lentOf _ _ _ _ _) (λ w. w .apertures ≡ _) _ (λ w q. ap (λ (x : Lent). x .apertures) q) (c .before .before .before .before .before .before .before .before .pre .0)
+select-requires c κs = known-of (λ w. w ≡ lentOf _ _ _ _ _) (λ w. w .apertures ≡ _) _ (λ w q. ap (λ (x : Lent). x .apertures) q) (call (c .before .before .before .before) .pre .0)
 
 enum-known-command-2 : tie.Need-enum-known-command-2
 enum-known-command-2 c = search needs
 
 define-requires : tie.Need-define-requires
 unfolding lentOf Bounded
-define-requires c κs = (known-of (λ w. w ≡ lentOf _ _ _ _ _) (Lends _ _ _ _) _ (λ w q. record { file-is = ap (λ (x : Lent). x .file) q; apertures-are = ap (λ (x : Lent). x .apertures) q; macros-are = ap (λ (x : Lent). x .macros) q; numbers-are = ap (λ (x : Lent). x .numbers) q }) (c .before .before .before .before .before .before .before .before .before .before .pre .0), c .before .before .before .before .before .before .before .before .before .before .pre .1 .0 .ordered, c .before .before .before .before .before .before .before .before .before .before .pre .1 .0 .inside, subst (Bounded _) (c .before .before .before .before .command2 .given .1) (c .before .before .before .before .before .before .before .before .before .before .pre .1 .0 .bounded))
+define-requires c κs =
+    let start = call (at-entry (c .before .before .before)) in
+    (known-of (λ w. w ≡ lentOf _ _ _ _ _) (Lends _ _ _ _) _ (λ w q. record { file-is = ap (λ (x : Lent). x .file) q; apertures-are = ap (λ (x : Lent). x .apertures) q; macros-are = ap (λ (x : Lent). x .macros) q; numbers-are = ap (λ (x : Lent). x .numbers) q }) (start .pre .0), start .pre .1 .0 .ordered, start .pre .1 .0 .inside, subst (Bounded _) (c .before .before .before .before .command2 .given .1) (start .pre .1 .0 .bounded))
 
 enum-known-command-3 : tie.Need-enum-known-command-3
 enum-known-command-3 c = search needs
 
 contain-requires : tie.Need-contain-requires
 unfolding lentOf Bounded
-contain-requires c κs = (known-of (λ w. w ≡ lentOf _ _ _ _ _) (λ w. (w .entries ≡ _) × (w .apertures ≡ _)) _ (λ w q. (ap (λ (x : Lent). x .entries) q, ap (λ (x : Lent). x .apertures) q)) (c .before .before .before .before .before .before .before .before .before .pre .0), subst (Bounded _) (c .before .before .before .command3 .given .1) (c .before .before .before .before .before .before .before .before .before .pre .1 .0 .bounded))
+contain-requires c κs =
+    let start = call (c .before .before .before .before .before) in
+    (known-of (λ w. w ≡ lentOf _ _ _ _ _) (λ w. (w .entries ≡ _) × (w .apertures ≡ _)) _ (λ w q. (ap (λ (x : Lent). x .entries) q, ap (λ (x : Lent). x .apertures) q)) (start .pre .0), subst (Bounded _) (c .before .before .before .command3 .given .1) (start .pre .1 .0 .bounded))
 
 enum-known-command-4 : tie.Need-enum-known-command-4
 enum-known-command-4 c = search needs
@@ -93,7 +104,9 @@ same-length-4 c = search needs
 
 returns-2 : tie.Need-returns-2
 unfolding lentOf withApertures withMacros withNumbers stepOf
-returns-2 c = (refl, c .before .before .before .before .before .define .ensures .0, c .before .before .before .before .before .define .ensures .1, c .before .before .before .before .before .define .ensures .2, λ s k told. rw (c .before .before .before .before .before .before .before .before .before .before .command2 .given .1) (c .before .before .before .before .before .define .ensures .3 (lentOf _ _ _ _ _) s (record { file-is = refl; apertures-are = refl; macros-are = refl; numbers-are = refl }) k))
+returns-2 c =
+    let define = c .before .before .before .before .before in
+    (refl, define .define .ensures .0, define .define .ensures .1, define .define .ensures .2, λ s k told. rw (define .before .before .before .before .before .command2 .given .1) (define .define .ensures .3 (lentOf _ _ _ _ _) s (record { file-is = refl; apertures-are = refl; macros-are = refl; numbers-are = refl }) k))
 
 same-length-5 : tie.Need-same-length-5
 same-length-5 c = search needs
@@ -103,7 +116,9 @@ same-length-6 c = search needs
 
 returns-3 : tie.Need-returns-3
 unfolding lentOf withEntries withApertures stepOf
-returns-3 c = (c .before .before .before .before .contain .ensures .0, c .before .before .before .before .contain .ensures .1, refl, refl, λ s k told. rw (c .before .before .before .before .before .before .before .before .command3 .given .1) (c .before .before .before .before .contain .ensures .2 (lentOf _ _ _ _ _) s (refl, refl) k))
+returns-3 c =
+    let contain = c .before .before .before .before in
+    (contain .contain .ensures .0, contain .contain .ensures .1, refl, refl, λ s k told. rw (contain .before .before .before .before .command3 .given .1) (contain .contain .ensures .2 (lentOf _ _ _ _ _) s (refl, refl) k))
 
 returns-4 : tie.Need-returns-4
 unfolding lentOf Again stepOf
@@ -127,11 +142,11 @@ returns-8 c = (refl, refl, refl, refl, λ s k again. c .set4 .ensures _ _ (lentO
 
 returns-9 : tie.Need-returns-9
 unfolding heldIn
-returns-9 c = (refl, refl, refl, refl, λ s k again. absurd (none-held (sym (ap heldIn (c .enum-told5 .given .1)) ∙ c .before .before .before .before .before .before .pre .1 .1)))
+returns-9 c = (refl, refl, refl, refl, λ s k again. absurd (none-held (sym (ap heldIn (c .enum-told5 .given .1)) ∙ call (c .before .before) .pre .1 .1)))
 
 returns-10 : tie.Need-returns-10
 unfolding heldIn
-returns-10 c = (refl, refl, refl, refl, λ s k again. absurd (none-held (sym (ap heldIn (c .enum-told6 .given .1)) ∙ c .before .before .before .before .before .before .pre .1 .1)))
+returns-10 c = (refl, refl, refl, refl, λ s k again. absurd (none-held (sym (ap heldIn (c .enum-told6 .given .1)) ∙ call (c .before .before) .pre .1 .1)))
 
 pub step-spec : {M : Type 1} → statement M
 step-spec =
