@@ -19,7 +19,7 @@ fn before_at(e: &[u64], i: usize) -> u64
     requires { ⌜ i < entryRoom (now e) ⌝ }
     ensures { λ r. ⌜ r ≡ entryOf (now (e .entry)) i .before ⌝ }
 {
-    base::word_at(e, i * sheet::ENTRY_WORDS + 1)
+    e[i * sheet::ENTRY_WORDS + 1]
 }
 
 // The last entry of a container that has at most n items before it; there is one such (`found-once`).
@@ -65,7 +65,7 @@ fn descend(e: &[u64], a: &[u64], k: Container, n: u64) -> Step
     requires { ⌜ Held (now e) (now a) k n ⌝ }
     ensures { λ s. ⌜ Descends (now (e .entry)) (now (a .entry)) k n s ⌝ }
 {
-    let r = sheet::entry_at(e, find(e, k, n));
+    let r = sheet::whole_entry(e, find(e, k, n));
     let j = n - r.before;
     match sheet::role_of(r.kind) {
         Role::Uses => Step::Flashed(

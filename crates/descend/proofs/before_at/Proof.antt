@@ -1,24 +1,28 @@
 -- `descend::before_at` meets its contract: the word read is that of the record.
 use Rattle.sheet.specs.Records.{entryWidth, entryIn, entryOf}
 use lib.Seq.{getD-drop}
-use mathlib.Core.Path.{sym, _∙_}
+use mathlib.Core.Path.{sym}
 use Prim.Native.Nat.{_*_}
 use borrow.Author.Needs.{needs}
 use Rattle.descend.proofs.before_at.Statement.{statement}
 use Rattle.descend.proofs.before_at.Tie as tie
 
-mul-word-at : tie.Need-mul-word-at
-mul-word-at c = search needs
+mul-result : tie.Need-mul-result
+mul-result c = search needs
 
-add-word-at : tie.Need-add-word-at
-add-word-at c = search needs
+add-result : tie.Need-add-result
+add-result c = search needs
 
-word-at-requires : tie.Need-word-at-requires
-word-at-requires c κs = search needs
+mul-result-2 : tie.Need-mul-result-2
+mul-result-2 c = search needs
+
+shared-slice-read-result : tie.Need-shared-slice-read-result
+shared-slice-read-result c = search needs
 
 returns : tie.Need-returns
 unfolding entryOf entryIn
-returns c = c .word-at .ensures ∙ sym (getD-drop (c .before .before .args .i * entryWidth) (c .before .before .args .e .now) 1 0)
+returns c = sym (getD-drop (c .before .args .i * entryWidth) (c .before .args .e .now) 1 0)
 
 pub before-at-spec : {M : Type 1} → statement M
-before-at-spec = tie.close (tie.spec mul-word-at add-word-at word-at-requires returns)
+before-at-spec =
+    tie.close (tie.spec mul-result add-result mul-result-2 shared-slice-read-result returns)

@@ -18,15 +18,15 @@ call c = c .before .before .before .before
 find-requires : tie.Need-find-requires
 find-requires c κs = searched _ _ _ _ (c .before .before .pre)
 
-entry-at-requires : tie.Need-entry-at-requires
-entry-at-requires c κs = let h = c .before .before .before .pre in let q = c .find .ensures in omega (arith, q .high, h .sound .ok .inside, rooms _ _ _ (h .ok) .0)
+whole-entry-requires : tie.Need-whole-entry-requires
+whole-entry-requires c κs = let h = c .before .before .before .pre in let q = c .find .ensures in omega (arith, q .high, h .sound .ok .inside, rooms _ _ _ (h .ok) .0)
 
 -- the entry that was found holds the item
 found : (c : tie.After-struct-known) → let A = c .before .before .before .before .before .args in
-    Located (c .before .before .before .before .before .pre .head) (A .e .now) (A .a .now) (A .k) (A .n) (c .before .entry-at .result)
-found c = rw (c .before .entry-at .ensures) (located _ _ _ _ _ (c .before .before .before .before .before .pre) (c .before .before .find .ensures))
+    Located (c .before .before .before .before .before .pre .head) (A .e .now) (A .a .now) (A .k) (A .n) (c .before .whole-entry .result)
+found c = rw (c .before .whole-entry .ensures) (located _ _ _ _ _ (c .before .before .before .before .before .pre) (c .before .before .find .ensures))
 
-as-role : (c : tie.After-role-of) {role : Role} → c .role-of .result ≡ role → roleOf (c .before .before .entry-at .result .kind) ≡ role
+as-role : (c : tie.After-role-of) {role : Role} → c .role-of .result ≡ role → roleOf (c .before .before .whole-entry .result .kind) ≡ role
 as-role c q = sym (c .role-of .ensures) ∙ q
 
 sub-j : tie.Need-sub-j
@@ -109,7 +109,7 @@ descend-spec =
     tie.close
     (tie.spec
     find-requires
-    entry-at-requires
+    whole-entry-requires
     sub-j
     role-of-requires
     enum-told
