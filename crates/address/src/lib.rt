@@ -47,7 +47,7 @@ pub enum Look {
     Below(u64, Container),
 }
 
-// An item that is drawn has nothing behind its position.
+// An item that is drawn has nothing after its position.
 fn drawn_at(before: u64, rest: &[u64]) -> Named
     ensures { λ t. ⌜ t ≡ cond (allZero (now (rest .entry))) (At before) Nothing ⌝ }
 {
@@ -81,7 +81,7 @@ fn look_at(e: &[u64], a: &[u64], k: Container, q: u64, rest: &[u64]) -> Look
     look_in(a, sheet::entry_at(e, s.entry), rest)
 }
 
-// The item of a container at a position and the words behind it.
+// The item of a container at a position and the words after it.
 fn seek(e: &[u64], a: &[u64], k: Container, q: u64, rest: &[u64]) -> Named
     requires { ⌜ Seeks (now e) (now a) k (length (now rest)) ⌝ }
     ensures { λ t. ⌜ t ≡ sought (now (e .entry)) (now (a .entry)) (suc (length (now (rest .entry)))) k q (now (rest .entry)) ⌝ }

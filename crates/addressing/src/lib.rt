@@ -21,7 +21,7 @@ pub enum Start {
     Copy(u64, u64, Container, u64),
 }
 
-// Item j of the copies of a repeat, behind b positions.
+// Item j of the copies of a repeat, after b positions.
 fn copy_in(r: Entry, b: u64, j: u64) -> Start
     requires { ⌜ (0 < r .count) × (j ≤ most) ⌝ }
     ensures { λ s. ⌜ s ≡ Copy (j / r .count + 1) b (bodyOf r) (j % r .count) ⌝ }

@@ -54,7 +54,7 @@ fn assemble(
     roster::refused(34, 0)
 }
 
-// Lists the parts of the component layer that the file is, by a book: the bytes of the list, and zeros behind them in the output; or the
+// Lists the parts of the component layer that the file is, by a book: the bytes of the list, and zeros after them in the output; or the
 // reading's own number and place, 34 where it is no component layer, 17 where the room for the notes or for the links of the pins is short, the
 // first item at fault by 26, 27 or 28 and its place, 17 where the list does not fit. A refusal leaves zeros in the output. The other lent words
 // are left as a reading leaves them, and the work room as it may be.

@@ -144,7 +144,7 @@ fn add(e: &mut [u64], b: Builder, r: Entry, k: u64, h: u64) -> Builder
     }
 }
 
-// An entry more, behind which a container of height h opens; there is room for it.
+// An entry more, after which a container of height h opens; there is room for it.
 fn begin(e: &mut [u64], b: Builder, r: Entry, h: u64) -> Builder
     requires { ⌜ b .closed + b .high < entryRoom (now e) ⌝ }
     ensures { λ x. ⌜ (x ≡ inner b h) × (now (e .exit) ≡ pushed (now (e .entry)) (b .high) r) ⌝ }

@@ -1,4 +1,4 @@
-// Blocks and repeats closed, and the sheet finished: the innermost container's entries come to lie behind the closed ones.
+// Blocks and repeats closed, and the sheet finished: the innermost container's entries are put after the closed ones.
 use build::Builder;
 use sheet::Entry;
 ghost use mathlib.Core.Path.{_≡_};
@@ -58,7 +58,7 @@ fn repeat_left(o: Entry, first: u64, len: u64, t: u64) -> Entry
     }
 }
 
-// Turns the innermost container over to behind the closed ones, and leaves r for its opening entry.
+// Puts the innermost container, turned over, after the closed ones, and leaves r for its opening entry.
 fn settle(e: &mut [u64], b: Builder, r: Entry)
     requires { ⌜ Closes (now e) b ⌝ }
     ensures { λ _. ⌜ Left (now (e .entry)) (now (e .exit)) b r ⌝ }
@@ -139,7 +139,7 @@ fn clear_from(e: &mut [u64], p: usize)
     }
 }
 
-// The end of the marks: the top level comes to lie behind all that is closed, and 0 behind it.
+// The end of the marks: the top level is put after all that is closed, and 0 after it.
 pub fn finish(e: &mut [u64], b: Builder)
     requires { ⌜ b .closed + b .high ≤ entryRoom (now e) ⌝ }
     ensures { λ _. ⌜ Ended (now (e .entry)) (now (e .exit)) b ⌝ }

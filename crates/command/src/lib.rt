@@ -152,7 +152,7 @@ pub enum Command {
     End,
     Set(Setting),
     Operate(Operation),
-    // an operation behind a G code of the old book
+    // an operation after a G code of the old book
     Coded { code: Setting, operation: Operation },
     // Dn
     Select(u64),

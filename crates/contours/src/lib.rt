@@ -1,4 +1,4 @@
-// A contour's edges: each is counted in the contour's entry and put behind the others. The contour itself is put as an item without edges.
+// A contour's edges: each is counted in the contour's entry and put after the others. The contour itself is put as an item without edges.
 use build::Builder;
 use place::Item;
 use sheet::Entry;

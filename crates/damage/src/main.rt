@@ -32,7 +32,7 @@ fn value(v: u64, w: u64) -> u64 {
     }
 }
 
-// What asking for item n comes to: 0, 20 or 21.
+// What asking for item n answers: 0, 20 or 21.
 fn asked(head: &[u64; 8], e: &[u64], a: &[u64], n: u64) -> u64 {
     let mut out = [0; place::ITEM_WORDS];
     match descend::sheet_run(head, e, a, n, &mut out) {
@@ -42,7 +42,7 @@ fn asked(head: &[u64; 8], e: &[u64], a: &[u64], n: u64) -> u64 {
     }
 }
 
-// The first and the last item are there, and the one behind is not.
+// The first and the last item are there, and the one after is not.
 fn items_are(head: &[u64; 8], e: &[u64], a: &[u64], n: u64) -> bool {
     let past = asked(head, e, a, n);
     if n == 0 {
@@ -53,7 +53,7 @@ fn items_are(head: &[u64; 8], e: &[u64], a: &[u64], n: u64) -> bool {
     base::both(past == 20, base::both(first == 0, last == 0))
 }
 
-// What a store comes to: 0 refused, 1 answered, 2 answered wrong.
+// What is answered of a store: 0 refused, 1 answered, 2 answered wrong.
 fn outcome(head: &[u64; 8], e: &[u64], a: &[u64]) -> u64 {
     match descend::sheet_total(head, e, a) {
         Total::NotSheet => 0,

@@ -68,7 +68,7 @@ pub fn select(a: &[u64], p: Progress, n: u64) -> Stepped
     Stepped::Next(progress::with_graphics(graphics::with_aperture(chosen, g), p))
 }
 
-// What the parameters of a standard template come to, from their comma on; they are written as far as there is room.
+// The outcome of the parameters of a standard template, from their comma on; they are written as far as there is room.
 fn standard(kind: u64, t: &[u8], numbers: &mut [i64], used: usize) -> Outcome
     ensures { λ r. ⌜ Comes (standardOf kind (now (t .entry))) (now (numbers .entry)) (now (numbers .exit)) used r ⌝ }
 {
@@ -90,7 +90,7 @@ fn standard(kind: u64, t: &[u8], numbers: &mut [i64], used: usize) -> Outcome
     macros::answered(fault, pen)
 }
 
-// What an AD comes to whose template has that name in the file, by its parameters t from their comma on.
+// The outcome of an AD whose template has that name in the file, by its parameters t from their comma on.
 fn worked(
     kind: u64,
     file: &[u8],

@@ -134,7 +134,7 @@ pub fn sheet_item(head: &[u64; 8], e: &[u64], a: &[u64], n: u64) -> Answer
     Answer::NotSheet
 }
 
-// What a call for a run of items comes to.
+// The outcome of a call for a run of items.
 pub enum Fetch {
     Done,
     Past,

@@ -7,13 +7,13 @@ pub enum Coordinate {
     Value(i64),
 }
 
-// The coordinate that stands at a place of a text, and the place behind it.
+// The coordinate that stands at a place of a text, and the place after it.
 pub struct Taken {
     pub coordinate: Coordinate,
     pub next: usize,
 }
 
-// Digits that stand at a place of a text: their value, and the place behind them.
+// Digits that stand at a place of a text: their value, and the place after them.
 pub struct Digits {
     pub value: u64,
     pub next: usize,

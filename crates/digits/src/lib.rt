@@ -133,7 +133,7 @@ pub fn without_trailing_zeros(t: &[u8]) -> &[u8]
     base::up_to(t, n)
 }
 
-// The place behind the sign at a place, or that place where there is none.
+// The place after the sign at a place, or that place where there is none.
 fn past_sign(s: &[u8], at: usize) -> usize
     requires { ⌜ at ≤ length (now s) ⌝ }
     ensures { λ r. ⌜ r ≡ pastSign (now (s .entry)) at ⌝ }
@@ -158,7 +158,7 @@ fn onward(s: &[u8], from: usize, n: usize) -> usize
     from + n
 }
 
-// The coordinate of at most limit digits that stands at a place, and the place behind it.
+// The coordinate of at most limit digits that stands at a place, and the place after it.
 pub fn coordinate_at(s: &[u8], at: usize, limit: usize) -> Taken
     requires { ⌜ (at ≤ length (now s)) × (limit ≤ 12) ⌝ }
     ensures { λ r. ⌜ r ≡ coordinateAt (now (s .entry)) at limit ⌝ }

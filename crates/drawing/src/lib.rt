@@ -65,7 +65,7 @@ pub fn flash_items(g: Graphics) -> u64
     }
 }
 
-// D01 to end behind FS, whose points are near, with room for so many entries.
+// D01 to end after FS, whose points are near, with room for so many entries.
 fn near_draw_fault(g: Graphics, l: Level, room: u64, end: Point, o: Offset) -> u64
     requires { ⌜ Near g end o ⌝ }
     ensures { λ r. ⌜ r ≡ firstFault (nearDrawRules g l room end o) ⌝ }

@@ -1,4 +1,4 @@
-// The steps of D01 and D03: what each draws is put into the lent entries, behind what lies there.
+// The strokes of D01 and D03: what each draws is put into the lent entries, after what lies there.
 ghost use mathlib.Core.Path.{_≡_};
 ghost use mathlib.Core.Bool.{true, false};
 ghost use Prim.Native.Nat.{_+_, _≤_};

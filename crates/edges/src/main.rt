@@ -24,7 +24,7 @@ fn put(e: &mut [u64; 615], i: usize, r: Entry) {
     }
 }
 
-// An item of kind j + 1, j items behind the start of its container; points that its kind does not use are 0.
+// An item of kind j + 1, j items after the start of its container; points that its kind does not use are 0.
 fn item(j: u64) -> Entry
     requires { ⌜ j ≤ 4 ⌝ }
 {

@@ -1,4 +1,4 @@
-// What a macro's expression comes to: an expression may hold a term, a term a factor, a factor an expression in parentheses.
+// The value of a macro's expression: an expression may hold a term, a term a factor, a factor an expression in parentheses.
 ghost use mathlib.Core.Path.{_≡_};
 ghost use Prim.Native.Nat.{_-_, _<_, _^_};
 ghost use lib.IntN.{pos, natAbs};
@@ -118,7 +118,7 @@ fn times_over(token: Token) -> Sign
     }
 }
 
-// The operator at a place, with the token behind it at `next`.
+// The operator at a place, with the token after it at `next`.
 fn operator_of(sign: Sign, at: usize, next: usize) -> Operator
     ensures { λ r. ⌜ r ≡ operatorOf sign at next ⌝ }
 {
@@ -233,7 +233,7 @@ fn multiplied(second: bool, a: Worked, b: Worked) -> Worked
     }
 }
 
-// A term behind its sign.
+// A term after its sign.
 fn negate(minus: bool, w: Worked) -> Worked
     requires { ⌜ natAbs (w .value .millionths) < 10 ^ 12 ⌝ }
     ensures { λ r. ⌜ Negates minus w r ⌝ }
@@ -251,7 +251,7 @@ fn negate(minus: bool, w: Worked) -> Worked
     w
 }
 
-// The + or - behind what was read.
+// The + or - after what was read.
 fn sign_after(s: &[u8], w: Worked) -> Operator
     ensures { λ r. ⌜ After plusMinus (now (s .entry)) w r ⌝ }
 {
@@ -265,7 +265,7 @@ fn sign_after(s: &[u8], w: Worked) -> Operator
     }
 }
 
-// The x or / behind what was read.
+// The x or / after what was read.
 fn times_after(s: &[u8], w: Worked) -> Operator
     ensures { λ r. ⌜ After timesOver (now (s .entry)) w r ⌝ }
 {
@@ -373,7 +373,7 @@ fn expression(s: &[u8], at: usize, depth: usize, v: Variables) -> Worked
     w
 }
 
-// What the whole text of an expression comes to.
+// The value of the whole text of an expression.
 pub fn value_of(t: &[u8], v: Variables) -> Reckoned
     requires { ⌜ Fits (v .values) ⌝ }
     ensures { λ r. ⌜ Comes (v .values) (now (t .entry)) r ⌝ }

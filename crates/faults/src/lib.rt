@@ -2,7 +2,7 @@
 ghost use mathlib.Core.Path.{_≡_};
 ghost use Rattle.faults.specs.Order.{rankOf, testedBefore, sooner};
 
-// The rule behind which this one is tested, or itself where it is tested by its number.
+// The rule after which this one is tested, or itself where it is tested by its number.
 fn rank_of(n: u64) -> u64
     ensures { λ r. ⌜ r ≡ rankOf n ⌝ }
 {

@@ -4,7 +4,7 @@ ghost use mathlib.Core.Path.{_≡_};
 ghost use mathlib.Core.Bool.{cond};
 ghost use Rattle.fields.specs.Parts.{beginsText, isField, isPlain, partAfter, opensMacro};
 
-// How much of a command's text is known: nothing yet; `G`; `G0`; the `G4` of the old book; nothing behind `%`; `%A`; `%T`; `%TF`, `%TA` or
+// How much of a command's text is known: nothing yet; `G`; `G0`; the `G4` of the old book; nothing after `%`; `%A`; `%T`; `%TF`, `%TA` or
 // `%TO` before the comma; inside a field; that no field comes any more.
 pub enum Part {
     Start,
@@ -19,7 +19,7 @@ pub enum Part {
     Plain,
 }
 
-// Behind `G4` G04's text begins with this byte.
+// After `G4` G04's text begins with this byte.
 fn does_begin_text(b: u8) -> bool
     ensures { λ r. ⌜ r ≡ beginsText b ⌝ }
 {
@@ -72,7 +72,7 @@ fn pick(first: bool, p: Part, q: Part) -> Part
     q
 }
 
-// The part behind a byte.
+// The part after a byte.
 pub fn part_after(book: Book, part: Part, b: u8) -> Part
     ensures { λ r. ⌜ r ≡ partAfter book part b ⌝ }
 {

@@ -12,7 +12,7 @@ ghost use Rattle.figures.specs.Runs.{Whole, primitiveWords, slots, fetch
 // The words of a primitive in a run.
 pub const PRIMITIVE_WORDS: usize = 3;
 
-// What a call for a run comes to: done; 20, past the last primitive; 8, no aperture with the number; 21, not a sheet.
+// The outcome of a call for a run: done; 20, past the last primitive; 8, no aperture with the number; 21, not a sheet.
 pub enum Fetch {
     Done,
     Past,
@@ -20,7 +20,7 @@ pub enum Fetch {
     NotSheet,
 }
 
-// The place behind the first i primitives of the numbers from `from` up to `end`.
+// The place after the first i primitives of the numbers from `from` up to `end`.
 fn skip(numbers: &[i64], from: usize, end: usize, i: usize) -> usize
     requires { ⌜ Whole (now numbers) from end ⌝ }
     ensures { λ r. ⌜ Whole (now (numbers .entry)) r end × (primitivesIn (now (numbers .entry)) r end .list ≡ drop i (primitivesIn (now (numbers .entry)) from end .list)) ⌝ }
@@ -66,7 +66,7 @@ fn fill(numbers: &[i64], from: usize, end: usize, out: &mut [u64])
     }
 }
 
-// Primitives i, i + 1, .. of the aperture with a number, in as many slots of three words as there are; zeros behind the last.
+// Primitives i, i + 1, .. of the aperture with a number, in as many slots of three words as there are; zeros after the last.
 pub fn primitives_of(
     head: &[u64; 8],
     a: &[u64],

@@ -1,4 +1,4 @@
-// Word commands of the old book: which code stands in front, and what is left behind it; and the extended commands that it has and that
+// Word commands of the old book: which code stands in front, and what is left after it; and the extended commands that it has and that
 // are not read.
 ghost use mathlib.Core.Path.{_≡_};
 ghost use Rattle.base.specs.Bytes.{sameBytes};
@@ -21,9 +21,9 @@ pub enum Word {
     End,
     // a G code alone
     Code(u64),
-    // Dn, alone or behind G54: its number stands from this place on
+    // Dn, alone or after G54: its number stands from this place on
     Select(usize),
-    // D01, D02 or D03 behind a G code, 0 for none: its coordinates stand between the two places
+    // D01, D02 or D03 after a G code, 0 for none: its coordinates stand between the two places
     Operate {
         code: u64,
         operation: u64,
@@ -142,7 +142,7 @@ fn comment_of(s: &[u8]) -> Word
     Word::Note
 }
 
-// An operation, of what stands from a place on behind a code, or what is said where it is none.
+// An operation, of what stands from a place on after a code, or what is said where it is none.
 fn operate_of(code: u64, from: usize, s: &[u8], other: Word) -> Word
     ensures { λ r. ⌜ r ≡ operateOf code from (now (s .entry)) other ⌝ }
 {

@@ -11,7 +11,7 @@ ghost use Rattle.formats.specs.Raised.{Few, zerosBehind, raised};
 use digits::Coordinate;
 use digits::Taken;
 
-// How many digits of a coordinate stand before the point and how many behind it, whether zeros are left out at its end and not at its
+// How many digits of a coordinate stand before the point and how many after it, whether zeros are left out at its end and not at its
 // front, and whether it counts from the point before. Both numbers are 0 before FS.
 pub struct Format {
     pub integers: usize,
@@ -148,7 +148,7 @@ fn places(f: Format) -> usize
     f.integers + f.decimals
 }
 
-// How many digits a coordinate may have whose value is that of its digits as they are written; 0 where zeros stand behind them.
+// How many digits a coordinate may have whose value is that of its digits as they are written; 0 where zeros stand after them.
 pub fn exact_places(f: Format) -> usize
     ensures { λ r. ⌜ r ≡ exactPlaces f ⌝ }
 {
@@ -169,7 +169,7 @@ fn missing(all: usize, there: usize) -> usize
     0
 }
 
-// How many zeros stand in the value behind the digits as they are written.
+// How many zeros stand in the value after the digits as they are written.
 fn zeros_behind(f: Format, written: usize) -> usize
     requires { ⌜ Few f ⌝ }
     ensures { λ r. ⌜ r ≡ zerosBehind f written ⌝ }
@@ -182,7 +182,7 @@ fn zeros_behind(f: Format, written: usize) -> usize
     millionths
 }
 
-// A coordinate as it was read, with so many zeros behind it.
+// A coordinate as it was read, with so many zeros after it.
 fn raise(minus: bool, zeros: usize, c: Coordinate) -> Coordinate
     requires { ⌜ zeros ≤ 12 ⌝ }
     requires { ⌜ ((z : ℤ) → c ≡ Value z → natAbs z * 10 ^ zeros < 10 ^ 12) ⌝ }
@@ -197,7 +197,7 @@ fn raise(minus: bool, zeros: usize, c: Coordinate) -> Coordinate
     }
 }
 
-// The coordinate that stands at a place, by its format, and the place behind it.
+// The coordinate that stands at a place, by its format, and the place after it.
 pub fn coordinate_in(f: Format, s: &[u8], at: usize) -> Taken
     requires { ⌜ at ≤ length (now s) ⌝ }
     ensures { λ r. ⌜ r ≡ takenIn f (now (s .entry)) at ⌝ }

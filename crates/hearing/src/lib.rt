@@ -52,7 +52,7 @@ fn second_field(file: &[u8], place: usize, length: usize) -> Span
     nowhere()
 }
 
-// Where a text lies behind a command that says this of it.
+// Where a text lies after a command that says this of it.
 pub fn text_after(file: &[u8], old: Span, s: Saying) -> Span
     ensures { λ r. ⌜ Follows (now (file .entry)) 0 old r s ⌝ }
 {
@@ -111,7 +111,7 @@ fn designate(file: &[u8], names: &mut [u64], used: usize, p: Span) -> Designated
     }
 }
 
-// The designator behind a command that says this of it.
+// The designator after a command that says this of it.
 pub fn designator_after(
     file: &[u8],
     names: &mut [u64],
@@ -159,7 +159,7 @@ fn function_is(s: &[u8]) -> u64
     0
 }
 
-// What apertures are for behind a command that says this of `.AperFunction`.
+// What apertures are for after a command that says this of `.AperFunction`.
 pub fn function_after(file: &[u8], old: u64, s: Saying) -> u64
     ensures { λ r. ⌜ FunctionFollows (now (file .entry)) old r s ⌝ }
 {

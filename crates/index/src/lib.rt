@@ -11,7 +11,7 @@ ghost use Rattle.index.specs.Names.{nameOf, keyOf, named, Named};
 // The words of a record.
 pub const RECORD_WORDS: usize = 8;
 
-// What a search comes to: the record sought, or the word of the link that is to lead to a new one.
+// The outcome of a search: the record sought, or the word of the link that is to lead to a new one.
 pub enum Search {
     At(usize),
     Free(usize),

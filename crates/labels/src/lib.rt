@@ -48,7 +48,7 @@ pub fn refused(number: u64) -> Answer
     Answer { number, label }
 }
 
-// What stands behind the first comma from `from` on, up to the first `*`; at 0 to 0 without a comma before it.
+// What stands after the first comma from `from` on, up to the first `*`; at 0 to 0 without a comma before it.
 fn value_in(s: &[u8], from: usize) -> Span
     ensures { λ r. ⌜ r ≡ valueIn (now (s .entry)) from ⌝ }
 {
@@ -99,7 +99,7 @@ fn is_named(file: &[u8], name: &[u8], l: Label) -> bool
     text::is(base::part(file, n.from, n.to), name)
 }
 
-// Whether it is the one that is asked for: by its name, or as the one behind so many others.
+// Whether it is the one that is asked for: by its name, or as the one after so many others.
 fn wants(file: &[u8], named: bool, name: &[u8], left: usize, l: Label) -> bool
     ensures { λ r. ⌜ r ≡ wants (now (file .entry)) named (now (name .entry)) left l ⌝ }
 {

@@ -13,7 +13,7 @@ ghost use mathlib.Core.Path.{_≡_};
 ghost use Rattle.changes.specs.After.{Reached};
 ghost use Rattle.lent.specs.Stepped.{workedNumber, operationFault, codedFault, definitionFault, bracketFault, deedFault, faultOf, behind, steppedOf};
 
-// What the parameters of an AD come to.
+// The outcome of the parameters of an AD.
 pub enum Worked {
     Fine,
     // 9: an expression of its macro has no value, or one too large
@@ -38,13 +38,13 @@ pub struct Known {
     pub full: bool,
 }
 
-// The number of the rule that the command breaks, 0 for none, and the state behind the command.
+// The number of the rule that the command breaks, 0 for none, and the state after the command.
 pub struct Stepped {
     pub number: u64,
     pub graphics: Graphics,
 }
 
-// The number of what an AD comes to.
+// The number of an AD's outcome.
 fn worked_number(w: Worked) -> u64
     ensures { λ r. ⌜ r ≡ workedNumber w ⌝ }
 {
@@ -66,7 +66,7 @@ fn operation_fault(g: Graphics, l: Level, o: Operation, k: Known) -> u64
     }
 }
 
-// An operation behind a G code, which takes effect first: of the rules that the two break, the one tested first.
+// An operation after a G code, which takes effect first: of the rules that the two break, the one tested first.
 fn coded_fault(g: Graphics, l: Level, code: Setting, o: Operation, k: Known) -> u64
     ensures { λ r. ⌜ r ≡ codedFault g l code o k ⌝ }
 {
@@ -144,7 +144,7 @@ fn fault_of(g: Graphics, l: Level, c: Command, k: Known) -> u64
     }
 }
 
-// The state behind a command that is accepted.
+// The state after a command that is accepted.
 fn behind(g: Graphics, c: Command, k: Known) -> Graphics
     requires { ⌜ Reached c g ⌝ }
     ensures { λ r. ⌜ r ≡ behind g c k ⌝ }

@@ -6,7 +6,7 @@ ghost use lib.ListN.{length, drop};
 ghost use Rattle.io.specs.Counts.{Counts};
 ghost use Rattle.lines.specs.Line.{Added, decimalOf, signedOf, kindOf, fieldOf, lineOf};
 
-// Puts bytes behind those before a place, and answers the place behind them.
+// Puts bytes after those before a place, and answers the place after them.
 pub fn add(out: &mut [u8], at: usize, s: &[u8]) -> usize
     requires { ⌜ at + length (now s) ≤ length (now out) ⌝ }
     ensures { λ r. ⌜ Added (now (out .entry)) (now (out .exit)) at r (now (s .entry)) ⌝ }
@@ -54,7 +54,7 @@ fn add_kind(out: &mut [u8], at: usize, w: u64) -> usize
     }
 }
 
-// Word i of an item, behind a tab.
+// Word i of an item, after a tab.
 fn add_field(out: &mut [u8], at: usize, i: usize, w: u64) -> usize
     requires { ⌜ at + 22 ≤ length (now out) ⌝ }
     ensures { λ r. ⌜ Added (now (out .entry)) (now (out .exit)) at r (fieldOf i w) ⌝ }
@@ -72,7 +72,7 @@ fn add_field(out: &mut [u8], at: usize, i: usize, w: u64) -> usize
     add_signed(out, from, w)
 }
 
-// The line of item k, whose words these are, in a room for the longest line: how many bytes it takes. Those behind it stay.
+// The line of item k, whose words these are, in a room for the longest line: how many bytes it takes. Those after it stay.
 pub fn item_line(out: &mut [u8; 351], k: u64, words: &[u64]) -> usize
     ensures { λ r. ⌜ Counts r (now (out .exit)) ⌝ }
     ensures { λ r. ⌜ now (out .exit) ≡ lineOf k (now (words .entry)) ++ drop r (now (out .entry)) ⌝ }

@@ -5,7 +5,7 @@ use libc::STDOUT_FILENO;
 use reader::Answer;
 ghost use Prim.Native.Nat.{_+_, _≤_, _^_, _<_};
 
-// A word and a number behind it, tab-parted.
+// A word and a number after it, tab-parted.
 fn say(word: &[u8], n: u64) {
     io::write_all(STDOUT_FILENO, word);
     io::write_all(STDOUT_FILENO, b"\t");

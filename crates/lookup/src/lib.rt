@@ -34,7 +34,7 @@ pub struct Primitive {
     pub count: usize,
 }
 
-// What a search comes to: a record; none with the number; or links that no reading leaves.
+// The outcome of a search: a record; none with the number; or links that no reading leaves.
 pub enum Led {
     At(usize),
     Nobody,
@@ -47,7 +47,7 @@ pub enum Counted {
     Broken,
 }
 
-// What a lookup comes to: the aperture; none with the number, 8; or a store that is not a sheet, 21.
+// The outcome of a lookup: the aperture; none with the number, 8; or a store that is not a sheet, 21.
 pub enum Lookup {
     Is(Shape),
     Unknown,

@@ -18,20 +18,20 @@ pub struct Pen {
     pub over: bool,
 }
 
-// What an expression comes to, if it comes to anything.
+// The value of an expression, if it has one.
 pub struct Worth {
     pub fine: bool,
     pub value: Amount,
 }
 
-// A primitive's parameters: whether each has a value, what the rules ask of them, and the pen behind them.
+// A primitive's parameters: whether each has a value, what the rules ask of them, and the pen after them.
 pub struct Gathered {
     pub fine: bool,
     pub asked: Asked,
     pub pen: Pen,
 }
 
-// A block, or all of them: what is at fault (0, 9 or 10), the variables and the pen behind it.
+// A block, or all of them: what is at fault (0, 9 or 10), the variables and the pen after it.
 pub struct Done {
     pub fault: u64,
     pub variables: Variables,
@@ -60,7 +60,7 @@ pub fn write(numbers: &mut [i64], p: Pen, a: Amount) -> Pen
     Pen { at, over: true }
 }
 
-// What the text of an expression comes to.
+// The value of the text of an expression.
 fn worth_of(t: &[u8], v: Variables) -> Worth
     requires { ⌜ Fits (v .values) ⌝ }
     ensures { λ r. ⌜ Comes (v .values) (now (t .entry)) r ⌝ }

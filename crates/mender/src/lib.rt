@@ -151,7 +151,7 @@ fn changes_of(w: Written) -> usize
     }
 }
 
-// Mends a file over zeros and reads what it comes to; what a refusal leaves is not cleared.
+// Mends a file over zeros and reads the mended one; what a refusal leaves is not cleared.
 fn mend_over(
     book: Book,
     file: &[u8],
@@ -205,7 +205,7 @@ pub fn clear(
 }
 
 // Mends a file by a book: the mended file in out, its changes in report, two words each, kind and place, its sheet in the stores, and
-// zeros behind each; or 1, 33 or 17, and zeros in everything that is lent.
+// zeros after each; or 1, 33 or 17, and zeros in everything that is lent.
 pub fn mend(
     book: Book,
     file: &[u8],

@@ -146,7 +146,7 @@ fn note(out: &mut [u64], n: usize, s: &[u64]) -> bool
     true
 }
 
-// Notes w behind the words before, where all of them fit.
+// Notes w after the words before, where all of them fit.
 fn note_on(noted: &mut [u64], t: Tally, w: &[u64]) -> Tally
     ensures { λ r. ⌜ Noted (now (noted .entry)) t (now (w .entry)) r (now (noted .exit)) ⌝ }
 {

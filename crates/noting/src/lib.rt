@@ -48,7 +48,7 @@ pub struct Heard {
     pub settings: usize,
 }
 
-// Both designators behind a command.
+// Both designators after a command.
 fn designators(file: &[u8], names: &mut [u64], used: usize, n: Note, c: Placed) -> Both
     requires { ⌜ Designators (now file) (now names) used ⌝ }
     ensures { λ r. ⌜ HearsBoth (now (file .entry)) (now (names .entry)) (now (names .exit)) used n c r ⌝ }
@@ -65,7 +65,7 @@ fn designators(file: &[u8], names: &mut [u64], used: usize, n: Note, c: Placed) 
     }
 }
 
-// Where the first field of an object attribute lies behind a command.
+// Where the first field of an object attribute lies after a command.
 fn text_of(file: &[u8], name: &[u8], old: Span, c: Placed) -> Span
     ensures { λ r. ⌜ TextFollows (now (file .entry)) 0 (now (name .entry)) old r c ⌝ }
 {
@@ -81,7 +81,7 @@ fn number_of(file: &[u8], name: &[u8], old: Span, c: Placed) -> Span
     hearing::number_after(file, old, s)
 }
 
-// All texts behind a command.
+// All texts after a command.
 fn hear(file: &[u8], names: &mut [u64], used: usize, n: Note, c: Placed) -> Heard
     requires { ⌜ Designators (now file) (now names) used ⌝ }
     ensures { λ r. ⌜ HearsAll (now (file .entry)) (now (names .entry)) (now (names .exit)) used n c r ⌝ }
@@ -211,7 +211,7 @@ fn declares(t: &[u8], made: Made) -> bool
     }
 }
 
-// What is known behind a command.
+// What is known after a command.
 fn note_command(
     file: &[u8],
     notes: &mut [u64],

@@ -26,7 +26,7 @@ pub struct Field {
     pub value: i64,
 }
 
-// A field, and the place behind it.
+// A field, and the place after it.
 pub struct TakenField {
     pub field: Field,
     pub next: usize,
@@ -300,7 +300,7 @@ pub fn operates(w: Written) -> Command
     command::judged(w.formless, w.long, Command::Operate(operation))
 }
 
-// An operation behind a G code.
+// An operation after a G code.
 pub fn coded(code: Setting, w: Written) -> Command
     ensures { λ r. ⌜ r ≡ coded code w ⌝ }
 {

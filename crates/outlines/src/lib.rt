@@ -78,7 +78,7 @@ pub fn outline_of(book: Book, t: &[u8]) -> Outline
     newer_outline(t)
 }
 
-// Where the next command stands, behind one that does this.
+// Where the next command stands, after one that does this.
 pub fn region_after(region: Region, o: Outline) -> Region
     ensures { λ r. ⌜ r ≡ regionAfter region o ⌝ }
 {

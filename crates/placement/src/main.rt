@@ -2,7 +2,7 @@
 use libc::STDIN_FILENO;
 use libc::STDOUT_FILENO;
 
-// A word and a number behind it, tab-parted.
+// A word and a number after it, tab-parted.
 fn say(word: &[u8], n: u64) {
     io::write_all(STDOUT_FILENO, word);
     io::write_all(STDOUT_FILENO, b"\t");

@@ -1,4 +1,4 @@
-// The commands that read and write none of the lent rooms: each by its rules, and what is known behind it.
+// The commands that read and write none of the lent rooms: each by its rules, and what is known after it.
 ghost use Prim.Native.Nat.{ℕ};
 ghost use mathlib.Core.Path.{_≡_};
 ghost use mathlib.Core.Bool.{true};
@@ -50,7 +50,7 @@ pub fn fault_of(g: Graphics, l: Level, c: Command) -> u64
     }
 }
 
-// A plain command: its fault, or the graphics state behind it.
+// A plain command: its fault, or the graphics state after it.
 pub fn set(p: Progress, c: Command) -> Stepped
     requires { ⌜ isPlain c ≡ true ⌝ }
     ensures { λ r. ⌜ ((text : List ℕ) (place : ℕ) → StepsTo (λ room s. stepOf room text place c s) (λ w. Unit) (λ w. w) p r) ⌝ }

@@ -64,7 +64,7 @@ pub fn spans(e: &[u64], p: usize, n: usize) -> u64
     so_far
 }
 
-// The first of n entries from p on that holds position m; the place behind them where none does.
+// The first of n entries from p on that holds position m; the place after them where none does.
 pub fn holder(e: &[u64], p: usize, n: usize, m: u64) -> Spot
     requires { ⌜ Spans (now e) p n ⌝ }
     ensures { λ s. ⌜ s ≡ spot (spanAt (now (e .entry))) p n m ⌝ }

@@ -24,7 +24,7 @@ pub struct Progress {
     pub numbers: usize,
 }
 
-// What a command comes to: how far reading has come behind it, or the number of the first rule that it breaks.
+// The outcome of a command: how far reading has come after it, or the number of the first rule that it breaks.
 pub enum Stepped {
     Next(Progress),
     Fault(u64),
@@ -39,7 +39,7 @@ pub struct Stroke {
     pub contour: usize,
 }
 
-// What an operation comes to: what it changes, or the number of the first rule that it breaks. `Other`: the command is no operation.
+// The outcome of an operation: what it changes, or the number of the first rule that it breaks. `Other`: the command is no operation.
 pub enum Struck {
     Next(Stroke),
     Fault(u64),

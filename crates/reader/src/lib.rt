@@ -1,4 +1,4 @@
-// The call for a reading: every string of bytes comes to a sheet in the lent words, or to a refusal that leaves them all zero.
+// The call for a reading: every string of bytes is read into a sheet in the lent words, or refused, and then they are all zero.
 ghost use mathlib.Core.Bool.{true};
 ghost use mathlib.Core.Path.{_≡_};
 ghost use Prim.Native.Nat.{_+_, _≤_};
@@ -84,7 +84,7 @@ fn run_over(
     }
 }
 
-// Finishes the sheet: the top level comes to lie behind what is closed. Its head.
+// Finishes the sheet: the top level is put after what is closed. Its head.
 fn finish(e: &mut [u64], p: Progress) -> [u64; 8]
     requires { ⌜ p .builder .closed + p .builder .high ≤ entryRoom (now e) ⌝ }
     ensures { λ r. ⌜ (r ≡ headOf (unitIn (p .graphics .header)) (p .builder) (p .apertures) (p .macros) (p .numbers))

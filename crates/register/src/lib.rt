@@ -12,7 +12,7 @@ ghost use Rattle.register.specs.Wide.{wide, nameWords, relinked, searchO
 // The words of a name.
 const NAME_WORDS: usize = 2;
 
-// What a search comes to: the record sought, or the record whose link, high or low, is to lead to a new one.
+// The outcome of a search: the record sought, or the record whose link, high or low, is to lead to a new one.
 pub enum Found {
     At(usize),
     Free { at: usize, high: bool },

@@ -28,7 +28,7 @@ pub fn refused(number: u64, place: usize) -> Answer
     }
 }
 
-// The answer behind the last record; the room is cleared where the list does not fit.
+// The answer after the last record; the room is cleared where the list does not fit.
 fn finished(out: &mut [u8], pen: Pen) -> Answer
     ensures { λ r. ⌜ (pen .full ≡ true → (r ≡ answered 17 0 0) × (now (out .exit) ≡ replicate (length (now (out .entry))) 0))
         × (pen .full ≡ false → (r ≡ answered 0 0 (pen .at)) × (now (out .exit) ≡ now (out .entry))) ⌝ }

@@ -36,7 +36,7 @@ pub enum End {
     Fault(Refusal),
 }
 
-// What a run over the commands comes to: their end, or it asks where a name is set twice.
+// The outcome of a run over the commands: their end, or it asks where a name is set twice.
 pub enum Outcome {
     Ends(End),
     Asks,

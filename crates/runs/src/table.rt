@@ -1,4 +1,4 @@
-// A sheet of thirteen items: a block of three, flashed in the body of a repeat of four copies, and a line behind the repeat.
+// A sheet of thirteen items: a block of three, flashed in the body of a repeat of four copies, and a line after the repeat.
 pub const HEAD: [u64; 8] = [5716828633109713478, 1, 7, 2, 0, 0, 3, 13];
 
 pub const ENTRIES: [u64; 105] = [

@@ -29,7 +29,7 @@ pub fn pick(test: bool, yes: Saying, no: Saying) -> Saying
     if test { yes } else { no }
 }
 
-// The value behind the first comma from `from` on, up to the first `*`.
+// The value after the first comma from `from` on, up to the first `*`.
 fn value_in(s: &[u8], from: usize) -> Saying
     ensures { λ r. ⌜ r ≡ valueIn (now (s .entry)) from ⌝ }
 {

@@ -1,6 +1,6 @@
 // Macros of document 002, KiCad's rounded rectangle and document 01's roundings, each with the numbers that were worked out by hand: before the
 // parameters of a primitive a hundred for each of them, and the code.
-// The blocks stand behind the `*` of the macro's name, the parameters behind the comma of the AD.
+// The blocks stand after the `*` of the macro's name, the parameters after the comma of the AD.
 use command::Command;
 use command::Definition;
 use libc::STDOUT_FILENO;

@@ -1,5 +1,5 @@
 // One graphics state stepped through commands, accepted and refused, each by a state that is lent and handed back. A line is the
-// command as a file has it, without `%` and `*`, its number, and the state behind it. The file `stdout` was worked out by hand, from
+// command as a file has it, without `%` and `*`, its number, and the state after it. The file `stdout` was worked out by hand, from
 // documents 01 and, for a film of the old edition, 02.
 use command::Axis;
 use command::Bracket;
@@ -142,7 +142,7 @@ fn named(taken: bool, full: bool) -> Known {
     }
 }
 
-// An AD whose macro is not known, or whose parameters come to this.
+// An AD whose macro is not known, or whose parameters have this outcome.
 fn asked(unknown: bool, worked: Worked) -> Known {
     let aperture = no_aperture();
     Known {
@@ -219,7 +219,7 @@ fn arc(x: Axis, y: Axis, i: i64, signed: bool) -> Command {
     Command::Operate(round_line(x, y, i, signed))
 }
 
-// An operation behind a G code.
+// An operation after a G code.
 fn coded(code: Setting, operation: Operation) -> Command {
     Command::Coded { code, operation }
 }

@@ -27,7 +27,7 @@ use progress::Progress;
 use progress::Stepped;
 use progress::Struck;
 
-// The operation that a command has, alone or behind a G code; or it is none.
+// The operation that a command has, alone or after a G code; or it is none.
 pub enum Held {
     Operation(Operation),
     Nothing,
@@ -46,7 +46,7 @@ fn operate(e: &mut [u64], p: Progress, place: u64, o: Operation) -> Struck
     }
 }
 
-// What a code with this fault, 0 for none, and the operation behind it come to together: the fault tested first, or what is behind both.
+// The outcome of a code with this fault, 0 for none, and of the operation after it: the fault tested first, or what is after both.
 fn joined(fault: u64, r: Struck) -> Struck
     ensures { λ t. ⌜ t ≡ joined fault r ⌝ }
 {
@@ -195,7 +195,7 @@ fn held_in(c: Command) -> Held
     }
 }
 
-// The operation of a command, behind a code with this fault, 0 for none.
+// The operation of a command, after a code with this fault, 0 for none.
 pub fn operation(e: &mut [u64], p: Progress, fault: u64, place: u64, c: Command) -> Struck
     requires { ⌜ Known (λ w. w .entries ≡ now e) p ⌝ }
     ensures { λ r. ⌜ (length (now (e .exit)) ≡ length (now (e .entry)))

@@ -33,7 +33,7 @@ const KEPT_WORDS: usize = 6;
 
 pub const SCRATCH_WORDS: usize = 8;
 
-// What the call comes to.
+// The outcome of the call.
 pub enum Outcome {
     Done,
     Short,
@@ -234,7 +234,7 @@ fn top_row(e: &[u64], s: &[u64], q: Asked, k: Container) -> Row
     so_far
 }
 
-// Lists record b behind m others, where it is a block of height h; how many are listed then.
+// Lists record b after m others, where it is a block of height h; how many are listed then.
 fn list_block(a: &[u64], n: usize, h: u64, b: usize, m: usize, s: &mut [u64]) -> usize
     requires { ⌜ (b < apertureRoom (now a)) × (n ≤ length (now s) / 8) × (m ≤ n) ⌝ }
     ensures { λ r. ⌜ (r ≡ m + flagWord (isAt (now (a .entry)) h b)) × (now (s .exit) ≡ withListed (now (a .entry)) n h b m (now (s .entry))) ⌝ }

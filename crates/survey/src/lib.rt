@@ -202,7 +202,7 @@ fn fill(head: &[u64; 8], e: &[u64], a: &[u64], s: &mut [u64], out: &mut [u64])
     summary::fill(head, e, a, s, out);
 }
 
-// The summary of a sheet: five words for each aperture record, in store order, and for the regions; what is behind them is 0. `scratch`
+// The summary of a sheet: five words for each aperture record, in store order, and for the regions; what is after them is 0. `scratch`
 // has eight words for each aperture record.
 pub fn summary(
     head: &[u64; 8],

@@ -19,7 +19,7 @@ pub struct Macro {
     pub end: usize,
 }
 
-// Stores the words w of a record behind the records in use, and lets a link lead there; without room for them nothing changes.
+// Stores the words w of a record after the records in use, and lets a link lead there; without room for them nothing changes.
 fn put_record(s: &mut [u64], used: usize, link: usize, w: &[u64]) -> bool
     requires { ⌜ length (now w) ≡ recordWidth ⌝ }
     ensures { λ t. ⌜ (t ≡ hasRoom (now (s .entry)) used) × (now (s .exit) ≡ added (now (s .entry)) used link (now (w .entry))) ⌝ }

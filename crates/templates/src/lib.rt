@@ -5,7 +5,7 @@ ghost use Rattle.templates.specs.Templates.{withHole, circle, rectangle,
 use decimal::Amount;
 use primitives::Asked;
 
-// So many parameters, and perhaps a hole behind them.
+// So many parameters, and perhaps a hole after them.
 fn with_hole(n: u64, q: Asked, hole: Amount) -> bool
     requires { ⌜ n < 100 ⌝ }
     ensures { λ r. ⌜ r ≡ withHole n q hole ⌝ }

@@ -58,7 +58,7 @@ fn is_numeral(b: u8) -> bool
     base::either(digits::is_digit(b), b == b'.')
 }
 
-// A byte that a digit or a point behind it belongs to.
+// A byte that a digit or a point after it belongs to.
 fn is_joined(b: u8) -> bool
     ensures { λ r. ⌜ r ≡ joins b ⌝ }
 {
@@ -103,7 +103,7 @@ fn in_variables(n: Natural) -> Number
     }
 }
 
-// The number of the variable that these bytes behind a `$` write.
+// The number of the variable that these bytes after a `$` write.
 pub fn variable_number(t: &[u8]) -> Number
     ensures { λ r. ⌜ r ≡ variableNumber (now (t .entry)) ⌝ }
 {

@@ -27,7 +27,7 @@ fn comment_of(s: &[u8]) -> Command
     )
 }
 
-// Dn, of what stands behind its D.
+// Dn, of what stands after its D.
 fn select_of(t: &[u8]) -> Command
     ensures { λ r. ⌜ r ≡ selectOf (now (t .entry)) ⌝ }
 {
@@ -79,7 +79,7 @@ fn pick(test: bool, yes: Setting, no: Setting) -> Setting
     if test { yes } else { no }
 }
 
-// What a G code from G36 on sets: what is left of the table behind the rows of G01, G02 and G03. Any but those of the list is 91.
+// What a G code from G36 on sets: what is left of the table after the rows of G01, G02 and G03. Any but those of the list is 91.
 fn later_setting_of(code: u64) -> Setting
     ensures { λ r. ⌜ settingOf code ≡ pick (eqb code 1) Linear (pick (eqb code 2) Clockwise (pick (eqb code 3) Counterclockwise r)) ⌝ }
 {
@@ -108,7 +108,7 @@ fn setting_of(code: u64) -> Setting
     later_setting_of(code)
 }
 
-// An operation, alone where the code is 0, else behind that G code.
+// An operation, alone where the code is 0, else after that G code.
 fn operated(code: u64, w: Written) -> Command
     ensures { λ r. ⌜ r ≡ operated code w ⌝ }
 {
