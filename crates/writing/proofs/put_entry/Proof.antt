@@ -13,13 +13,19 @@ word-of-requires : tie.Need-word-of-requires
 word-of-requires c κs = search needs
 
 put-pins-requires : tie.Need-put-pins-requires
-put-pins-requires c κs = (c .before .before .before .before .before .before .before .before .before .before .before .before .before .before .pre .0, rw (c .before .word-of .ensures) (c .before .before .before .before .before .before .before .before .before .before .before .before .before .before .pre .1), penned (c .before .before .before .before .put-main .ensures))
+put-pins-requires c κs =
+    let put-main = c .before .before .before .before in
+    let entry = put-main .before .before .before .before .before in
+    let start = entry .before .before .before .before .before in
+    (start .pre .0, rw (c .before .word-of .ensures) (start .pre .1), penned (put-main .put-main .ensures))
 
 same-length : tie.Need-same-length
 same-length c = search needs
 
 returns : tie.Need-returns
-returns c = λ l of ks w. behind (c .before .before .before .before .before .before .before .put-main .ensures) (c .before .before .put-pins .ensures l of ks (rw (c .before .before .before .before .word-of .ensures) w))
+returns c =
+    let word-of = c .before .before .before .before in
+    λ l of ks w. behind (word-of .before .before .before .put-main .ensures) (c .before .before .put-pins .ensures l of ks (rw (word-of .word-of .ensures) w))
 
 pub put-entry-spec : {M : Type 1} → statement M
 put-entry-spec =

@@ -44,7 +44,13 @@ same-length c = search needs
 
 returns : tie.Need-returns
 unfolding mainBy
-returns c = let a = c .before .before .before .before .before .before .before .before .before .before .before .before .before .before .before .before .before .before .before .before .before .before .args in is-also (λ i. mainRow ((c .before .before .before .before .before .before .before .part .ensures ∙ (λ j. slice ((c .before .before .before .before .before .before .before .before .before .before .before .index .ensures ∙ c .before .before .before .before .before .before .before .before .before .before .before .before .word-of .ensures) j) ((c .before .before .before .before .before .before .before .before .before .index2 .ensures ∙ c .before .before .before .before .before .before .before .before .before .before .word-of2 .ensures) j) (a .file .now))) i) (a .s .end) (c .before .before .before .before .before .before .part2 .ensures i) (c .before .before .before .before .before .part3 .ensures i) (c .before .before .before .before .part4 .ensures i) (c .before .before .before .part5 .ensures i)) (c .before .before .main-row .ensures)
+returns c =
+    let part3 = c .before .before .before .before .before in
+    let index2 = part3 .before .before .before .before in
+    let word-of = index2 .before .before .before in
+    let end = word-of .before .before .before .before .before in
+    let start = end .before .before .before .before .before in
+    let a = start .args in is-also (λ i. mainRow ((part3 .before .before .part .ensures ∙ (λ j. slice ((index2 .before .before .index .ensures ∙ word-of .word-of .ensures) j) ((index2 .index2 .ensures ∙ index2 .before .word-of2 .ensures) j) (a .file .now))) i) (a .s .end) (part3 .before .part2 .ensures i) (part3 .part3 .ensures i) (c .before .before .before .before .part4 .ensures i) (c .before .before .before .part5 .ensures i)) (c .before .before .main-row .ensures)
 
 pub put-main-spec : {M : Type 1} → statement M
 put-main-spec =

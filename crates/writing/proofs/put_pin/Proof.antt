@@ -21,7 +21,10 @@ same-length c = search needs
 
 returns : tie.Need-returns
 unfolding pinBy
-returns c = is-also (ap (λ (t : List ℕ). pinRow t (c .before .before .before .before .before .before .before .before .before .before .args .s .end)) (c .before .before .before .part .ensures)) (c .before .before .pin-row .ensures)
+returns c =
+    let p = c .before .before .before .before .before in
+    let start = p .before .before .before .before .before in
+    is-also (ap (λ (t : List ℕ). pinRow t (start .args .s .end)) (c .before .before .before .part .ensures)) (c .before .before .pin-row .ensures)
 
 pub put-pin-spec : {M : Type 1} → statement M
 put-pin-spec = tie.close (tie.spec part-requires pin-row-requires same-length returns)

@@ -21,8 +21,20 @@ Inv-loop file e a top notes operations roles roled pins first out₀ link₀ q�
 abbrev μ-loop : tie.MeasureT-loop
 μ-loop file e a top notes operations roles roled pins first out₀ link₀ q₀ out link q = link
 
+-- the places that facts are read at
+abbrev call : tie.After-shared-slice-known5 Inv-loop μ-loop → tie.Start Inv-loop μ-loop
+call c = c .before .before .before .before .before
+
+abbrev at-entry : tie.After-index Inv-loop μ-loop → tie.After-shared-slice-known5 Inv-loop μ-loop
+at-entry c = c .before .before .before .before .before
+
+abbrev at-index : tie.After-put-pin Inv-loop μ-loop → tie.After-index Inv-loop μ-loop
+at-index c = c .before .before .before .before .before
+
 loop-holds : tie.Need-loop-holds Inv-loop μ-loop
-loop-holds c = (c .before .before .before .before .before .before .before .pre .1, refl, λ l of ks w. putting-start _ (c .before .before .before .before .before .before .before .pre .2) w)
+loop-holds c =
+    let start = call (c .before .before) in
+    (start .pre .1, refl, λ l of ks w. putting-start _ (start .pre .2) w)
 
 sub-index : tie.Need-sub-index Inv-loop μ-loop
 sub-index c = let t = c .loop-test .taken in omega arith
@@ -46,16 +58,29 @@ word-at-requires-2 : tie.Need-word-at-requires-2 Inv-loop μ-loop
 word-at-requires-2 c κs = search needs
 
 see-requires : tie.Need-see-requires Inv-loop μ-loop
-see-requires c κs = let s = step (c .before .before .before .before .loop .inv .0 .walks) (c .before .before .before .loop-test .taken) in let h = s .below in let e = c .before .word-at .ensures ∙ ap (λ (j : ℕ). getD (c .before .before .before .before .before .before .before .before .before .before .before .before .args .pins .now) (j * 2) 0) (c .before .before .index .ensures) in (c .before .before .before .before .before .before .before .before .before .before .before .before .pre .0, rw e h)
+see-requires c κs =
+    let index = c .before .before in
+    let entry = index .before .before .before .before .before in
+    let start = entry .before .before .before .before .before in
+    let s = step (c .before .before .before .before .loop .inv .0 .walks) (c .before .before .before .loop-test .taken) in let h = s .below in let e = c .before .word-at .ensures ∙ ap (λ (j : ℕ). getD (start .args .pins .now) (j * 2) 0) (index .index .ensures) in (start .pre .0, rw e h)
 
 put-pin-requires : tie.Need-put-pin-requires Inv-loop μ-loop
 put-pin-requires c κs = search needs
 
 loop-less : tie.Need-loop-less Inv-loop μ-loop
-loop-less c = let s = step (c .before .before .before .before .before .before .before .before .before .loop .inv .0 .walks) (c .before .before .before .before .before .before .before .before .loop-test .taken) in let h = s .less in let e = c .before .before .before .before .before .word-at2 .ensures ∙ ap (λ (j : ℕ). getD (c .before .before .before .before .before .before .before .before .before .before .before .before .before .before .before .before .before .args .pins .now) (j * 2 + 1) 0) (c .before .before .before .before .before .before .before .index .ensures) in rw e h
+loop-less c =
+    let put-pin = c .before .before in
+    let index = put-pin .before .before .before .before .before in
+    let entry = index .before .before .before .before .before in
+    let start = entry .before .before .before .before .before in
+    let s = step (index .before .before .loop .inv .0 .walks) (index .before .loop-test .taken) in let h = s .less in let e = c .before .before .before .before .before .word-at2 .ensures ∙ ap (λ (j : ℕ). getD (start .args .pins .now) (j * 2 + 1) 0) (index .index .ensures) in rw e h
 
 loop-again : tie.Need-loop-again Inv-loop μ-loop
-loop-again c = let i = c .before .before .before .before .before .before .before .before .before .loop .inv in let t = c .before .before .before .before .before .before .before .before .loop-test .taken in let n = c .before .before .before .before .before .word-at2 .ensures ∙ ap (λ (j : ℕ). getD (c .before .before .before .before .before .before .before .before .before .before .before .before .before .before .before .before .before .args .pins .now) (j * 2 + 1) 0) (c .before .before .before .before .before .before .before .index .ensures) in (walking-on (i .0) t n, c .before .before .put-pin .kept .1 .0 ∙ i .1, λ l of ks w. putting-on _ (i .2 l of ks w) t (c .before .before .put-pin .ensures) (pin-is l of (c .before .before .before .before .see .ensures l) ∙ ap (λ (k : ℕ). pinRecord (at (parts l) k)) (c .before .before .before .before .before .before .word-at .ensures ∙ ap (λ (j : ℕ). getD (c .before .before .before .before .before .before .before .before .before .before .before .before .before .before .before .before .before .args .pins .now) (j * 2) 0) (c .before .before .before .before .before .before .before .index .ensures))) n)
+loop-again c =
+    let put-pin = c .before .before in
+    let index = at-index put-pin in
+    let start = call (at-entry index) in
+    let i = index .before .before .loop .inv in let t = index .before .loop-test .taken in let n = c .before .before .before .before .before .word-at2 .ensures ∙ ap (λ (j : ℕ). getD (start .args .pins .now) (j * 2 + 1) 0) (index .index .ensures) in (walking-on (i .0) t n, put-pin .put-pin .kept .1 .0 ∙ i .1, λ l of ks w. putting-on _ (i .2 l of ks w) t (put-pin .put-pin .ensures) (pin-is l of (c .before .before .before .before .see .ensures l) ∙ ap (λ (k : ℕ). pinRecord (at (parts l) k)) (put-pin .before .before .before .before .word-at .ensures ∙ ap (λ (j : ℕ). getD (start .args .pins .now) (j * 2) 0) (index .index .ensures))) n)
 
 same-length : tie.Need-same-length Inv-loop μ-loop
 same-length c = c .before .loop .inv .1
