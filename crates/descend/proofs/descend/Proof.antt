@@ -12,7 +12,7 @@ use Rattle.descend.proofs.descend.Statement.{statement}
 use Rattle.descend.proofs.descend.Tie as tie
 
 -- the places that facts are read at
-abbrev call : tie.After-entry-at → tie.Start
+abbrev call : tie.After-whole-entry → tie.Start
 call c = c .before .before .before .before
 
 find-requires : tie.Need-find-requires
@@ -76,24 +76,24 @@ draw-requires-3 c κs = search needs
 returns : tie.Need-returns
 returns c =
     let role-of = c .before .before .before .before .before in
-    let entry-at = role-of .before .before in
-    let start = entry-at .before .before .before .before in
+    let whole-entry = role-of .before .before in
+    let start = whole-entry .before .before .before .before in
     let h = start .pre in
     rw (c .pose-of .ensures, c .before .block-at .ensures, c .before .before .index .ensures)
     (use-is _ _ _ (h .ok) _ (h .sound) _ _ (found (role-of .before)) (as-role role-of (c .before .before .before .enum-told .given .1)))
 
 returns-2 : tie.Need-returns-2
 returns-2 c =
-    let entry-at = c .before .before .before .before .before in
-    let start = entry-at .before .before .before .before in
+    let whole-entry = c .before .before .before .before .before in
+    let start = whole-entry .before .before .before .before in
     let h = start .pre in
     rw (c .copy-of .ensures)
     (repeat-is _ _ _ (h .ok) _ (h .sound) _ _ (found (c .before .before .before .before)) (as-role (c .before .before .before) (c .before .enum-told2 .given .1)))
 
 returns-3 : tie.Need-returns-3
 returns-3 c =
-    let entry-at = c .before .before .before .before .before in
-    let start = entry-at .before .before .before .before in
+    let whole-entry = c .before .before .before .before .before in
+    let start = whole-entry .before .before .before .before in
     let h = start .pre in
     rw (c .draw .ensures)
     (here-is _ _ _ (h .ok) _ (h .sound) _ _ (found (c .before .before .before .before)) (as-role (c .before .before .before) (c .before .enum-told3 .given .1)))
