@@ -29,7 +29,7 @@ returns-2 : tie.Need-returns-2
 returns-2 c =
     let other = c .before .before in
     rw (c .with-graphics2 .ensures, c .before .with-mode .ensures)
-    (ap (λ h. withGraphics h _) (sym (other .before .mode-of .ensures _ (omega (arith, other .if1 .left)))))
+    (ap (λ h. withGraphics h (other .before .before .before .args .p)) (sym (other .before .mode-of .ensures _ (omega (arith, other .if1 .left)))))
 
 pub after-code-spec : {M : Type 1} → statement M
 after-code-spec =
