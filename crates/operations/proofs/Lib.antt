@@ -1,2 +1,3 @@
+pub mod Behind
 pub mod Codes
 pub mod Ends

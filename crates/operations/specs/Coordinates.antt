@@ -33,6 +33,13 @@ fieldAt format letter s at =
     (record { field = given (isSign (getD s (at + 1) 0)) (taken .coordinate); next = taken .next })
     (record { field = missing; next = at })
 
+-- I and J at a place, behind X and Y
+unfoldable pub fieldsBehind : Format → Field → Field → List ℕ → ℕ → Fields
+fieldsBehind format x y s at =
+    let i : TakenField = fieldAt format (code "I") s at in
+    let j : TakenField = fieldAt format (code "J") s (i .next) in
+    record { x = x; y = y; i = i .field; j = j .field; left = ltb (j .next) (length s) }
+
 -- X, Y, I and J, in that order, and nothing else
 unfoldable pub fieldsIn : Format → List ℕ → Fields
 fieldsIn format s =

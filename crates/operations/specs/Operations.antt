@@ -66,6 +66,10 @@ operationIn number format s =
 unfoldable pub operates : Written → Command
 operates w = judged (w .formless) (w .long) (Operate (w .operation))
 
+-- the command of an operation of a number with these coordinates
+unfoldable pub operationWith : ℕ → Fields → Command
+operationWith number f = operates (cond (eqb number 1) (draw f) (cond (eqb number 2) (move f) (flash f)))
+
 -- one behind a G code of the old book
 unfoldable pub coded : Setting → Written → Command
 coded g w = judged (w .formless) (w .long) (Coded g (w .operation))

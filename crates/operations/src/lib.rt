@@ -5,10 +5,11 @@ ghost use lib.ListN.{getD};
 ghost use Rattle.digits.specs.Sign.{isSign};
 ghost use Rattle.formats.specs.Format.{exactPlaces};
 ghost use Rattle.formats.specs.declared.Format.{Format};
-ghost use Rattle.operations.specs.Coordinates.{given, fieldAt, fieldsIn};
-ghost use Rattle.operations.specs.Operations.{alone, broken, tooLong, axisOf, offsetOf, draw, move, flash, plain, operationCode, operationIn, operates, coded, operationOf};
+ghost use Rattle.operations.specs.Coordinates.{given, missing, fieldAt, fieldsBehind, fieldsIn};
+ghost use Rattle.operations.specs.Operations.{alone, broken, tooLong, axisOf, offsetOf, draw, move, flash, plain, operationCode, operationIn, operates, coded, operationWith, operationOf};
 use command::Axis;
 use command::Command;
+use command::Flaw;
 use command::Offset;
 use command::Operation;
 use command::Setting;
@@ -85,6 +86,19 @@ fn as_given(signed: bool, c: Coordinate) -> Field
     }
 }
 
+// A coordinate that is not there.
+fn no_field() -> Field
+    ensures { λ r. ⌜ r ≡ missing ⌝ }
+{
+    Field {
+        given: false,
+        formless: false,
+        long: false,
+        signed: false,
+        value: 0,
+    }
+}
+
 // The field of a letter at a place, if the letter stands there.
 fn field_at(format: Format, letter: u8, s: &[u8], at: usize) -> TakenField
     requires { ⌜ 1 ≤ letter ⌝ }
@@ -133,6 +147,19 @@ fn exact_at(limit: usize, letter: u8, s: &[u8], at: usize) -> TakenField
         },
         next: at,
     }
+}
+
+// I and J behind X and Y, in such a format.
+fn exact_behind(limit: usize, x: Field, y: Field, s: &[u8], at: usize) -> Fields
+    requires { ⌜ (1 ≤ limit) × (limit ≤ 12) ⌝ }
+    ensures { λ r. ⌜ ((f : Format) → limit ≡ exactPlaces f → r ≡ fieldsBehind f x y (now (s .entry)) at) ⌝ }
+{
+    let i = exact_at(limit, b'I', s, at);
+    let j = exact_at(limit, b'J', s, i.next);
+    let left = j.next < s.len();
+    let i = i.field;
+    let j = j.field;
+    Fields { x, y, i, j, left }
 }
 
 // X, Y, I and J, in that order, in such a format.
@@ -296,8 +323,14 @@ pub fn operation_in(number: u64, format: Format, s: &[u8]) -> Written
 pub fn operates(w: Written) -> Command
     ensures { λ r. ⌜ r ≡ operates w ⌝ }
 {
+    if w.formless {
+        return Command::Broken(Flaw::NotForm);
+    }
+    if w.long {
+        return Command::Broken(Flaw::TooLong);
+    }
     let operation = w.operation;
-    command::judged(w.formless, w.long, Command::Operate(operation))
+    Command::Operate(operation)
 }
 
 // An operation behind a G code.
@@ -330,11 +363,10 @@ pub fn operation_code(s: &[u8]) -> u64
     0
 }
 
-// The operation of a number, of a text that ends in its code of three bytes.
-pub fn operation_of(number: u64, format: Format, s: &[u8]) -> Command
-    ensures { λ r. ⌜ r ≡ operationOf number format (now (s .entry)) ⌝ }
+// The operation of a number with these coordinates.
+fn operation_with(number: u64, f: Fields) -> Command
+    ensures { λ r. ⌜ r ≡ operationWith number f ⌝ }
 {
-    let f = fields_in(format, base::up_to(s, text::before_last(s, 3)));
     if number == 1 {
         return operates(drawn(f));
     }
@@ -342,4 +374,43 @@ pub fn operation_of(number: u64, format: Format, s: &[u8]) -> Command
         return operates(moved(f));
     }
     operates(flashed(f))
+}
+
+// The operation of a number with the coordinates of this text, in such a format. Most texts end behind Y, and are not asked for I and J.
+fn exact_operation(number: u64, limit: usize, s: &[u8]) -> Command
+    requires { ⌜ (1 ≤ limit) × (limit ≤ 12) ⌝ }
+    ensures { λ r. ⌜ ((f : Format) → limit ≡ exactPlaces f → r ≡ operationWith number (fieldsIn f (now (s .entry)))) ⌝ }
+{
+    let x = exact_at(limit, b'X', s, 0);
+    let y = exact_at(limit, b'Y', s, x.next);
+    let at = y.next;
+    let x = x.field;
+    let y = y.field;
+    if at < s.len() {
+        return operation_with(number, exact_behind(limit, x, y, s, at));
+    }
+    let i = no_field();
+    let j = no_field();
+    operation_with(
+        number,
+        Fields {
+            x,
+            y,
+            i,
+            j,
+            left: false,
+        },
+    )
+}
+
+// The operation of a number, of a text that ends in its code of three bytes.
+pub fn operation_of(number: u64, format: Format, s: &[u8]) -> Command
+    ensures { λ r. ⌜ r ≡ operationOf number format (now (s .entry)) ⌝ }
+{
+    let t = base::up_to(s, text::before_last(s, 3));
+    let n = formats::exact_places(format);
+    if n == 0 {
+        return operation_with(number, raised_fields(format, t));
+    }
+    exact_operation(number, n, t)
 }

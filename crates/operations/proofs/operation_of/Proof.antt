@@ -1,7 +1,8 @@
--- `operations::operation_of` meets its contract: the last three bytes are left out, and the number picks the case of `operationIn`.
+-- `operations::operation_of` meets its contract: the last three bytes are left out, and either way it has the coordinates of the format.
 -- Assumes nothing.
-use Rattle.base.proofs.Tests.{tests}
-use Rattle.operations.specs.Operations.{uncoded, operationIn, operationOf}
+use native.Mathlib.Omega.{arith}
+use Rattle.formats.proofs.Exact.{exact-twelve}
+use Rattle.operations.specs.Operations.{uncoded, operationIn, operationWith, operationOf}
 use borrow.Author.Needs.{needs}
 use Rattle.operations.proofs.operation_of.Statement.{statement}
 use Rattle.operations.proofs.operation_of.Tie as tie
@@ -12,38 +13,26 @@ before-last-requires c κs = search needs
 up-to-requires : tie.Need-up-to-requires
 up-to-requires c κs = search needs
 
-fields-in-requires : tie.Need-fields-in-requires
-fields-in-requires c κs = search needs
+exact-places-requires : tie.Need-exact-places-requires
+exact-places-requires c κs = search needs
 
-drawn-requires : tie.Need-drawn-requires
-drawn-requires c κs = search needs
+raised-fields-requires : tie.Need-raised-fields-requires
+raised-fields-requires c κs = search needs
 
-operates-requires : tie.Need-operates-requires
-operates-requires c κs = search needs
+operation-with-requires : tie.Need-operation-with-requires
+operation-with-requires c κs = search needs
 
 returns : tie.Need-returns
-unfolding uncoded operationIn operationOf
-returns c = let h = c .before .before .if1 .taken in simp tests (cc)
+unfolding uncoded operationIn operationWith operationOf
+returns c = cc
 
-moved-requires : tie.Need-moved-requires
-moved-requires c κs = search needs
-
-operates-requires-2 : tie.Need-operates-requires-2
-operates-requires-2 c κs = search needs
+exact-operation-requires : tie.Need-exact-operation-requires
+exact-operation-requires c κs =
+    (omega (arith, c .if1 .left), omega (arith, c .before .exact-places .ensures, exact-twelve (c .before .before .before .before .before .args .format)))
 
 returns-2 : tie.Need-returns-2
-unfolding uncoded operationIn operationOf
-returns-2 c = let h = c .before .before .before .if1 .left in let k = c .before .before .if2 .taken in simp tests (cc)
-
-flashed-requires : tie.Need-flashed-requires
-flashed-requires c κs = search needs
-
-operates-requires-3 : tie.Need-operates-requires-3
-operates-requires-3 c κs = search needs
-
-returns-3 : tie.Need-returns-3
-unfolding uncoded operationIn operationOf
-returns-3 c = let h = c .before .before .before .if1 .left in let k = c .before .before .if2 .left in simp tests (cc)
+unfolding uncoded operationIn operationWith operationOf
+returns-2 c = let e = c .exact-operation .ensures _ (c .before .before .exact-places .ensures) in cc
 
 pub operation-of-spec : {M : Type 1} → statement M
 operation-of-spec =
@@ -51,13 +40,9 @@ operation-of-spec =
     (tie.spec
     before-last-requires
     up-to-requires
-    fields-in-requires
-    drawn-requires
-    operates-requires
+    exact-places-requires
+    raised-fields-requires
+    operation-with-requires
     returns
-    moved-requires
-    operates-requires-2
-    returns-2
-    flashed-requires
-    operates-requires-3
-    returns-3)
+    exact-operation-requires
+    returns-2)
