@@ -176,7 +176,10 @@ _Static_assert(sizeof(struct sheet_item) == SHEET_ITEM_WORDS * sizeof(uint64_t),
  * Numbers: n / 2 + n * n / 72, and here a host may well lend fewer, and be answered 17. Each parameter of a standard template has a
  * separator and a digit: n / 2 numbers in all. An AD of a macro takes one number for each primitive and each of its parameters, each
  * of which has 2 bytes at least in the macro's text, and has itself 9 bytes: a macro of x bytes and as many AD as then fit are at
- * most (x / 2) * ((n - x) / 9) numbers, at most n * n / 72. Layers seen so far use fewer than n / 8. */
+ * most (x / 2) * ((n - x) / 9) numbers, at most n * n / 72. Layers seen so far use fewer than n / 8.
+ * The time of a reading grows with the file, up to a logarithm, but for one kind: a macro of assignments alone keeps no numbers, so that
+ * no room bounds the apertures made by it. Of 64 KB that are half such a macro and half apertures a reading takes some 2.5 s, and four
+ * times as long for each doubling (docs/BENCH.md): of strangers' files a host should bound the time, or the size. */
 static inline size_t sheet_entries_for(size_t n) { return n / 3; }
 static inline size_t sheet_apertures_for(size_t n) { return n / 8; }
 static inline size_t sheet_macros_for(size_t n) { return n / 8; }
