@@ -178,8 +178,8 @@ _Static_assert(sizeof(struct sheet_item) == SHEET_ITEM_WORDS * sizeof(uint64_t),
  * of which has 2 bytes at least in the macro's text, and has itself 9 bytes: a macro of x bytes and as many AD as then fit are at
  * most (x / 2) * ((n - x) / 9) numbers, at most n * n / 72. Layers seen so far use fewer than n / 8.
  * The time of a reading grows with the file, up to a logarithm, but for one kind: a macro of assignments alone keeps no numbers, so that
- * no room bounds the apertures made by it. Of 64 KB that are half such a macro and half apertures a reading takes some 2.5 s, and four
- * times as long for each doubling (docs/BENCH.md): of strangers' files a host should bound the time, or the size. */
+ * no room bounds the apertures made by it. Of 64 KB that are half such a macro and half apertures a reading takes some 2.5 s, of 1 MB some
+ * ten minutes (docs/BENCH.md): of strangers' files a host should bound the time, or the size. */
 static inline size_t sheet_entries_for(size_t n) { return n / 3; }
 static inline size_t sheet_apertures_for(size_t n) { return n / 8; }
 static inline size_t sheet_macros_for(size_t n) { return n / 8; }
