@@ -99,6 +99,29 @@ afterSetting setting.RegionEnd g = withRegion noRegion g
 -- "M00 and M01 without effect"
 afterSetting setting.Halt g = g
 
+-- the mode of a setting that changes the mode alone, 0 for any other
+unfoldable pub modeOf : Setting → ℕ
+modeOf (setting.Format f) = 0
+modeOf setting.Absolute = 0
+modeOf setting.Incremental = 0
+modeOf setting.Millimetres = 0
+modeOf setting.Inches = 0
+modeOf setting.CodedMillimetres = 0
+modeOf setting.CodedInches = 0
+modeOf setting.Linear = 1
+modeOf setting.Clockwise = 2
+modeOf setting.Counterclockwise = 3
+modeOf setting.SingleQuadrant = 0
+modeOf setting.MultiQuadrant = 0
+modeOf setting.Dark = 0
+modeOf setting.Clear = 0
+modeOf (setting.Mirror x y) = 0
+modeOf (setting.Rotation a rounded) = 0
+modeOf (setting.Scale a rounded) = 0
+modeOf setting.RegionStart = 0
+modeOf setting.RegionEnd = 0
+modeOf setting.Halt = 0
+
 -- D01, D02 and D03
 unfoldable pub afterOperation : Operation → Graphics → Graphics
 afterOperation (operation.Draw x y o) g = goingTo (target g x y) (withRegion (drawing (g .region) (g .point .at)) g)

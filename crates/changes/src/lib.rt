@@ -4,9 +4,8 @@ ghost use lib.IntN.{natAbs, _+ℤ_};
 ghost use Prim.Native.Nat.{_≤_, _^_};
 ghost use Rattle.points.specs.Points.{pt, Within};
 ghost use Rattle.graphics.specs.Orientation.{angleOf};
-ghost use Rattle.graphics.specs.declared.Graphics.{Graphics};
-ghost use Rattle.graphics.specs.Graphics.{unset, noRegion, withHeader, withNotation, withPoint, withMode, withTransform, withRegion};
-ghost use Rattle.changes.specs.After.{along, target, goal, goingTo, emptyRegion, startsContour, drawing, ended, withFormat, withUnit, withCoded, withClear, withMirror, withRotation, withScale, afterSetting, afterOperation, after, Reached};
+ghost use Rattle.graphics.specs.Graphics.{unset, noRegion, withHeader, withNotation, withPoint, withTransform, withRegion};
+ghost use Rattle.changes.specs.After.{along, target, goal, goingTo, emptyRegion, startsContour, drawing, ended, withFormat, withUnit, withCoded, withClear, withMirror, withRotation, withScale, afterSetting, modeOf, afterOperation, after, Reached};
 use command::Axis;
 use command::Command;
 use command::Operation;
@@ -310,18 +309,30 @@ pub fn after_setting(s: Setting, g: Graphics) -> Graphics
 
 // The mode of a setting that changes the mode alone: 1 for G01, 2 for G02, 3 for G03, and 0 for any other.
 pub fn mode_of(s: Setting) -> u64
-    ensures { λ r. ⌜ ((g : Graphics) → 1 ≤ r → afterSetting s g ≡ withMode r g) ⌝ }
+    ensures { λ r. ⌜ r ≡ modeOf s ⌝ }
 {
-    if let Setting::Linear = s {
-        return 1;
+    match s {
+        Setting::Format(_) => 0,
+        Setting::Absolute => 0,
+        Setting::Incremental => 0,
+        Setting::Millimetres => 0,
+        Setting::Inches => 0,
+        Setting::CodedMillimetres => 0,
+        Setting::CodedInches => 0,
+        Setting::Linear => 1,
+        Setting::Clockwise => 2,
+        Setting::Counterclockwise => 3,
+        Setting::SingleQuadrant => 0,
+        Setting::MultiQuadrant => 0,
+        Setting::Dark => 0,
+        Setting::Clear => 0,
+        Setting::Mirror { .. } => 0,
+        Setting::Rotation { .. } => 0,
+        Setting::Scale { .. } => 0,
+        Setting::RegionStart => 0,
+        Setting::RegionEnd => 0,
+        Setting::Halt => 0,
     }
-    if let Setting::Clockwise = s {
-        return 2;
-    }
-    if let Setting::Counterclockwise = s {
-        return 3;
-    }
-    0
 }
 
 // The state after a D01, D02 or D03 that is accepted.

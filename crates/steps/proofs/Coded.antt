@@ -8,11 +8,13 @@ use lib.Dec.{eqb}
 use borrow.Author.Tests.{eqb-true, eqb-false, eq-eqb}
 use Rattle.base.specs.Choose.{pick}
 use Rattle.command.specs.declared.Setting.{Setting}
+use Rattle.command.specs.declared.Setting.the-variants as setting
 use Rattle.command.specs.declared.Operation as operation
 use Rattle.command.specs.declared.Command.{Command}
 use Rattle.command.specs.declared.Command.the-variants as command
 use Rattle.graphics.specs.declared.Graphics.{Graphics}
-use Rattle.changes.specs.After.{afterSetting}
+use Rattle.graphics.specs.Graphics.{withMode}
+use Rattle.changes.specs.After.{afterSetting, modeOf}
 use Rattle.faults.specs.Order.{sooner}
 use Rattle.faults.proofs.Laws.{sooner-first}
 use Rattle.reading.specs.State.{State}
@@ -52,6 +54,30 @@ pub behind-is : (w : Lent) (p : Progress) (s : State) → Knows w p s → (code 
 unfolding settingStep
 behind-is w p s k code a e =
     rw (e, a, k .graphics) (still-known w p s k _ (setting-keeps (s .graphics) (keeps-itself w p s k) code))
+
+-- a setting that has a mode sets the mode alone
+pub mode-set : (s : Setting) (g : Graphics) → 1 ≤ modeOf s → afterSetting s g ≡ withMode (modeOf s) g
+unfolding modeOf afterSetting
+mode-set (setting.Format f) g l = absurd (omega (arith, l))
+mode-set setting.Absolute g l = absurd (omega (arith, l))
+mode-set setting.Incremental g l = absurd (omega (arith, l))
+mode-set setting.Millimetres g l = absurd (omega (arith, l))
+mode-set setting.Inches g l = absurd (omega (arith, l))
+mode-set setting.CodedMillimetres g l = absurd (omega (arith, l))
+mode-set setting.CodedInches g l = absurd (omega (arith, l))
+mode-set setting.Linear g l = refl
+mode-set setting.Clockwise g l = refl
+mode-set setting.Counterclockwise g l = refl
+mode-set setting.SingleQuadrant g l = absurd (omega (arith, l))
+mode-set setting.MultiQuadrant g l = absurd (omega (arith, l))
+mode-set setting.Dark g l = absurd (omega (arith, l))
+mode-set setting.Clear g l = absurd (omega (arith, l))
+mode-set (setting.Mirror x y) g l = absurd (omega (arith, l))
+mode-set (setting.Rotation a rounded) g l = absurd (omega (arith, l))
+mode-set (setting.Scale a rounded) g l = absurd (omega (arith, l))
+mode-set setting.RegionStart g l = absurd (omega (arith, l))
+mode-set setting.RegionEnd g l = absurd (omega (arith, l))
+mode-set setting.Halt g l = absurd (omega (arith, l))
 
 -- an operation is held, or none is
 is-some : Held → Bool

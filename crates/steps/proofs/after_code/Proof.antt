@@ -1,8 +1,11 @@
 -- `steps::after_code` meets its contract: a code that sets the mode alone, or another.
 -- Assumes nothing.
-use mathlib.Core.Path.{refl, sym, ap}
+use mathlib.Core.Path.{_≡_, refl, sym, ap, _∙_}
 use native.Mathlib.Omega.{arith}
+use Rattle.graphics.specs.Graphics.{withMode}
+use Rattle.changes.specs.After.{modeOf}
 use Rattle.progress.specs.Parts.{withGraphics}
+use Rattle.steps.proofs.Coded.{mode-set}
 use borrow.Author.Needs.{needs}
 use Rattle.steps.proofs.after_code.Statement.{statement}
 use Rattle.steps.proofs.after_code.Tie as tie
@@ -28,8 +31,11 @@ with-graphics-requires-2 c κs = search needs
 returns-2 : tie.Need-returns-2
 returns-2 c =
     let other = c .before .before in
+    let call = other .before .before .before .args in
+    let mode = other .before .mode-of .ensures in
+    let some : modeOf (call .code) ≡ 0 → ⊥ = λ z. other .if1 .left (mode ∙ z) in
     rw (c .with-graphics2 .ensures, c .before .with-mode .ensures)
-    (ap (λ h. withGraphics h (other .before .before .before .args .p)) (sym (other .before .mode-of .ensures _ (omega (arith, other .if1 .left)))))
+    (ap (λ m. withGraphics (withMode m (call .p .graphics)) (call .p)) mode ∙ ap (λ g. withGraphics g (call .p)) (sym (mode-set (call .code) (call .p .graphics) (omega (arith, some)))))
 
 pub after-code-spec : {M : Type 1} → statement M
 after-code-spec =
