@@ -1,4 +1,4 @@
-/* A plain MD5 in C, over the same text as crates/speed: what bench/digest compares that program with. */
+/* A plain MD5 in C, over the same text as crates/gate_speed: what bench/digest compares that program with. */
 typedef unsigned char byte;
 typedef unsigned int word;
 extern long write(int, const void *, unsigned long);

@@ -6,12 +6,12 @@ made=$PWD/target/second
 export CARGO_NET_OFFLINE=true
 cargo build --release --quiet --manifest-path second/Cargo.toml --target-dir "$made"
 
-file=crates/asked/stdin
+file=crates/gate_attribute/stdin
 size=$(wc -c <"$file")
 room=$(mktemp -d)
 trap 'rm -rf "$room"' EXIT
 
-# What the second reader answers to the questions of crates/asked/src/main.rt, in their order.
+# What the second reader answers to the questions of crates/gate_attribute/src/main.rt, in their order.
 for name in a .N a,b; do
     for ((place = 0; place < size; place++)); do
         for kind in TA TO; do
@@ -20,5 +20,5 @@ for name in a .N a,b; do
         done
     done
 done >"$room/second"
-diff "$room/second" crates/asked/stdout
+diff "$room/second" crates/gate_attribute/stdout
 echo "asked: $(wc -l <"$room/second") answers agree"

@@ -1,3 +1,9 @@
 pub mod Zeros
 pub mod Looks
 pub mod Tops
+pub mod Stands
+pub mod Words
+pub mod Begins
+pub mod Written
+pub mod AddressedAnswers
+pub mod Undo

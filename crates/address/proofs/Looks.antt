@@ -17,15 +17,15 @@ use Rattle.sheet.proofs.Conditions.{entry-use}
 use Rattle.base.proofs.Lists.{rest-whole}
 use Rattle.sheet.proofs.Every.{sums-grow}
 use Rattle.sheet.proofs.Sound.{rooms, use-under}
-use Rattle.addresses.specs.Positions.{spanAt, spot, Spans}
-use Rattle.addresses.specs.Sought.{further, misses, soughtAs, soughtAt, sought}
-use Rattle.addresses.specs.declared.Spot.{Spot}
-use Rattle.addresses.specs.declared.Named.{Named}
-use Rattle.addresses.specs.declared.Named.the-variants.{Nothing}
-use Rattle.addresses.proofs.Spots.{spotted}
-use Rattle.addresses.proofs.Fitting.{spans-below}
-use Rattle.addresses.proofs.Lies.{misses-told, length-rest}
-use Rattle.addresses.proofs.Undo.{undone}
+use Rattle.law_addresses.specs.Positions.{spanAt, spot, Spans}
+use Rattle.law_addresses.specs.Sought.{further, misses, soughtAs, soughtAt, sought}
+use Rattle.law_addresses.specs.declared.Spot.{Spot}
+use Rattle.law_addresses.specs.declared.Named.{Named}
+use Rattle.law_addresses.specs.declared.Named.the-variants.{Nothing}
+use Rattle.law_addresses.proofs.Spots.{spotted}
+use Rattle.law_addresses.proofs.Fitting.{spans-below}
+use Rattle.law_addresses.proofs.Lies.{misses-told, length-rest}
+use Rattle.law_addresses.proofs.Undo.{undone}
 use Rattle.address.specs.Looking.{lookAs, lookAt, lookOf, Lower, Seeks, Down}
 use Rattle.address.specs.declared.Look.{Look}
 use Rattle.address.specs.declared.Look.the-variants.{Is, Below}

@@ -19,14 +19,14 @@ use Rattle.sheet.proofs.Conditions.{entry-use, entry-repeat, copies-count}
 use Rattle.base.proofs.Lists.{rest-whole}
 use Rattle.sheet.proofs.Every.{sums-grow}
 use Rattle.sheet.proofs.Sound.{rooms, top-sound}
-use Rattle.addresses.specs.Positions.{spanAt, spot}
-use Rattle.addresses.specs.Sought.{further, allZero, misses, soughtAs, sought, soughtTopAs, soughtTopAt, soughtTop}
-use Rattle.addresses.specs.declared.Spot.{Spot}
-use Rattle.addresses.specs.declared.Named.{Named}
-use Rattle.addresses.specs.declared.Named.the-variants.{At, Nothing}
-use Rattle.addresses.proofs.Length.{used-block, body-sound, body-nine, body-count}
-use Rattle.addresses.proofs.Undo.{undone}
-use Rattle.addresses.proofs.Matched.{place-is-sought}
+use Rattle.law_addresses.specs.Positions.{spanAt, spot}
+use Rattle.law_addresses.specs.Sought.{further, allZero, misses, soughtAs, sought, soughtTopAs, soughtTopAt, soughtTop}
+use Rattle.law_addresses.specs.declared.Spot.{Spot}
+use Rattle.law_addresses.specs.declared.Named.{Named}
+use Rattle.law_addresses.specs.declared.Named.the-variants.{At, Nothing}
+use Rattle.law_addresses.proofs.Length.{used-block, body-sound, body-nine, body-count}
+use Rattle.law_addresses.proofs.Undo.{undone}
+use Rattle.law_addresses.proofs.Matched.{place-is-sought}
 use Rattle.address.specs.Answers.{replyAs, replyOf}
 use Rattle.address.specs.Looking.{Lower, Fits, Down, Copied, AtTop}
 use Rattle.address.proofs.Looks.{meets}

@@ -9,7 +9,7 @@ use lib.ListN.{length, getD, drop, drop-of-length-le}
 use lib.Seq.{drop-cons}
 use borrow.Author.Tests.{eq-eqb, ne-eqb}
 use Rattle.base.specs.And.{_and_}
-use Rattle.addresses.specs.Sought.{allZero}
+use Rattle.law_addresses.specs.Sought.{allZero}
 
 module _ (w : List ℕ) (i : ℕ) where
   pub zeros-end : length w ≤ i → allZero (drop i w) ≡ true

@@ -3,9 +3,9 @@ use Prim.Native.Nat.{ℕ}
 use mathlib.Core.Bool.{cond}
 use mathlib.Core.List.{List}
 use Rattle.sheet.specs.Valid.{valid}
-use Rattle.addresses.specs.Addresses.{sheetAddresses, placeOf}
-use Rattle.addresses.specs.declared.Named.{Named}
-use Rattle.addresses.specs.declared.Named.the-variants.{At, Nothing}
+use Rattle.law_addresses.specs.Addresses.{sheetAddresses, placeOf}
+use Rattle.law_addresses.specs.declared.Named.{Named}
+use Rattle.law_addresses.specs.declared.Named.the-variants.{At, Nothing}
 use Rattle.address.specs.declared.Reply.{Reply}
 
 -- the item that is named, "with a zeroed .. number" where none is

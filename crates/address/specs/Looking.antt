@@ -12,11 +12,11 @@ use Rattle.sheet.specs.declared.Container.{Container}
 use Rattle.sheet.specs.declared.Role.{Role}
 use Rattle.sheet.specs.declared.Role.the-variants.{Draws, Uses, Repeats, Defines, Unknown}
 use Rattle.sheet.proofs.Sound.{Sound}
-use Rattle.addresses.specs.Positions.{spanAt, spot}
-use Rattle.addresses.specs.Sought.{allZero, misses, sought}
-use Rattle.addresses.specs.declared.Spot.{Spot}
-use Rattle.addresses.specs.declared.Named.{Named}
-use Rattle.addresses.specs.declared.Named.the-variants.{At, Nothing}
+use Rattle.law_addresses.specs.Positions.{spanAt, spot}
+use Rattle.law_addresses.specs.Sought.{allZero, misses, sought}
+use Rattle.law_addresses.specs.declared.Spot.{Spot}
+use Rattle.law_addresses.specs.declared.Named.{Named}
+use Rattle.law_addresses.specs.declared.Named.the-variants.{At, Nothing}
 use Rattle.address.specs.declared.Look.{Look}
 use Rattle.address.specs.declared.Look.the-variants.{Is, Below}
 

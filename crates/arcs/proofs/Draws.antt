@@ -19,9 +19,9 @@ use Rattle.command.specs.declared.Offset.{Offset}
 use Rattle.graphics.specs.Graphics.{origin}
 use Rattle.graphics.specs.declared.Graphics.{Graphics}
 use Rattle.changes.specs.After.{target}
-use Rattle.reach.specs.Far.{isFormatted, isFar, goesFar}
-use Rattle.reach.proofs.Laws.{Less, less, less-within, Reaches, reaches, neither-left, neither-right}
-use Rattle.fits.specs.Fits.{circular, offsetOf, drawsFar}
+use Rattle.operation_tests.specs.Far.{isFormatted, isFar, goesFar}
+use Rattle.operation_tests.proofs.Laws.{Less, less, less-within, Reaches, reaches, neither-left, neither-right}
+use Rattle.operation_tests.specs.Fits.{circular, offsetOf, drawsFar}
 use Rattle.arcs.specs.Arcs.{single, rests, choiceFor, centreOf, chosenAt, kindDrawn, arcCentre}
 use Rattle.arcs.specs.Near.{Near}
 

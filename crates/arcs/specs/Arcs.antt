@@ -14,7 +14,7 @@ use Rattle.place.specs.Kind as kind
 use Rattle.command.specs.declared.Offset.{Offset}
 use Rattle.graphics.specs.Graphics.{origin}
 use Rattle.graphics.specs.declared.Graphics.{Graphics}
-use Rattle.fits.specs.Fits.{circular, offsetOf}
+use Rattle.operation_tests.specs.Fits.{circular, offsetOf}
 
 -- single quadrant mode: G74, which the old edition alone has
 unfoldable pub single : Graphics → Bool

@@ -5,7 +5,7 @@ use Rattle.points.specs.Points.{Within}
 use Rattle.points.specs.declared.Point.{Point}
 use Rattle.command.specs.declared.Offset.{Offset}
 use Rattle.graphics.specs.declared.Graphics.{Graphics}
-use Rattle.fits.specs.Fits.{offsetOf}
+use Rattle.operation_tests.specs.Fits.{offsetOf}
 
 pub record Near (g : Graphics) (end : Point) (o : Offset) : Type 0 where
   pub start : Within (10 ^ 12) (g .point .at)

@@ -30,7 +30,7 @@ fn is_resting(g: Graphics, end: Point) -> bool
     ensures { λ r. ⌜ r ≡ rests g end ⌝ }
 {
     base::both(
-        fits::is_circular(g),
+        operation_tests::is_circular(g),
         base::both(is_single(g), stays(g, end)),
     )
 }
@@ -41,7 +41,7 @@ fn choice_for(g: Graphics, end: Point, o: Offset) -> Choice
     ensures { λ r. ⌜ r ≡ choiceFor g end o ⌝ }
 {
     let start = g.point.at;
-    let offset = fits::offset_of(o);
+    let offset = operation_tests::offset_of(o);
     quadrant::choose(
         start,
         end,
@@ -55,9 +55,9 @@ fn choice_for(g: Graphics, end: Point, o: Offset) -> Choice
 pub fn bad_centre(g: Graphics, end: Point, o: Offset) -> bool
     ensures { λ r. ⌜ r ≡ badCentre g end o ⌝ }
 {
-    if base::both(fits::is_circular(g), !is_single(g)) {
+    if base::both(operation_tests::is_circular(g), !is_single(g)) {
         let start = g.point.at;
-        return reckon::bad_centre(start, end, fits::offset_of(o));
+        return reckon::bad_centre(start, end, operation_tests::offset_of(o));
     }
     false
 }
@@ -78,7 +78,7 @@ pub fn is_centreless(g: Graphics, end: Point, o: Offset) -> bool
     ensures { λ r. ⌜ r ≡ centreless g end o ⌝ }
 {
     let apart = base::both(is_single(g), !stays(g, end));
-    if base::both(fits::is_circular(g), apart) {
+    if base::both(operation_tests::is_circular(g), apart) {
         return is_none(choice_for(g, end, o));
     }
     false
@@ -117,12 +117,12 @@ pub fn arc_centre(g: Graphics, end: Point, o: Offset) -> Point
     requires { ⌜ Near g end o ⌝ }
     ensures { λ r. ⌜ r ≡ arcCentre g end o ⌝ }
 {
-    if fits::is_circular(g) {
+    if operation_tests::is_circular(g) {
         if is_single(g) {
             return single_centre(g, end, o);
         }
         let start = g.point.at;
-        return points::shifted(start, fits::offset_of(o));
+        return points::shifted(start, operation_tests::offset_of(o));
     }
     Point { x: 0, y: 0 }
 }

@@ -1,2 +1,5 @@
+pub mod Stack
 pub mod Entries
 pub mod Builder
+pub mod Counted
+pub mod Closed

@@ -28,15 +28,15 @@ use Rattle.descend.proofs.Slots.{run-join, slots-past, slots-join}
 use Rattle.lists.specs.Lists.{numberOf, held, slotOf, listed, filled, batchOf}
 use Rattle.lists.specs.declared.Batch.{Batch}
 use Rattle.lists.proofs.Joined.{refused-zeroes}
-use Rattle.addresses.specs.Addresses.{sheetAddresses, placeOf}
-use Rattle.addresses.specs.Marks.{addressesOf}
-use Rattle.addresses.specs.Sought.{misses, soughtTopAt, soughtTop}
-use Rattle.addresses.specs.declared.Named.the-variants.{At, Nothing}
-use Rattle.addresses.proofs.Matched.{as-many, place-is-sought, place-of-address}
+use Rattle.law_addresses.specs.Addresses.{sheetAddresses, placeOf}
+use Rattle.law_addresses.specs.Marks.{addressesOf}
+use Rattle.law_addresses.specs.Sought.{misses, soughtTopAt, soughtTop}
+use Rattle.law_addresses.specs.declared.Named.the-variants.{At, Nothing}
+use Rattle.law_addresses.proofs.Matched.{as-many, place-is-sought, place-of-address}
 use Rattle.address.specs.Answers.{replyAs, replyOf}
 use Rattle.address.specs.declared.Reply.{Reply}
-use Rattle.addressing.specs.Answers.{addressNumber, addressWords}
-use Rattle.addressing.proofs.Answers.{answer-is, answer-past}
+use Rattle.address.specs.Addressed.{addressNumber, addressWords}
+use Rattle.address.proofs.AddressedAnswers.{answer-is, answer-past}
 use Rattle.demands.specs.Demands.{One, Run, Listed, Addressed}
 
 -- the slots of so many words are so many words

@@ -2,9 +2,9 @@
 -- Assumes nothing.
 use mathlib.Core.Path.{_≡_, refl}
 use mathlib.Core.List.{[], _∷_}
-use Rattle.md5.specs.Word.{wordsOf, rotated}
-use Rattle.md5.specs.Table.{table}
-use Rattle.md5.specs.Rounds.{mixed, place, amounts, amount, operation, row, added, block}
+use Rattle.digest.specs.Word.{wordsOf, rotated}
+use Rattle.digest.specs.Table.{table}
+use Rattle.digest.specs.Rounds.{mixed, place, amounts, amount, operation, row, added, block}
 use Rattle.digest.specs.Bytes.{bytesOf}
 use Rattle.digest.specs.Md5.{padding, lengthOf, tail, initial, blocks, output, md5}
 

@@ -1,3 +1,6 @@
+pub mod Amounts
+pub mod BlockExamples
+pub mod Rotation
 pub mod Cuts
 pub mod Examples
 pub mod Padding

@@ -10,8 +10,8 @@ use lib.Dec.{eqb}
 use lib.ListN.{length, take, drop, set, length-set, length-take, length-drop, length-replicate, take-append-drop, drop-of-length-le}
 use lib.Seq.{sets, sets-eq, drop-drop}
 use borrow.Author.Tests.{eq-eqb, ne-eqb}
-use Rattle.md5.specs.declared.Words.{Words}
-use Rattle.md5.specs.Rounds.{block}
+use Rattle.digest.specs.declared.Words.{Words}
+use Rattle.digest.specs.Rounds.{block}
 use Rattle.digest.specs.declared.State.{State}
 use Rattle.digest.specs.Md5.{blocks}
 use Rattle.digest.specs.Runs.{state, empty, pushed, fed}

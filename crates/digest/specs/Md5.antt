@@ -2,8 +2,8 @@
 use Prim.Native.Nat.{ℕ, zero, suc, _+_, _-_, _*_, _/_, _%_, _^_}
 use mathlib.Core.List.{List, _∷_, _++_}
 use lib.ListN.{length, take, drop, replicate}
-use Rattle.md5.specs.declared.Words.{Words}
-use Rattle.md5.specs.Rounds.{words, block}
+use Rattle.digest.specs.declared.Words.{Words}
+use Rattle.digest.specs.Rounds.{words, block}
 use Rattle.digest.specs.Bytes.{bytesOf}
 
 -- 3.1: after n bytes a single 1 bit, then as few 0 bits as make the length 56 bytes modulo 64

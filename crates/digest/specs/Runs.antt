@@ -4,8 +4,8 @@ use mathlib.Core.Bool.{cond}
 use mathlib.Core.List.{List, [], _∷_}
 use lib.Dec.{eqb}
 use lib.ListN.{set, replicate}
-use Rattle.md5.specs.declared.Words.{Words}
-use Rattle.md5.specs.Rounds.{block}
+use Rattle.digest.specs.declared.Words.{Words}
+use Rattle.digest.specs.Rounds.{block}
 use Rattle.digest.specs.declared.State.{State}
 use Rattle.digest.specs.Md5.{initial, tail, output}
 

@@ -8,10 +8,10 @@ use native.Mathlib.Omega.{arith}
 use lib.IntN.{ℤ, natAbs}
 use lib.ListN.{length, drop}
 use Rattle.reckon.specs.declared.Reckoned.{Reckoned}
-use Rattle.tokens.specs.Tokens.{tokens}
-use Rattle.tokens.specs.declared.Token.{Token}
+use Rattle.macro_tokens.specs.Tokens.{tokens}
+use Rattle.macro_tokens.specs.declared.Token.{Token}
 use Rattle.expression.specs.Grammar.{Reading, stop, go, after, joined, chain}
-use Rattle.expression.specs.Reading.{Reads, After, Joins, told, nextOf}
+use Rattle.expression.specs.Reading.{Reads, After, Joins, asRead, nextOf}
 use Rattle.expression.specs.declared.Operator.{Operator}
 use Rattle.expression.specs.declared.Sign.{Sign}
 use Rattle.expression.specs.declared.Worked.{Worked}
@@ -31,7 +31,7 @@ module _ (rank : Token → Sign) (op : Bool → ℤ → ℤ → Reckoned) (opera
   pub record Chained (s : List ℕ) (at : ℕ) (w : Worked) (o : Operator) (all : Reading) : Type 0 where
     pub turns : ℕ
     pub enough : length s - w .next ≤ turns
-    pub same : chain rank op operand turns (told s w) ≡ all
+    pub same : chain rank op operand turns (asRead s w) ≡ all
     pub further : at ≤ w .next
     pub small : natAbs (w .value .millionths) < 10 ^ 12
     pub follows : After rank s w o
@@ -62,7 +62,7 @@ module _ (rank : Token → Sign) (op : Bool → ℤ → ℤ → Reckoned) (opera
         Chained s at w′ o′ all
     chain-again w f w′ o o′ all c any r j a = by (c .turns) (c .enough) (c .same)
       where
-        by : (n : ℕ) → length s - w .next ≤ n → chain rank op operand n (told s w) ≡ all → Chained s at w′ o′ all
+        by : (n : ℕ) → length s - w .next ≤ n → chain rank op operand n (asRead s w) ≡ all → Chained s at w′ o′ all
         by zero e q = let h = c .follows .inside any in absurd (omega arith)
         by (suc n) e q =
             let h = c .follows .inside any in
@@ -74,8 +74,8 @@ module _ (rank : Token → Sign) (op : Bool → ℤ → ℤ → Reckoned) (opera
               turns = n;
               enough = omega arith;
               same =
-                  ap (chain rank op operand n) (j .says s ∙ ap (joined (op (o .second)) (told s w)) (r .says))
-                  ∙ sym (chain-go n (told s w) (o .second) (tokens (drop (o .next) s)) (sym (c .follows .says) ∙ next-go o any))
+                  ap (chain rank op operand n) (j .says s ∙ ap (joined (op (o .second)) (asRead s w)) (r .says))
+                  ∙ sym (chain-go n (asRead s w) (o .second) (tokens (drop (o .next) s)) (sym (c .follows .says) ∙ next-go o any))
                   ∙ q;
               further = omega arith;
               small = j .small;
@@ -85,7 +85,7 @@ module _ (rank : Token → Sign) (op : Bool → ℤ → ℤ → Reckoned) (opera
     pub chain-ends : (w : Worked) (o : Operator) (all : Reading) → Chained s at w o all → o .any ≡ false → Reads s at w all
     chain-ends w o all c none =
         record {
-          says = sym (chain-stop (c .turns) (told s w) (sym (c .follows .says) ∙ next-stop o none)) ∙ c .same;
+          says = sym (chain-stop (c .turns) (asRead s w) (sym (c .follows .says) ∙ next-stop o none)) ∙ c .same;
           further = c .further;
           small = c .small;
         }

@@ -8,10 +8,10 @@ use native.Mathlib.Omega.{arith}
 use lib.Dec.{ltb}
 use lib.ListN.{length, drop}
 use borrow.Author.Tests.{ltb-true, ltb-false, le-ltb}
-use Rattle.tokens.specs.Tokens.{tokens, lexed}
-use Rattle.tokens.specs.declared.Token.{Token}
-use Rattle.tokens.specs.declared.Token.the-variants.{End}
-use Rattle.tokens.proofs.Tokens.{tokens-next, tokens-end, lexed-further}
+use Rattle.macro_tokens.specs.Tokens.{tokens, lexed}
+use Rattle.macro_tokens.specs.declared.Token.{Token}
+use Rattle.macro_tokens.specs.declared.Token.the-variants.{End}
+use Rattle.macro_tokens.proofs.Tokens.{tokens-next, tokens-end, lexed-further}
 use Rattle.expression.specs.Grammar.{head, tail, go, following}
 use Rattle.expression.specs.Reading.{Follows, operatorOf, nextOf}
 use Rattle.expression.specs.declared.Sign.{Sign}

@@ -19,10 +19,10 @@ use Rattle.decimal.specs.declared.answers.Decimal.the-variants as decimal
 use Rattle.decimal.proofs.Sizes.{decimal-size}
 use Rattle.base.specs.Choose.{pick}
 use Rattle.command.specs.Numbers.{sizedAs}
-use Rattle.tokens.specs.Tokens.{tokenOf, lexed, wordEnd}
-use Rattle.tokens.specs.declared.Token.{Token}
-use Rattle.tokens.specs.declared.Lexeme.{Lexeme}
-use Rattle.tokens.specs.declared.Token.the-variants.{End, Number, Variable, Plus, Minus, Times, Over, Open, Close, Unknown}
+use Rattle.macro_tokens.specs.Tokens.{tokenOf, lexed, wordEnd}
+use Rattle.macro_tokens.specs.declared.Token.{Token}
+use Rattle.macro_tokens.specs.declared.Lexeme.{Lexeme}
+use Rattle.macro_tokens.specs.declared.Token.the-variants.{End, Number, Variable, Plus, Minus, Times, Over, Open, Close, Unknown}
 use Rattle.reckon.specs.Rounding.{sumOf, differenceOf, productOf, quotientOf}
 use Rattle.reckon.specs.declared.Reckoned.{Reckoned}
 use Rattle.reckon.specs.declared.Reckoned.the-variants.{Refused, Value}

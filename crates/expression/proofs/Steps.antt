@@ -10,10 +10,10 @@ use lib.IntN.{ℤ, pos}
 use lib.ListN.{length, drop}
 use borrow.Author.Tests.{ltb-true, ltb-false}
 use Rattle.decimal.specs.declared.answers.Amount.{Amount}
-use Rattle.tokens.specs.Tokens.{tokens, lexed}
-use Rattle.tokens.specs.declared.Token.{Token}
+use Rattle.macro_tokens.specs.Tokens.{tokens, lexed}
+use Rattle.macro_tokens.specs.declared.Token.{Token}
 use Rattle.expression.specs.Grammar.{Reading, head, tail, plusMinus, following, negated, leading, leafOf, begun, closed, factor, expression, expressionAt}
-use Rattle.expression.specs.Reading.{Fits, Reads, Follows, Negates, told, nextOf}
+use Rattle.expression.specs.Reading.{Fits, Reads, Follows, Negates, asRead, nextOf}
 use Rattle.expression.specs.declared.Leaf.{Leaf}
 use Rattle.expression.specs.declared.Leaf.the-variants as leaf
 use Rattle.expression.specs.declared.Operator.{Operator}
@@ -30,13 +30,13 @@ module _ (n : ℕ) (variables : List ℤ) (inner : List Token → Reading) (s : 
 
   pub factor-nothing : leaf.Nothing ≡ leafOf variables (lexed s at .token) →
       Reads s at (record { fine = false; value = record { millionths = pos 0 }; next = lexed s at .next }) (factor n variables inner (tokens (drop at s)))
-  unfolding told begun
+  unfolding asRead begun
   factor-nothing e =
       record { says = sym (begins leaf.Nothing e); further = lexed-onward s at; small = omega arith }
 
   pub factor-value : Fits variables → (a : Amount) → leaf.Value a ≡ leafOf variables (lexed s at .token) →
       Reads s at (record { fine = true; value = a; next = lexed s at .next }) (factor n variables inner (tokens (drop at s)))
-  unfolding told begun
+  unfolding asRead begun
   factor-value fits a e =
       record {
         says = sym (begins (leaf.Value a) e);
@@ -45,7 +45,7 @@ module _ (n : ℕ) (variables : List ℤ) (inner : List Token → Reading) (s : 
       }
 
   pub factor-open : leaf.Open ≡ leafOf variables (lexed s at .token) → (w r : Worked) →
-      Reads s (lexed s at .next) w (inner (tokens (drop (lexed s at .next) s))) → Reads s (w .next) r (closed (told s w)) →
+      Reads s (lexed s at .next) w (inner (tokens (drop (lexed s at .next) s))) → Reads s (w .next) r (closed (asRead s w)) →
       Reads s at r (factor n variables inner (tokens (drop at s)))
   unfolding begun
   factor-open e w r i c =
@@ -81,14 +81,14 @@ module _ (term : List Token → Reading) (s : List ℕ) (at : ℕ) (o : Operator
       let d = m .next in
       record { says = rw (sym (f .says)) (by (o .any) refl); further = omega arith; small = m .small }
     where
-      by : (x : Bool) → o .any ≡ x → told s w ≡ leading term (nextOf s o) (tokens (drop at s))
+      by : (x : Bool) → o .any ≡ x → asRead s w ≡ leading term (nextOf s o) (tokens (drop at s))
       by true e = rw e (m .says s ∙ ap (negated (o .second)) (r .says))
-      by false e = rw e (m .says s ∙ rw (f .plain e) (sym (stayed (told s t))) ∙ r .says ∙ ap (λ (k : ℕ). term (tokens (drop k s))) (f .none e))
+      by false e = rw e (m .says s ∙ rw (f .plain e) (sym (stayed (asRead s t))) ∙ r .says ∙ ap (λ (k : ℕ). term (tokens (drop k s))) (f .none e))
 
 module _ (n : ℕ) (variables : List ℤ) (s : List ℕ) (at : ℕ) where
   pub none-left : (depth : ℕ) → depth ≡ 0 →
       Reads s at (record { fine = false; value = record { millionths = pos 0 }; next = at }) (expressionAt n variables depth (tokens (drop at s)))
-  unfolding told expressionAt
+  unfolding asRead expressionAt
   none-left depth e = record { says = rw e; further = omega arith; small = omega arith }
 
   pub some-left : (depth : ℕ) → (depth ≡ 0 → ⊥) →

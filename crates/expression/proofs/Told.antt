@@ -13,28 +13,28 @@ use Rattle.base.specs.And.{_and_}
 use Rattle.base.proofs.And.{and-l, and-r}
 use Rattle.reckon.specs.declared.Reckoned.{Reckoned}
 use Rattle.reckon.specs.declared.Reckoned.the-variants.{Refused, Value}
-use Rattle.tokens.specs.Tokens.{tokens, lexed}
-use Rattle.tokens.specs.declared.Token.{Token}
+use Rattle.macro_tokens.specs.Tokens.{tokens, lexed}
+use Rattle.macro_tokens.specs.declared.Token.{Token}
 use Rattle.expression.specs.Grammar.{Reading, refused, reads, after, kept, joined, negated, isClose, closed}
-use Rattle.tokens.proofs.Tokens.{tokens-next, tokens-end}
+use Rattle.macro_tokens.proofs.Tokens.{tokens-next, tokens-end}
 use Rattle.expression.specs.Value.{whole}
-use Rattle.expression.specs.Reading.{Follows, After, Joins, Negates, told, nextOf, workedOf}
+use Rattle.expression.specs.Reading.{Follows, After, Joins, Negates, asRead, nextOf, workedOf}
 use Rattle.expression.specs.declared.Operator.{Operator}
 use Rattle.expression.specs.declared.Sign.{Sign}
 use Rattle.expression.specs.declared.Worked.{Worked}
 use Rattle.expression.proofs.Seen.{head-seen, tail-seen}
 use Rattle.expression.proofs.Sizes.{SmallResult, worked-small}
 
-pub told-fine : (s : List ℕ) (w : Worked) → w .fine ≡ true → told s w ≡ reads (w .value .millionths) (tokens (drop (w .next) s))
-unfolding told
+pub told-fine : (s : List ℕ) (w : Worked) → w .fine ≡ true → asRead s w ≡ reads (w .value .millionths) (tokens (drop (w .next) s))
+unfolding asRead
 told-fine s w e = rw e
 
-pub told-refused : (s : List ℕ) (w : Worked) → w .fine ≡ false → told s w ≡ refused
-unfolding told
+pub told-refused : (s : List ℕ) (w : Worked) → w .fine ≡ false → asRead s w ≡ refused
+unfolding asRead
 told-refused s w e = rw e
 
-told-worked : (s : List ℕ) (r : Reckoned) (next : ℕ) → told s (workedOf r next) ≡ kept r (tokens (drop next s))
-unfolding told workedOf kept
+told-worked : (s : List ℕ) (r : Reckoned) (next : ℕ) → asRead s (workedOf r next) ≡ kept r (tokens (drop next s))
+unfolding asRead workedOf kept
 told-worked s Refused next = refl
 told-worked s (Value a) next = refl
 
@@ -53,7 +53,7 @@ module _ (op : ℤ → ℤ → Reckoned) (a b : Worked) where
         small = worked-small r (b .next) small;
       }
 
-  join-none : (s : List ℕ) (x y : Bool) → (x and y) ≡ false → a .fine ≡ x → b .fine ≡ y → refused ≡ joined op (told s a) (told s b)
+  join-none : (s : List ℕ) (x y : Bool) → (x and y) ≡ false → a .fine ≡ x → b .fine ≡ y → refused ≡ joined op (asRead s a) (asRead s b)
   unfolding joined _and_
   join-none s false y e p q = rw (told-refused s a p)
   join-none s true false e p q = rw (told-fine s a p, told-refused s b q)
@@ -68,8 +68,8 @@ module _ (op : ℤ → ℤ → Reckoned) (a b : Worked) where
       }
 
 turned : (s : List ℕ) (w : Worked) (z : ℤ) (x : Bool) → w .fine ≡ x → z ≡ negℤ (w .value .millionths) →
-    told s (record { fine = w .fine; value = record { millionths = z }; next = w .next }) ≡ negated true (told s w)
-unfolding told negated
+    asRead s (record { fine = w .fine; value = record { millionths = z }; next = w .next }) ≡ negated true (asRead s w)
+unfolding asRead negated
 turned s w z true f e = rw (f, e)
 turned s w z false f e = rw f
 
@@ -83,7 +83,7 @@ stayed refused = refl
 stayed (reads a ts) = refl
 
 pub stay : (w : Worked) → natAbs (w .value .millionths) < 10 ^ 12 → Negates false w w
-stay w h = record { says = λ s. stayed (told s w); next = refl; small = h }
+stay w h = record { says = λ s. stayed (asRead s w); next = refl; small = h }
 
 module _ (rank : Token → Sign) (s : List ℕ) (w : Worked) where
   pub after-fine : (o : Operator) → w .fine ≡ true → Follows rank s (w .next) o → After rank s w o
@@ -95,21 +95,21 @@ module _ (rank : Token → Sign) (s : List ℕ) (w : Worked) where
   after-refused e = record { says = rw (told-refused s w e); inside = λ a. absurd (false≢true a); beyond = λ a. absurd (false≢true a) }
 
 pub close-says : (s : List ℕ) (w : Worked) (x y : Bool) → w .fine ≡ x → isClose (lexed s (w .next) .token) ≡ y →
-    told s (record { fine = w .fine and isClose (lexed s (w .next) .token); value = w .value; next = lexed s (w .next) .next }) ≡ closed (told s w)
-unfolding told closed _and_
+    asRead s (record { fine = w .fine and isClose (lexed s (w .next) .token); value = w .value; next = lexed s (w .next) .next }) ≡ closed (asRead s w)
+unfolding asRead closed _and_
 close-says s w true true e f = rw (e, f, head-seen s (w .next), tail-seen s (w .next), f)
 close-says s w true false e f = rw (e, f, head-seen s (w .next), f)
 close-says s w false y e f = rw e
 
 -- whether the whole text was read
 module _ (s : List ℕ) (w : Worked) where
-  pub whole-read : (w .fine and leb (length s) (w .next)) ≡ true → whole (told s w) ≡ Value (w .value .millionths)
+  pub whole-read : (w .fine and leb (length s) (w .next)) ≡ true → whole (asRead s w) ≡ Value (w .value .millionths)
   unfolding whole
   whole-read e =
       let h = leb-true (length s) (w .next) (and-r (w .fine) (leb (length s) (w .next)) e) in
       rw (told-fine s w (and-l (w .fine) (leb (length s) (w .next)) e), tokens-end s (w .next) h)
 
-  pub part-read : (x y : Bool) → w .fine ≡ x → leb (length s) (w .next) ≡ y → (x and y) ≡ false → whole (told s w) ≡ Refused
+  pub part-read : (x y : Bool) → w .fine ≡ x → leb (length s) (w .next) ≡ y → (x and y) ≡ false → whole (asRead s w) ≡ Refused
   unfolding whole _and_
   part-read false y p q e = rw (told-refused s w p)
   part-read true false p q e = rw (told-fine s w p, tokens-next s (w .next) (leb-false (length s) (w .next) q))

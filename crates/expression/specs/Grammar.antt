@@ -8,8 +8,8 @@ use lib.ListN.{getD}
 use Rattle.reckon.specs.Rounding.{sumOf, differenceOf, productOf, quotientOf}
 use Rattle.reckon.specs.declared.Reckoned.{Reckoned}
 use Rattle.reckon.specs.declared.Reckoned.the-variants.{Refused, Value}
-use Rattle.tokens.specs.declared.Token.{Token}
-use Rattle.tokens.specs.declared.Token.the-variants.{End, Number, Variable, Plus, Minus, Times, Over, Open, Close, Unknown}
+use Rattle.macro_tokens.specs.declared.Token.{Token}
+use Rattle.macro_tokens.specs.declared.Token.the-variants.{End, Number, Variable, Plus, Minus, Times, Over, Open, Close, Unknown}
 use Rattle.expression.specs.declared.Leaf.{Leaf}
 use Rattle.expression.specs.declared.Leaf.the-variants as leaf
 use Rattle.expression.specs.declared.Sign.{Sign}

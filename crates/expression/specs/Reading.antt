@@ -7,8 +7,8 @@ use lib.IntN.{ℤ, pos, natAbs}
 use lib.ListN.{length, getD, drop}
 use Rattle.reckon.specs.declared.Reckoned.{Reckoned}
 use Rattle.reckon.specs.declared.Reckoned.the-variants.{Refused, Value}
-use Rattle.tokens.specs.Tokens.{tokens}
-use Rattle.tokens.specs.declared.Token.{Token}
+use Rattle.macro_tokens.specs.Tokens.{tokens}
+use Rattle.macro_tokens.specs.declared.Token.{Token}
 use Rattle.expression.specs.Grammar.{Reading, refused, reads, Next, stop, go, head, tail, following, after, joined, negated}
 use Rattle.expression.specs.declared.Operator.{Operator}
 use Rattle.expression.specs.declared.Sign.{Sign}
@@ -20,12 +20,12 @@ pub record Fits (variables : List ℤ) : Type 0 where
   pub each : (i : ℕ) → natAbs (getD variables i (pos 0)) < 10 ^ 12
 
 -- the value, and the tokens from `next` on
-unfoldable pub told : List ℕ → Worked → Reading
-told s r = cond (r .fine) (reads (r .value .millionths) (tokens (drop (r .next) s))) refused
+unfoldable pub asRead : List ℕ → Worked → Reading
+asRead s r = cond (r .fine) (reads (r .value .millionths) (tokens (drop (r .next) s))) refused
 
 -- r is this reading of what stands from `at` on
 pub record Reads (s : List ℕ) (at : ℕ) (r : Worked) (w : Reading) : Type 0 where
-  pub says : told s r ≡ w
+  pub says : asRead s r ≡ w
   pub further : at ≤ r .next
   pub small : natAbs (r .value .millionths) < 10 ^ 12
 
@@ -48,7 +48,7 @@ pub record Follows (rank : Token → Sign) (s : List ℕ) (at : ℕ) (o : Operat
 
 -- o is the operator of a rank behind what was read, if there is one
 pub record After (rank : Token → Sign) (s : List ℕ) (w : Worked) (o : Operator) : Type 0 where
-  pub says : nextOf s o ≡ after rank (told s w)
+  pub says : nextOf s o ≡ after rank (asRead s w)
   pub inside : o .any ≡ true → w .next < length s
   pub beyond : o .any ≡ true → w .next < o .next
 
@@ -58,12 +58,12 @@ workedOf (Value a) next = record { fine = true; value = record { millionths = a 
 
 -- r is the operation of a and b, for every text
 pub record Joins (op : ℤ → ℤ → Reckoned) (a b r : Worked) : Type 0 where
-  pub says : (s : List ℕ) → told s r ≡ joined op (told s a) (told s b)
+  pub says : (s : List ℕ) → asRead s r ≡ joined op (asRead s a) (asRead s b)
   pub next : r .next ≡ b .next
   pub small : natAbs (r .value .millionths) < 10 ^ 12
 
 -- r is w, with the other sign where it has a minus
 pub record Negates (minus : Bool) (w r : Worked) : Type 0 where
-  pub says : (s : List ℕ) → told s r ≡ negated minus (told s w)
+  pub says : (s : List ℕ) → asRead s r ≡ negated minus (asRead s w)
   pub next : r .next ≡ w .next
   pub small : natAbs (r .value .millionths) < 10 ^ 12

@@ -6,7 +6,7 @@ use lib.IntN.{ℤ, natAbs}
 use lib.ListN.{length}
 use Rattle.reckon.specs.declared.Reckoned.{Reckoned}
 use Rattle.reckon.specs.declared.Reckoned.the-variants.{Refused, Value}
-use Rattle.tokens.specs.Tokens.{tokens}
+use Rattle.macro_tokens.specs.Tokens.{tokens}
 use Rattle.expression.specs.Grammar.{Reading, refused, reads, expressionAt}
 
 -- no token is left

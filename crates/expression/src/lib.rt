@@ -3,13 +3,13 @@ ghost use mathlib.Core.Path.{_≡_};
 ghost use Prim.Native.Nat.{_-_, _<_, _^_};
 ghost use lib.IntN.{pos, natAbs};
 ghost use lib.ListN.{length, drop, getD};
-ghost use Rattle.tokens.specs.Tokens.{tokens};
+ghost use Rattle.macro_tokens.specs.Tokens.{tokens};
 ghost use Rattle.expression.specs.Grammar.{leafOf, isClose, plusMinus, timesOver, sumBy, productBy, closed, factorAt, termAt, expressionAt};
-ghost use Rattle.expression.specs.Reading.{Fits, Reads, Follows, After, Joins, Negates, told, operatorOf, workedOf};
+ghost use Rattle.expression.specs.Reading.{Fits, Reads, Follows, After, Joins, Negates, asRead, operatorOf, workedOf};
 ghost use Rattle.expression.specs.Value.{Comes};
 use decimal::Amount;
+use macro_tokens::Token;
 use reckon::Reckoned;
-use tokens::Token;
 
 // The variables $1 to $64, in millionths.
 pub struct Variables {
@@ -145,7 +145,7 @@ fn operator_of(sign: Sign, at: usize, next: usize) -> Operator
 fn sign_at(s: &[u8], at: usize) -> Operator
     ensures { λ r. ⌜ Follows plusMinus (now (s .entry)) at r ⌝ }
 {
-    let l = tokens::token_at(s, at);
+    let l = macro_tokens::token_at(s, at);
     let token = l.token;
     operator_of(plus_minus(token), at, l.next)
 }
@@ -154,7 +154,7 @@ fn sign_at(s: &[u8], at: usize) -> Operator
 fn times_at(s: &[u8], at: usize) -> Operator
     ensures { λ r. ⌜ Follows timesOver (now (s .entry)) at r ⌝ }
 {
-    let l = tokens::token_at(s, at);
+    let l = macro_tokens::token_at(s, at);
     let token = l.token;
     operator_of(times_over(token), at, l.next)
 }
@@ -300,9 +300,9 @@ fn is_close(token: Token) -> bool
 // What was read, with the parenthesis that closes it.
 fn close(s: &[u8], w: Worked) -> Worked
     requires { ⌜ natAbs (w .value .millionths) < 10 ^ 12 ⌝ }
-    ensures { λ r. ⌜ Reads (now (s .entry)) (w .next) r (closed (told (now (s .entry)) w)) ⌝ }
+    ensures { λ r. ⌜ Reads (now (s .entry)) (w .next) r (closed (asRead (now (s .entry)) w)) ⌝ }
 {
-    let l = tokens::token_at(s, w.next);
+    let l = macro_tokens::token_at(s, w.next);
     let token = l.token;
     let a = w.value;
     Worked {
@@ -317,7 +317,7 @@ fn factor(s: &[u8], at: usize, depth: usize, v: Variables) -> Worked
     requires { ⌜ Fits (v .values) ⌝ }
     ensures { λ r. ⌜ Reads (now (s .entry)) at r (factorAt (length (now (s .entry))) (v .values) depth (tokens (drop at (now (s .entry))))) ⌝ }
 {
-    let l = tokens::token_at(s, at);
+    let l = macro_tokens::token_at(s, at);
     let token = l.token;
     let f = leaf_of(token, v);
     match f {

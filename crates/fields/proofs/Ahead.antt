@@ -19,7 +19,7 @@ use Rattle.digits.specs.Digits.{isDigit}
 use Rattle.book.specs.declared.Book.{Book}
 use Rattle.fields.specs.Parts.{beginsText, isField, partAfter}
 use Rattle.fields.specs.declared.Part.{Part}
-use Rattle.fields.specs.declared.Part.the-variants.{CodeG4, Named, Field, Plain}
+use Rattle.fields.specs.declared.Part.the-variants.{CodeG4, Named, Field, Over}
 
 -- place i holds one of these bytes, which stand from `at` on, and is in the field, as the walk sees it from this part on
 unfoldable pub reaches : Book → Part → List ℕ → ℕ → ℕ → Bool
@@ -77,14 +77,14 @@ module _ (book : Book) (part : Part) (b : ℕ) (s : List ℕ) (at i : ℕ) where
   reach-next e = rw (reaches, e)
 
 -- no field ahead
-pub plain-ahead : (book : Book) (s : List ℕ) (at i : ℕ) → reaches book Plain s at i ≡ false
+pub plain-ahead : (book : Book) (s : List ℕ) (at i : ℕ) → reaches book Over s at i ≡ false
 unfolding reaches isField partAfter
 plain-ahead book [] at i = refl
 plain-ahead book (b ∷ s) at i = go (eqb i at) refl (plain-ahead book s (at + 1) i)
   where
-    go : (t : Bool) → eqb i at ≡ t → reaches book Plain s (at + 1) i ≡ false → reaches book Plain (b ∷ s) at i ≡ false
-    go true e rest = reach-here book Plain b s at i e
-    go false e rest = reach-next book Plain b s at i e ∙ rest
+    go : (t : Bool) → eqb i at ≡ t → reaches book Over s (at + 1) i ≡ false → reaches book Over (b ∷ s) at i ≡ false
+    go true e rest = reach-here book Over b s at i e
+    go false e rest = reach-next book Over b s at i e ∙ rest
 
 -- a byte that is not in the field, and leads from a part to another
 module _ (book : Book) (part : Part) (b : ℕ) (out : isField part b ≡ false) (s : List ℕ) (at i : ℕ) where
@@ -96,7 +96,7 @@ module _ (book : Book) (part : Part) (b : ℕ) (out : isField part b ≡ false) 
       go true q = (reach-here book part b s at i q ∙ out) ∙ sym (none (eqb-true i at q))
       go false q = reach-next book part b s at i q ∙ rw p rest
 
-  pub to-plain : partAfter book part b ≡ Plain → reaches book part (b ∷ s) at i ≡ false
+  pub to-plain : partAfter book part b ≡ Over → reaches book part (b ∷ s) at i ≡ false
   to-plain p = to-next p (λ q. refl) (plain-ahead book s (at + 1) i)
 
   pub to-part : (may : Bool) (a e : ℕ) {next : Part} → partAfter book part b ≡ next → at < a → reaches book next s (at + 1) i ≡ (may and range a i e) → reaches book part (b ∷ s) at i ≡ (may and range a i e)
@@ -157,7 +157,7 @@ named-ahead book (b ∷ s) at i = go (byte "*" b) refl (byte "," b) refl (named-
     out : isField Named b ≡ false
     out = refl
 
-    starred : byte "*" b ≡ true → partAfter book Named b ≡ Plain
+    starred : byte "*" b ≡ true → partAfter book Named b ≡ Over
     starred f = rw f
 
     behind : byte "*" b ≡ false → byte "," b ≡ true → partAfter book Named b ≡ Field

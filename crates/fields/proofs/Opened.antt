@@ -19,7 +19,7 @@ use Rattle.book.specs.Books.{isOld}
 use Rattle.book.specs.declared.Book.{Book}
 use Rattle.fields.specs.Fields.{hasShortCode, fieldFrom, fieldTo, fieldHas}
 use Rattle.fields.specs.Parts.{isField, partAfter}
-use Rattle.fields.specs.declared.Part.the-variants.{Start, CodeG, CodeG0, Mark, MarkA, MarkT, Named, Plain}
+use Rattle.fields.specs.declared.Part.the-variants.{Start, CodeG, CodeG0, Mark, MarkA, MarkT, Named, Over}
 use Rattle.fields.proofs.Ahead.{reaches, star, comma, range, range-before, range-none, first-later, to-next, to-plain, to-part, field-ahead, short-ahead, named-ahead, holds}
 
 -- a byte that is known is none of another kind
@@ -173,7 +173,7 @@ a-ahead book (b ∷ s) at i = to-plain book MarkA b out s at i after
     out : isField MarkA b ≡ false
     out = refl
 
-    after : partAfter book MarkA b ≡ Plain
+    after : partAfter book MarkA b ≡ Over
     after = refl
 
 mark-ahead : (book : Book) (s : List ℕ) (at i : ℕ) → reaches book Mark s at i ≡ ((s begins "TF" or s begins "TA" or s begins "TO") and range (comma s at + 1) i (star s at))

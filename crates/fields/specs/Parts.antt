@@ -9,7 +9,7 @@ use Rattle.digits.specs.Digits.{isDigit}
 use Rattle.book.specs.Books.{isOld}
 use Rattle.book.specs.declared.Book.{Book}
 use Rattle.fields.specs.declared.Part.{Part}
-use Rattle.fields.specs.declared.Part.the-variants.{Start, CodeG, CodeG0, CodeG4, Mark, MarkA, MarkT, Named, Field, Plain}
+use Rattle.fields.specs.declared.Part.the-variants.{Start, CodeG, CodeG0, CodeG4, Mark, MarkA, MarkT, Named, Field, Over}
 
 -- behind `G4` G04's text begins with this byte: with a digit the code is another one, with `*` there is no text
 unfoldable pub beginsText : ℕ → Bool
@@ -26,32 +26,32 @@ isField MarkA b = false
 isField MarkT b = false
 isField Named b = false
 isField Field b = not (eqb b (code "*"))
-isField Plain b = false
+isField Over b = false
 
-unfoldable pub isPlain : Part → Bool
-isPlain Start = false
-isPlain CodeG = false
-isPlain CodeG0 = false
-isPlain CodeG4 = false
-isPlain Mark = false
-isPlain MarkA = false
-isPlain MarkT = false
-isPlain Named = false
-isPlain Field = false
-isPlain Plain = true
+unfoldable pub isOver : Part → Bool
+isOver Start = false
+isOver CodeG = false
+isOver CodeG0 = false
+isOver CodeG4 = false
+isOver Mark = false
+isOver MarkA = false
+isOver MarkT = false
+isOver Named = false
+isOver Field = false
+isOver Over = true
 
 -- the part behind a byte
 unfoldable pub partAfter : Book → Part → ℕ → Part
-partAfter book Start b = cond (eqb b (code "G")) CodeG Plain
-partAfter book CodeG b = cond (eqb b (code "0")) CodeG0 (cond (isOld book and eqb b (code "4")) CodeG4 Plain)
-partAfter book CodeG0 b = cond (eqb b (code "4")) Field Plain
-partAfter book CodeG4 b = cond (beginsText b) Field Plain
-partAfter book Mark b = cond (eqb b (code "A")) MarkA (cond (eqb b (code "T")) MarkT Plain)
-partAfter book MarkA b = Plain
-partAfter book MarkT b = cond (eqb b (code "F") or eqb b (code "A") or eqb b (code "O")) Named Plain
-partAfter book Named b = cond (eqb b (code "*")) Plain (cond (eqb b (code ",")) Field Named)
-partAfter book Field b = cond (eqb b (code "*")) Plain Field
-partAfter book Plain b = Plain
+partAfter book Start b = cond (eqb b (code "G")) CodeG Over
+partAfter book CodeG b = cond (eqb b (code "0")) CodeG0 (cond (isOld book and eqb b (code "4")) CodeG4 Over)
+partAfter book CodeG0 b = cond (eqb b (code "4")) Field Over
+partAfter book CodeG4 b = cond (beginsText b) Field Over
+partAfter book Mark b = cond (eqb b (code "A")) MarkA (cond (eqb b (code "T")) MarkT Over)
+partAfter book MarkA b = Over
+partAfter book MarkT b = cond (eqb b (code "F") or eqb b (code "A") or eqb b (code "O")) Named Over
+partAfter book Named b = cond (eqb b (code "*")) Over (cond (eqb b (code ",")) Field Named)
+partAfter book Field b = cond (eqb b (code "*")) Over Field
+partAfter book Over b = Over
 
 -- the byte is the M of `%AM`
 unfoldable pub opensMacro : Part → ℕ → Bool
@@ -64,4 +64,4 @@ opensMacro MarkA b = eqb b (code "M")
 opensMacro MarkT b = false
 opensMacro Named b = false
 opensMacro Field b = false
-opensMacro Plain b = false
+opensMacro Over b = false

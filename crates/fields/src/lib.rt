@@ -2,7 +2,7 @@
 use book::Book;
 ghost use mathlib.Core.Path.{_≡_};
 ghost use mathlib.Core.Bool.{cond};
-ghost use Rattle.fields.specs.Parts.{beginsText, isField, isPlain, partAfter, opensMacro};
+ghost use Rattle.fields.specs.Parts.{beginsText, isField, isOver, partAfter, opensMacro};
 
 // How much of a command's text is known: nothing yet; `G`; `G0`; the `G4` of the old book; nothing after `%`; `%A`; `%T`; `%TF`, `%TA` or
 // `%TO` before the comma; inside a field; that no field comes any more.
@@ -16,7 +16,7 @@ pub enum Part {
     MarkT,
     Named,
     Field,
-    Plain,
+    Over,
 }
 
 // After `G4` G04's text begins with this byte.
@@ -40,13 +40,13 @@ pub fn in_field(part: Part, b: u8) -> bool
         Part::MarkT => false,
         Part::Named => false,
         Part::Field => b != b'*',
-        Part::Plain => false,
+        Part::Over => false,
     }
 }
 
 // No field comes any more: the part stays as it is.
-pub fn is_plain(part: Part) -> bool
-    ensures { λ r. ⌜ r ≡ isPlain part ⌝ }
+pub fn is_over(part: Part) -> bool
+    ensures { λ r. ⌜ r ≡ isOver part ⌝ }
 {
     match part {
         Part::Start => false,
@@ -58,7 +58,7 @@ pub fn is_plain(part: Part) -> bool
         Part::MarkT => false,
         Part::Named => false,
         Part::Field => false,
-        Part::Plain => true,
+        Part::Over => true,
     }
 }
 
@@ -77,36 +77,36 @@ pub fn part_after(book: Book, part: Part, b: u8) -> Part
     ensures { λ r. ⌜ r ≡ partAfter book part b ⌝ }
 {
     match part {
-        Part::Start => pick(b == b'G', Part::CodeG, Part::Plain),
+        Part::Start => pick(b == b'G', Part::CodeG, Part::Over),
         Part::CodeG => pick(
             b == b'0',
             Part::CodeG0,
             pick(
                 base::both(book::is_old(book), b == b'4'),
                 Part::CodeG4,
-                Part::Plain,
+                Part::Over,
             ),
         ),
-        Part::CodeG0 => pick(b == b'4', Part::Field, Part::Plain),
-        Part::CodeG4 => pick(does_begin_text(b), Part::Field, Part::Plain),
+        Part::CodeG0 => pick(b == b'4', Part::Field, Part::Over),
+        Part::CodeG4 => pick(does_begin_text(b), Part::Field, Part::Over),
         Part::Mark => pick(
             b == b'A',
             Part::MarkA,
-            pick(b == b'T', Part::MarkT, Part::Plain),
+            pick(b == b'T', Part::MarkT, Part::Over),
         ),
-        Part::MarkA => Part::Plain,
+        Part::MarkA => Part::Over,
         Part::MarkT => pick(
             base::either(base::either(b == b'F', b == b'A'), b == b'O'),
             Part::Named,
-            Part::Plain,
+            Part::Over,
         ),
         Part::Named => pick(
             b == b'*',
-            Part::Plain,
+            Part::Over,
             pick(b == b',', Part::Field, Part::Named),
         ),
-        Part::Field => pick(b == b'*', Part::Plain, Part::Field),
-        Part::Plain => Part::Plain,
+        Part::Field => pick(b == b'*', Part::Over, Part::Field),
+        Part::Over => Part::Over,
     }
 }
 
@@ -124,6 +124,6 @@ pub fn opens_macro(part: Part, b: u8) -> bool
         Part::MarkT => false,
         Part::Named => false,
         Part::Field => false,
-        Part::Plain => false,
+        Part::Over => false,
     }
 }

@@ -4,9 +4,9 @@ use Prim.Native.Nat.{ℕ}
 use mathlib.Core.Path.{_≡_}
 use mathlib.Core.List.{List}
 use Rattle.progress.specs.Lent.{Lent}
-use Rattle.mender.specs.Answers.{numberOf, bytesOf, changesOf, unitOf, roundedOf}
-use Rattle.mender.specs.declared.Answer.{Answer}
-use Rattle.mender.specs.declared.Answer.the-variants.{Mended, Refused}
+use Rattle.mend_call.specs.Answers.{numberOf, bytesOf, changesOf, unitOf, roundedOf}
+use Rattle.mend_call.specs.declared.Answer.{Answer}
+use Rattle.mend_call.specs.declared.Answer.the-variants.{Mended, Refused}
 use Rattle.numbered.specs.Mending.{MendsBy}
 use Rattle.numbered.specs.declared.Choice.{Choice}
 use Rattle.host.specs.Mends.{MendsInto}

@@ -3,8 +3,8 @@ use Prim.Native.Nat.{ℕ}
 use mathlib.Core.Path.{_≡_}
 use mathlib.Core.List.{List}
 use Rattle.progress.specs.Lent.{Lent}
-use Rattle.mender.specs.Answers.{numberOf, bytesOf, changesOf, unitOf, roundedOf}
-use Rattle.mender.specs.declared.Answer.{Answer}
+use Rattle.mend_call.specs.Answers.{numberOf, bytesOf, changesOf, unitOf, roundedOf}
+use Rattle.mend_call.specs.declared.Answer.{Answer}
 use Rattle.numbered.specs.Mending.{MendsBy}
 use Rattle.numbered.specs.declared.Choice.{Choice}
 

@@ -2,7 +2,7 @@
 use Prim.Native.Nat.{ℕ}
 use mathlib.Core.Path.{_≡_}
 use mathlib.Core.List.{List}
-use Rattle.reading.specs.Reading as definition
+use Rattle.law_reading.specs.Reading as definition
 use Rattle.progress.specs.Lent.{Lent}
 use Rattle.reader.specs.Reads.{Reads, numberOf, placeOf, unitOf, roundedOf}
 use Rattle.reader.specs.declared.Answer.{Answer}

@@ -2,7 +2,7 @@
 use Prim.Native.Nat.{ℕ, _-_}
 use mathlib.Core.List.{List, [], _∷_}
 use Rattle.command.specs.declared.Span.{Span}
-use Rattle.lookup.specs.declared.Shape.{Shape}
+use Rattle.shapes.specs.declared.Shape.{Shape}
 
 unfoldable pub shapeWords : Shape → List ℕ
 shapeWords s = s .number ∷ s .kind ∷ s .first ∷ s .count ∷ s .primitives ∷ []

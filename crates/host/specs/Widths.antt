@@ -12,12 +12,12 @@ use Rattle.tables.specs.Apertures.{apertureWords}
 use Rattle.tables.specs.declared.Macro.{Macro}
 use Rattle.tables.specs.Macros.{macroRoom, macroWords}
 use Rattle.descend.specs.Slots.{itemWords}
-use Rattle.summaries.specs.declared.Row.{Row}
-use Rattle.summary.specs.Kept.{rowWords}
-use Rattle.summary.specs.Answers.{roomy}
-use Rattle.lookup.specs.declared.Primitive.{Primitive}
-use Rattle.lookup.specs.declared.Shape.{Shape}
-use Rattle.figures.specs.Runs.{primitiveWords}
+use Rattle.summary_rows.specs.declared.Row.{Row}
+use Rattle.summary_by_aperture.specs.Kept.{rowWords}
+use Rattle.summary_by_aperture.specs.Answers.{roomy}
+use Rattle.shapes.specs.declared.Primitive.{Primitive}
+use Rattle.shapes.specs.declared.Shape.{Shape}
+use Rattle.shapes.specs.Runs.{primitiveWords}
 use Rattle.host.specs.Shapes.{shapeWords}
 
 pub record ItemsAre (r : ℕ) : Type 0 where

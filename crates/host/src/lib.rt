@@ -1,15 +1,15 @@
 // The calls for a host program in C (host/sheet.h): numbers and slices alone. Each is one call of the crate that answers, with the
 // answer turned into document 01's number and its values stored where they are asked for.
+use attribute_call::Kind;
 use command::Span;
 use descend::Fetch;
 use descend::Total;
-use lookup::Lookup;
 use reader::Answer;
-use sayings::Kind;
-use summary::Outcome;
+use shapes::Lookup;
+use summary_by_aperture::Outcome;
 ghost use mathlib.Core.Path.{_≡_};
 ghost use lib.ListN.{length};
-ghost use Rattle.sayings.specs.declared.Kind.the-variants.{Aperture, Object};
+ghost use Rattle.attribute_call.specs.declared.Kind.the-variants.{Aperture, Object};
 ghost use Rattle.progress.specs.Lent.{lentOf, roomOf};
 ghost use Rattle.reader.specs.Reads.{numberOf, placeOf, unitOf, roundedOf};
 ghost use Rattle.numbered.specs.Choice.{choiceOf, shortChoice};
@@ -17,21 +17,21 @@ ghost use Rattle.numbered.specs.Calls.{attributeBy, signatureBy, readingBy, rou
 ghost use Rattle.descend.specs.Answers.{totalOf, totalNumber, totalValue, answerOf, answerNumber, answerItem};
 ghost use Rattle.descend.specs.Slots.{itemWords, fetchOf, fetchNumber, fetched};
 ghost use Rattle.address.specs.Answers.{replyOf};
-ghost use Rattle.addressing.specs.Answers.{addressNumber, addressWords};
-ghost use Rattle.summary.specs.Answers.{outcomeOf, outcomeNumber, summed};
+ghost use Rattle.address.specs.Addressed.{addressNumber, addressWords};
+ghost use Rattle.summary_by_aperture.specs.Answers.{outcomeOf, outcomeNumber, summed};
 ghost use Rattle.digest.specs.Md5.{md5};
 ghost use Rattle.numbered.specs.Placing.{PlacesBy};
-ghost use Rattle.roster.specs.Lists.{answered};
-ghost use Rattle.assembly.specs.Placement.{workOf};
+ghost use Rattle.placement_list.specs.Lists.{answered};
+ghost use Rattle.placement_call.specs.Placement.{workOf};
 ghost use Rattle.host.specs.Mends.{MendsInto};
-ghost use Rattle.lookup.specs.Shapes.{lookupOf, recordOf, lookupNumber, lookupShape};
-ghost use Rattle.figures.specs.Runs.{fetchOf as primitiveFetch, fetchNumber as primitiveNumber, fetched as primitivesFetched};
+ghost use Rattle.shapes.specs.Shapes.{lookupOf, recordOf, lookupNumber, lookupShape};
+ghost use Rattle.shapes.specs.Runs.{fetchOf as primitiveFetch, fetchNumber as primitiveNumber, fetched as primitivesFetched};
 ghost use Rattle.host.specs.Reads.{ReadsInto};
 ghost use Rattle.host.specs.Shapes.{shapeWords, sizeOf};
 ghost use Rattle.host.specs.Widths.{ItemsAre, EntriesAre, AperturesAre, MacrosAre, RowsAre, ScratchIs, ShapesAre, PrimitivesAre};
 
 // The number of a reading's answer, and its place, unit and rounded decimals.
-fn told(a: Answer, place: &mut u64, unit: &mut u64, rounded: &mut u64) -> u64
+fn answered(a: Answer, place: &mut u64, unit: &mut u64, rounded: &mut u64) -> u64
     ensures { λ r. ⌜ (r ≡ numberOf a) × (now (place .exit) ≡ placeOf a) × (now (unit .exit) ≡ unitOf a) × (now (rounded .exit) ≡ roundedOf a) ⌝ }
 {
     match a {
@@ -84,7 +84,7 @@ pub extern "C" fn sheet_read_as(
         macros,
         numbers,
     );
-    told(a, place, unit, rounded)
+    answered(a, place, unit, rounded)
 }
 
 // The short call, which names no edition, likewise.
@@ -107,7 +107,7 @@ pub extern "C" fn sheet_read(
         (lentOf (now (file .entry)) (now (entries .exit)) (now (apertures .exit)) (now (macros .exit)) (now (numbers .exit))) (now (head .exit)) r (now (place .exit)) (now (unit .exit)) (now (rounded .exit)) ⌝ }
 {
     let a = numbered::read(letters, file, head, entries, apertures, macros, numbers);
-    told(a, place, unit, rounded)
+    answered(a, place, unit, rounded)
 }
 
 // The number of items of a sheet, 0 where the store is none.
@@ -146,7 +146,7 @@ pub extern "C" fn sheet_address(
     ensures { λ r. ⌜ (r ≡ addressNumber (now (head .entry)) (now (entries .entry)) (now (apertures .entry)) k)
         × (now (address .exit) ≡ addressWords (now (head .entry)) (now (entries .entry)) (now (apertures .entry)) k) ⌝ }
 {
-    addressing::address_of(head, entries, apertures, k, address)
+    address::address_of(head, entries, apertures, k, address)
 }
 
 // The number of the item that an address names, 0 where it names nothing.
@@ -189,7 +189,7 @@ pub extern "C" fn sheet_summary(
     ensures { λ r. ⌜ (r ≡ outcomeNumber (outcomeOf (now (head .entry)) (now (entries .entry)) (now (apertures .entry)) (length (now (rows .entry))) (length (now (scratch .entry)))))
         × (now (rows .exit) ≡ summed (now (head .entry)) (now (entries .entry)) (now (apertures .entry)) (length (now (rows .entry))) (length (now (scratch .entry)))) ⌝ }
 {
-    let r = survey::summary(head, entries, apertures, scratch, rows);
+    let r = summary::summary(head, entries, apertures, scratch, rows);
     summary_number(r)
 }
 
@@ -335,7 +335,7 @@ pub extern "C" fn sheet_macro_words() -> usize
 pub extern "C" fn sheet_row_words() -> usize
     ensures { λ r. ⌜ RowsAre r ⌝ }
 {
-    summary::ROW_WORDS
+    summary_by_aperture::ROW_WORDS
 }
 
 // The words of scratch that a summary asks for each aperture.
@@ -343,7 +343,7 @@ pub extern "C" fn sheet_row_words() -> usize
 pub extern "C" fn sheet_scratch_words() -> usize
     ensures { λ r. ⌜ ScratchIs r ⌝ }
 {
-    summary::SCRATCH_WORDS
+    summary_by_aperture::SCRATCH_WORDS
 }
 
 // Lists the parts of a component layer by the edition and the rule of letters that the numbers name: the bytes of the list in out, and how
@@ -430,7 +430,7 @@ pub extern "C" fn sheet_mend(
         numbers,
     );
     match a {
-        mender::Answer::Mended {
+        mend_call::Answer::Mended {
             bytes: b,
             changes: n,
             unit: u,
@@ -442,7 +442,7 @@ pub extern "C" fn sheet_mend(
             *rounded = d as u64;
             0
         }
-        mender::Answer::Refused { number } => {
+        mend_call::Answer::Refused { number } => {
             *bytes = 0;
             *changes = 0;
             *unit = 0;
@@ -501,7 +501,7 @@ pub extern "C" fn sheet_shape(
     ensures { λ r. ⌜ (r ≡ lookupNumber (lookupOf (now (head .entry)) (now (apertures .entry)) (now (numbers .entry)) number))
         × (now (shape .exit) ≡ shapeWords (lookupShape (lookupOf (now (head .entry)) (now (apertures .entry)) (now (numbers .entry)) number))) ⌝ }
 {
-    let l = lookup::shape_of(head, apertures, numbers, number);
+    let l = shapes::shape_of(head, apertures, numbers, number);
     *shape = shape_words(l);
     lookup_number(l)
 }
@@ -518,20 +518,20 @@ pub extern "C" fn sheet_shape_record(
     ensures { λ r. ⌜ (r ≡ lookupNumber (recordOf (now (head .entry)) (now (apertures .entry)) (now (numbers .entry)) b))
         × (now (shape .exit) ≡ shapeWords (lookupShape (recordOf (now (head .entry)) (now (apertures .entry)) (now (numbers .entry)) b))) ⌝ }
 {
-    let l = lookup::shape_at(head, apertures, numbers, b);
+    let l = shapes::shape_at(head, apertures, numbers, b);
     *shape = shape_words(l);
     lookup_number(l)
 }
 
 // Document 01's number of a call for a run of primitives.
-fn primitives_number(f: figures::Fetch) -> u64
+fn primitives_number(f: shapes::Fetch) -> u64
     ensures { λ r. ⌜ r ≡ primitiveNumber f ⌝ }
 {
     match f {
-        figures::Fetch::Done => 0,
-        figures::Fetch::Past => 20,
-        figures::Fetch::Unknown => 8,
-        figures::Fetch::NotSheet => 21,
+        shapes::Fetch::Done => 0,
+        shapes::Fetch::Past => 20,
+        shapes::Fetch::Unknown => 8,
+        shapes::Fetch::NotSheet => 21,
     }
 }
 
@@ -548,7 +548,7 @@ pub extern "C" fn sheet_primitives(
     ensures { λ r. ⌜ (r ≡ primitiveNumber (primitiveFetch (now (head .entry)) (now (apertures .entry)) (now (numbers .entry)) number i))
         × (now (primitives .exit) ≡ primitivesFetched (now (head .entry)) (now (apertures .entry)) (now (numbers .entry)) number i (length (now (primitives .entry)))) ⌝ }
 {
-    let f = figures::primitives_of(head, apertures, numbers, number, i, primitives);
+    let f = shapes::primitives_of(head, apertures, numbers, number, i, primitives);
     primitives_number(f)
 }
 
@@ -626,5 +626,5 @@ pub extern "C" fn sheet_shape_words() -> usize
 pub extern "C" fn sheet_primitive_words() -> usize
     ensures { λ r. ⌜ PrimitivesAre r ⌝ }
 {
-    figures::PRIMITIVE_WORDS
+    shapes::PRIMITIVE_WORDS
 }

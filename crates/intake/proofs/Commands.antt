@@ -29,7 +29,7 @@ use Rattle.intake.specs.declared.Piece.{Piece}
 use Rattle.intake.specs.declared.Stage.{Stage}
 use Rattle.intake.specs.declared.Stage.the-variants.{Cut}
 use Rattle.intake.specs.Stages.{settled, stageAfter, opens, begins, stopped}
-use Rattle.intake.specs.Runs.{taken, told}
+use Rattle.intake.specs.Runs.{taken, answered}
 use Rattle.intake.proofs.Stands.{along, between, goes, starts, skips}
 use Rattle.intake.proofs.Steps.{taken-end, taken-next, bad-stays}
 
@@ -39,7 +39,7 @@ module _ (book : Book) (file : List ℕ) (short : length file < 2 ^ 64) (from at
 
   -- the answer from here on
   abbrev pub run : Stage → ℕ → ℕ → Answer
-  run stage place i = told (taken (along book file stage from at place i) (drop i file))
+  run stage place i = answered (taken (along book file stage from at place i) (drop i file))
 
   -- and what it comes to, by what the scanner says of the command
   abbrev pub outcome : Scan → Answer
@@ -84,7 +84,7 @@ module _ (book : Book) (file : List ℕ) (short : length file < 2 ^ 64) (from at
       go (Bad bad) e = rw (e, runs.at-bad book file place way i h e) (bad-stays (drop (i + 1) file) (along book file (Cut (Bad bad)) from at place (i + 1)) refl)
 
   inner-end : (i : ℕ) → length file ≤ i → i ≤ length file → Inner i
-  unfolding told
+  unfolding answered
   inner-end i h k s place l = rw (taken-end (along book file (Cut (Inside s)) from at place i) file i h) (ends-here place (Inside s) i h k)
 
   inner-next : (i : ℕ) → i < length file → Inner (i + 1) → Inner i
@@ -103,10 +103,10 @@ module _ (book : Book) (file : List ℕ) (short : length file < 2 ^ 64) (from at
 
   -- between commands
   abbrev Outer : ℕ → Type 0
-  Outer i = (q : Piece) → told (taken (between book file from at i q) (drop i file)) ≡ outcome (walked i Between i)
+  Outer i = (q : Piece) → answered (taken (between book file from at i q) (drop i file)) ≡ outcome (walked i Between i)
 
   outer-end : (i : ℕ) → length file ≤ i → i ≤ length file → Outer i
-  unfolding told
+  unfolding answered
   outer-end i h k q = rw (taken-end (between book file from at i q) file i h) (ends-here i Between i h k)
 
   outer-next : (i : ℕ) → i < length file → (t : Bool) → isBreak (byte i) ≡ t → Outer (i + 1) → Outer i
@@ -126,5 +126,5 @@ module _ (book : Book) (file : List ℕ) (short : length file < 2 ^ 64) (from at
       go true e rest = let m : i < length file = ltb-true _ _ e in outer-next i m (isBreak (byte i)) refl (rest (omega arith) (omega arith))
 
   -- from between commands on, the next one ends as `nextCommand` says
-  pub next-run : (i : ℕ) → i ≤ length file → (q : Piece) → told (taken (between book file from at i q) (drop i file)) ≡ outcome (nextCommand book file i)
+  pub next-run : (i : ℕ) → i ≤ length file → (q : Piece) → answered (taken (between book file from at i q) (drop i file)) ≡ outcome (nextCommand book file i)
   next-run i k q = outer (length file) i (omega arith) k q ∙ ap outcome (walk book file (drop i file) i refl)

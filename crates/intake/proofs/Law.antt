@@ -33,7 +33,7 @@ use Rattle.intake.specs.declared.Intake.{Intake}
 use Rattle.intake.specs.declared.Piece.{Piece}
 use Rattle.intake.specs.declared.Stage.the-variants.{Cut, Over, Past}
 use Rattle.intake.specs.Stages.{over, settled, stageAfter, begins}
-use Rattle.intake.specs.Runs.{piece, empty, pushed, taken, inRuns, told}
+use Rattle.intake.specs.Runs.{piece, empty, pushed, taken, inRuns, answered}
 use Rattle.intake.proofs.Commands.{run, outcome, next-run}
 use Rattle.intake.proofs.Stands.{along, between, part, goes, bare-none}
 use Rattle.intake.proofs.Steps.{taken-end, taken-next, bad-stays, past-stays}
@@ -94,7 +94,7 @@ module _ (book : Book) (file : List ℕ) (short : length file < 2 ^ 64) where
           (bad-stays (drop (i + 1) file) (along book file (Cut (Bad i)) from at place (i + 1)) refl)
 
       over-end : (i : ℕ) → length file ≤ i → Ends i
-      unfolding told
+      unfolding answered
       over-end i h = rw (taken-end (along book file Over from at place i) file i h, tail-end i h)
 
       over-run : (n i : ℕ) → length file ≤ i + n → i ≤ length file → place ≤ i → Ends i
@@ -121,7 +121,7 @@ module _ (book : Book) (file : List ℕ) (short : length file < 2 ^ 64) where
 
   -- from command to command
   abbrev Walks : ℕ → Type 0
-  Walks n = (from at : ℕ) (q : Piece) → at ≤ length file → length file < at + n → told (taken (between book file from at at q) (drop at file)) ≡ walked book n file from at
+  Walks n = (from at : ℕ) (q : Piece) → at ≤ length file → length file < at + n → answered (taken (between book file from at at q) (drop at file)) ≡ walked book n file from at
 
   walks-on : (n : ℕ) → Walks n → Walks (suc n)
   unfolding walked settled
@@ -145,7 +145,7 @@ module _ (book : Book) (file : List ℕ) (short : length file < 2 ^ 64) where
   walks (suc n) from at q h k = walks-on n (walks n) from at q h k
 
   -- one run
-  pub one-run : told (taken (empty book) file) ≡ signatureOf book file
+  pub one-run : answered (taken (empty book) file) ≡ signatureOf book file
   unfolding empty signatureOf fed notedAll
   one-run = rw (bare-none file 0) at (walks (suc (length file)) 0 0 (piece 0 started nothing) (omega arith) (omega arith))
 
@@ -161,5 +161,5 @@ any-cut s [] = refl
 any-cut s (t ∷ ts) = any-cut (taken s t) ts ∙ sym (taken-append s t (flatten ts))
 
 -- the answer is that of the whole file, wherever it was cut, through a letter too
-pub any-cut-signature : (book : Book) (ts : List (List ℕ)) → length (flatten ts) < 2 ^ 64 → told (inRuns (empty book) ts) ≡ signatureOf book (flatten ts)
-any-cut-signature book ts short = ap told (any-cut (empty book) ts) ∙ one-run book (flatten ts) short
+pub any-cut-signature : (book : Book) (ts : List (List ℕ)) → length (flatten ts) < 2 ^ 64 → answered (inRuns (empty book) ts) ≡ signatureOf book (flatten ts)
+any-cut-signature book ts short = ap answered (any-cut (empty book) ts) ∙ one-run book (flatten ts) short

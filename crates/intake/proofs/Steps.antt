@@ -14,7 +14,7 @@ use Rattle.signature.specs.Signature.{refused, judged}
 use Rattle.intake.specs.declared.Intake.{Intake}
 use Rattle.intake.specs.declared.Stage.the-variants.{Cut, Past}
 use Rattle.intake.specs.Stages.{settled, stageAfter, begins, stopped}
-use Rattle.intake.specs.Runs.{grown, pushed, taken, told}
+use Rattle.intake.specs.Runs.{grown, pushed, taken, answered}
 
 module _ (s : Intake) (file : List ℕ) (i : ℕ) where
   pub taken-end : length file ≤ i → taken s (drop i file) ≡ s
@@ -26,12 +26,12 @@ module _ (s : Intake) (file : List ℕ) (i : ℕ) where
   taken-next h = rw (drop-next file i h)
 
 -- after a byte that is not permitted, and after M02 with more than CR and LF, nothing changes the answer
-pub bad-stays : (t : List ℕ) (s : Intake) {place : ℕ} → s .stage ≡ Cut (Bad place) → told (taken s t) ≡ refused 2 place
-unfolding told stopped ended numberOf placeOf taken pushed stageAfter step settled
+pub bad-stays : (t : List ℕ) (s : Intake) {place : ℕ} → s .stage ≡ Cut (Bad place) → answered (taken s t) ≡ refused 2 place
+unfolding answered stopped ended numberOf placeOf taken pushed stageAfter step settled
 bad-stays [] s e = rw e
 bad-stays (b ∷ t) s e = bad-stays t (pushed s b) (rw e)
 
-pub past-stays : (t : List ℕ) (s : Intake) → s .stage ≡ Past → told (taken s t) ≡ judged (s .this .place) (textOf (s .last .text)) (finished (s .last .before))
-unfolding told taken pushed stageAfter begins grown
+pub past-stays : (t : List ℕ) (s : Intake) → s .stage ≡ Past → answered (taken s t) ≡ judged (s .this .place) (textOf (s .last .text)) (finished (s .last .before))
+unfolding answered taken pushed stageAfter begins grown
 past-stays [] s e = rw e
 past-stays (b ∷ t) s e = past-stays t (pushed s b) (rw e) ∙ rw e

@@ -58,8 +58,8 @@ inRuns s [] = s
 inRuns s (t ∷ ts) = inRuns (taken s t) ts
 
 -- the answer, once there are no more runs
-unfoldable pub told : Intake → Answer
-told s =
+unfoldable pub answered : Intake → Answer
+answered s =
     elim (s .stage) [
       | Cut way ↦ stopped (ended (s .at) way)
       | Over ↦ judged (s .this .place) (textOf (s .last .text)) (finished (s .last .before))

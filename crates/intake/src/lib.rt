@@ -12,7 +12,7 @@ ghost use Rattle.digest.specs.Runs.{finished};
 ghost use Rattle.signature.specs.Held.{nothing, textOf};
 ghost use Rattle.signature.specs.Signature.{judged};
 ghost use Rattle.intake.specs.Stages.{over, settled, stageAfter, opens, begins, stopped};
-ghost use Rattle.intake.specs.Runs.{piece, empty, grown, pushed, taken, told};
+ghost use Rattle.intake.specs.Runs.{piece, empty, grown, pushed, taken, answered};
 
 // Between two bytes of the file: on the way to M02, as the scanner cuts it; after M02, with CR and LF only or with other bytes. A byte
 // that is not permitted stops the way on either side of M02.
@@ -223,7 +223,7 @@ fn stop(r: Scan) -> Answer
 
 // The answer, once there are no more runs.
 pub fn tell(s: Intake) -> Answer
-    ensures { λ r. ⌜ r ≡ told s ⌝ }
+    ensures { λ r. ⌜ r ≡ answered s ⌝ }
 {
     let stage = s.stage;
     match stage {

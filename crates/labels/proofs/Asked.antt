@@ -7,7 +7,7 @@ use mathlib.Core.List.{List, [], _∷_}
 use native.Mathlib.Omega.{arith}
 use lib.Dec.{eqb}
 use borrow.Author.Tests.{ne-eqb}
-use Rattle.commands.specs.Commands.{Sequence}
+use Rattle.sequence.specs.Commands.{Sequence}
 use Rattle.labels.specs.Labels.{labelsIn, isNamed, namedIn, nthIn, judged, answerIn}
 use Rattle.labels.specs.Pass.{wants, firstWanted}
 use Rattle.labels.specs.declared.Label.{Label}

@@ -21,13 +21,13 @@ use Rattle.letters.specs.Table as letters-Table
 use Rattle.command.specs.Span.{span}
 use Rattle.words.specs.Newer.{codeOf, newerWord}
 use Rattle.words.specs.Words.{wordOf}
-use Rattle.attributes.specs.Attributes.{valueOf, attributeOf, deletionOf}
+use Rattle.attribute_commands.specs.Attributes.{valueOf, attributeOf, deletionOf}
 use Rattle.recognise.specs.Commands.{oneBlock, isUnread, dataOf, dataIn, extendedOf, commandOf}
-use Rattle.commands.specs.Commands.{commandsFrom, commandsOf}
-use Rattle.commands.specs.Leads.{leadOfFlaw, leadOfSetting, leadOf}
-use Rattle.commands.specs.Turns.{led, turned, turnOf, tailFault}
+use Rattle.sequence.specs.Commands.{commandsFrom, commandsOf}
+use Rattle.sequence.specs.Leads.{leadOfFlaw, leadOfSetting, leadOf}
+use Rattle.sequence.specs.Turns.{led, turned, turnOf, tailFault}
 use Rattle.names.specs.Sets.{setsBy, setsOf}
-use Rattle.labels.specs.Labels.{none, refused, valueIn, labelOf, told, toldOf, before, labelsIn, isNamed, namedIn, nthIn, closing, judged, answerIn, labelNamed, labelAt}
+use Rattle.labels.specs.Labels.{none, refused, valueIn, labelOf, labelBy, labelSetBy, before, labelsIn, isNamed, namedIn, nthIn, closing, judged, answerIn, labelNamed, labelAt}
 use Rattle.labels.specs.declared.Answer.{Answer}
 
 abbrev file : List ℕ
@@ -41,12 +41,12 @@ abbrev numbered : List (ℕ × ℕ × ℕ × ℕ × ℕ × ℕ)
 numbered = (0, 0, 3, 6, 7, 8) ∷ (1, 0, 22, 24, 25, 28) ∷ (2, 0, 33, 34, 0, 0) ∷ (3, 23, 0, 0, 0, 0) ∷ []
 
 by-number : map (λ row. labelAt ascii file (row .0)) numbered ≡ map (λ row. answer (row .1) (row .2) (row .3) (row .4) (row .5)) numbered
-unfolding labelAt answerIn judged closing nthIn labelsIn before toldOf told labelOf valueIn refused none setsOf setsBy commandsOf commandsFrom turnOf turned led leadOf leadOfSetting leadOfFlaw tailFault tailOf fits cutBy commandIn nextCommand inField letterHere letters-Table.letterIn letters-Table.wholeOf letters-Table.leadOf letters-Table.leadIn letters-Table.table letters-Table.follows letters-Table.within kindOf textFrom endOf badIn permitted printable mayBreak breaksAfter commandOf wordOf newerWord codeOf isOld isOldEdition noFormat extendedOf dataIn isUnread dataOf oneBlock attributeOf valueOf deletionOf isName nameStart nameByte nameBytes letter pick firstIn among sameBytes _and_ _or_
+unfolding labelAt answerIn judged closing nthIn labelsIn before labelSetBy labelBy labelOf valueIn refused none setsOf setsBy commandsOf commandsFrom turnOf turned led leadOf leadOfSetting leadOfFlaw tailFault tailOf fits cutBy commandIn nextCommand inField letterHere letters-Table.letterIn letters-Table.wholeOf letters-Table.leadOf letters-Table.leadIn letters-Table.table letters-Table.follows letters-Table.within kindOf textFrom endOf badIn permitted printable mayBreak breaksAfter commandOf wordOf newerWord codeOf isOld isOldEdition noFormat extendedOf dataIn isUnread dataOf oneBlock attributeOf valueOf deletionOf isName nameStart nameByte nameBytes letter pick firstIn among sameBytes _and_ _or_
 by-number = refl
 
 abbrev named : List (String × ℕ × ℕ × ℕ × ℕ × ℕ)
 named = (".ab", 0, 3, 6, 7, 8) ∷ (".a", 0, 22, 24, 25, 28) ∷ ("a", 23, 0, 0, 0, 0) ∷ ("b", 0, 33, 34, 0, 0) ∷ []
 
 by-name : map (λ row. labelNamed ascii file (text (row .0))) named ≡ map (λ row. answer (row .1) (row .2) (row .3) (row .4) (row .5)) named
-unfolding labelNamed answerIn judged closing isNamed namedIn labelsIn before toldOf told labelOf valueIn refused none setsOf setsBy commandsOf commandsFrom turnOf turned led leadOf leadOfSetting leadOfFlaw tailFault tailOf fits cutBy commandIn nextCommand inField letterHere letters-Table.letterIn letters-Table.wholeOf letters-Table.leadOf letters-Table.leadIn letters-Table.table letters-Table.follows letters-Table.within kindOf textFrom endOf badIn permitted printable mayBreak breaksAfter commandOf wordOf newerWord codeOf isOld isOldEdition noFormat extendedOf dataIn isUnread dataOf oneBlock attributeOf valueOf deletionOf isName nameStart nameByte nameBytes letter pick firstIn among sameBytes _and_ _or_
+unfolding labelNamed answerIn judged closing isNamed namedIn labelsIn before labelSetBy labelBy labelOf valueIn refused none setsOf setsBy commandsOf commandsFrom turnOf turned led leadOf leadOfSetting leadOfFlaw tailFault tailOf fits cutBy commandIn nextCommand inField letterHere letters-Table.letterIn letters-Table.wholeOf letters-Table.leadOf letters-Table.leadIn letters-Table.table letters-Table.follows letters-Table.within kindOf textFrom endOf badIn permitted printable mayBreak breaksAfter commandOf wordOf newerWord codeOf isOld isOldEdition noFormat extendedOf dataIn isUnread dataOf oneBlock attributeOf valueOf deletionOf isName nameStart nameByte nameBytes letter pick firstIn among sameBytes _and_ _or_
 by-name = refl

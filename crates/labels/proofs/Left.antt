@@ -5,10 +5,10 @@ use mathlib.Core.Path.{_≡_, refl}
 use mathlib.Core.Bool.{Bool, true, false}
 use mathlib.Core.List.{List, _∷_}
 use Rattle.base.specs.Choose.{pick}
-use Rattle.commands.specs.Commands.{Sequence, stopped, followed}
-use Rattle.commands.specs.declared.Placed.{Placed}
-use Rattle.commands.specs.declared.Refusal.{Refusal}
-use Rattle.labels.specs.Labels.{toldOf, before, labelsIn, judged, answerIn}
+use Rattle.sequence.specs.Commands.{Sequence, stopped, followed}
+use Rattle.sequence.specs.declared.Placed.{Placed}
+use Rattle.sequence.specs.declared.Refusal.{Refusal}
+use Rattle.labels.specs.Labels.{labelSetBy, before, labelsIn, judged, answerIn}
 use Rattle.labels.specs.Pass.{wants, met, leftAfter, firstWanted}
 use Rattle.labels.specs.declared.Answer.{Answer}
 use Rattle.labels.specs.declared.Label.{Label}
@@ -28,10 +28,10 @@ module _ (file : List ℕ) (byName : Bool) (name : List ℕ) where
   unfolding outcome settled answerIn
   pass-starts i l = refl
 
-  settled-more : (left : ℕ) (found told : Found) (ls : List Label) →
-      settled left found (before told ls) ≡ settled (leftAfter left told) (met file byName name left told found) ls
+  settled-more : (left : ℕ) (found label : Found) (ls : List Label) →
+      settled left found (before label ls) ≡ settled (leftAfter left label) (met file byName name left label found) ls
   unfolding settled met before leftAfter firstWanted pick
-  settled-more left (Is l) told ls = refl
+  settled-more left (Is l) label ls = refl
   settled-more left Nothing Nothing ls = refl
   settled-more left Nothing (Is k) ls = go (wants file byName name left k) refl
     where
@@ -41,9 +41,9 @@ module _ (file : List ℕ) (byName : Bool) (name : List ℕ) where
       go false e = rw (e, firstWanted)
 
   pub pass-more : (left : ℕ) (found : Found) (c : Placed) (l : Sequence) →
-      outcome left found (followed c l) ≡ outcome (leftAfter left (toldOf file c)) (met file byName name left (toldOf file c) found) l
+      outcome left found (followed c l) ≡ outcome (leftAfter left (labelSetBy file c)) (met file byName name left (labelSetBy file c) found) l
   unfolding outcome labelsIn
-  pass-more left found c l = rw (settled-more left found (toldOf file c) (labelsIn file (l .commands)))
+  pass-more left found c l = rw (settled-more left found (labelSetBy file c) (labelsIn file (l .commands)))
 
   pub pass-stops : (left : ℕ) (found : Found) (f : Refusal) → outcome left found (stopped f) ≡ judged (f .number) found
   unfolding outcome settled labelsIn firstWanted

@@ -9,8 +9,8 @@ use Rattle.base.specs.Choose.{pick}
 use Rattle.book.specs.Books.{under}
 use Rattle.book.specs.declared.Book.{Book}
 use Rattle.book.specs.declared.Letters.the-variants.{Old, New}
-use Rattle.commands.specs.Commands.{commandsOf}
-use Rattle.commands.proofs.Rules.{commands-kept, commands-alike}
+use Rattle.sequence.specs.Commands.{commandsOf}
+use Rattle.sequence.proofs.Rules.{commands-kept, commands-alike}
 use Rattle.labels.specs.Labels.{refused, nthIn, namedIn, judged, answerIn, labelNamed, labelAt}
 use Rattle.labels.specs.declared.Label.{Label}
 use Rattle.labels.specs.declared.Found.{Found}

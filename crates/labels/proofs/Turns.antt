@@ -14,14 +14,14 @@ use Rattle.scan.specs.declared.Scan.the-variants as scan
 use Rattle.scan.proofs.Within.{Within, next-within}
 use Rattle.command.specs.declared.Span.{Span}
 use Rattle.recognise.specs.Commands.{commandOf}
-use Rattle.bounds.proofs.Bounds.{bounded}
-use Rattle.commands.specs.Leads.{leadOf}
-use Rattle.commands.specs.Turns.{led, turned, turnOf}
-use Rattle.commands.specs.declared.Lead.{Lead}
-use Rattle.commands.specs.declared.Lead.the-variants as lead
-use Rattle.commands.specs.declared.Placed.{Placed}
-use Rattle.commands.specs.declared.Turn.{Turn}
-use Rattle.commands.specs.declared.Turn.the-variants.{Fault, Last, More}
+use Rattle.law_bounds.proofs.Bounds.{bounded}
+use Rattle.sequence.specs.Leads.{leadOf}
+use Rattle.sequence.specs.Turns.{led, turned, turnOf}
+use Rattle.sequence.specs.declared.Lead.{Lead}
+use Rattle.sequence.specs.declared.Lead.the-variants as lead
+use Rattle.sequence.specs.declared.Placed.{Placed}
+use Rattle.sequence.specs.declared.Turn.{Turn}
+use Rattle.sequence.specs.declared.Turn.the-variants.{Fault, Last, More}
 use Rattle.names.specs.Sets.{setsOf}
 use Rattle.names.specs.declared.Sets.{Sets}
 use Rattle.names.specs.declared.Sets.the-variants.{Name}
@@ -39,7 +39,7 @@ unfolding led
 led-lies size n c (lead.Broken number) next h = tt
 led-lies size n c lead.Last next h = h
 led-lies size n c (lead.Format m) next h = h
-led-lies size n c lead.Plain next h = h
+led-lies size n c lead.Other next h = h
 
 -- a name inside a text lies in the file that the text is of
 inside-lies : (size from end : ℕ) (x : Sets) (n : Span) → x ≡ Name n → from ≤ end → end ≤ size → Inside (end - from) x → Lies size from n

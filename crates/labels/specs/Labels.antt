@@ -12,8 +12,8 @@ use Rattle.book.specs.declared.Book.{Book}
 use Rattle.text.specs.First.{place}
 use Rattle.command.specs.Span.{span}
 use Rattle.command.specs.declared.Span.{Span}
-use Rattle.commands.specs.Commands.{Sequence, commandsOf}
-use Rattle.commands.specs.declared.Placed.{Placed}
+use Rattle.sequence.specs.Commands.{Sequence, commandsOf}
+use Rattle.sequence.specs.declared.Placed.{Placed}
 use Rattle.names.specs.Sets.{setsOf}
 use Rattle.names.specs.declared.Sets.{Sets}
 use Rattle.names.specs.declared.Sets.the-variants as sets
@@ -41,12 +41,12 @@ unfoldable pub labelOf : List ℕ → Placed → Span → Label
 labelOf file c n = record { name = span (c .from + n .from) (c .from + n .to); value = valueIn (take (c .end) file) (c .from) }
 
 -- a TF sets a file attribute, and no other command does
-unfoldable pub told : List ℕ → Placed → Sets → Found
-told file c sets.Nothing = Nothing
-told file c (sets.Name n) = Is (labelOf file c n)
+unfoldable pub labelBy : List ℕ → Placed → Sets → Found
+labelBy file c sets.Nothing = Nothing
+labelBy file c (sets.Name n) = Is (labelOf file c n)
 
-unfoldable pub toldOf : List ℕ → Placed → Found
-toldOf file c = told file c (setsOf (c .command))
+unfoldable pub labelSetBy : List ℕ → Placed → Found
+labelSetBy file c = labelBy file c (setsOf (c .command))
 
 unfoldable pub before : Found → List Label → List Label
 before Nothing ls = ls
@@ -55,7 +55,7 @@ before (Is l) ls = l ∷ ls
 -- those of these commands, in order
 unfoldable pub labelsIn : List ℕ → List Placed → List Label
 labelsIn file [] = []
-labelsIn file (c ∷ cs) = before (toldOf file c) (labelsIn file cs)
+labelsIn file (c ∷ cs) = before (labelSetBy file c) (labelsIn file cs)
 
 -- it has the name, byte for byte
 unfoldable pub isNamed : List ℕ → List ℕ → Label → Bool

@@ -6,7 +6,7 @@ use mathlib.Core.List.{List, [], _∷_}
 use lib.Dec.{eqb}
 use Rattle.base.specs.Choose.{pick}
 use Rattle.command.specs.declared.Span.{Span}
-use Rattle.commands.specs.declared.Placed.{Placed}
+use Rattle.sequence.specs.declared.Placed.{Placed}
 use Rattle.names.specs.Sets.{setsOf}
 use Rattle.names.specs.declared.Sets.the-variants.{Name}
 use Rattle.labels.specs.Labels.{isNamed}
@@ -33,7 +33,7 @@ firstWanted file byName name left (l ∷ ls) =
 
 -- what is found stays, and a command that sets none leaves what there is
 unfoldable pub met : List ℕ → Bool → List ℕ → ℕ → Found → Found → Found
-met file byName name left told (Is l) = Is l
+met file byName name left label (Is l) = Is l
 met file byName name left Nothing Nothing = Nothing
 met file byName name left (Is l) Nothing = pick (wants file byName name left l) (Is l) Nothing
 

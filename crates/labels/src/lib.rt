@@ -3,14 +3,14 @@ ghost use mathlib.Core.Path.{_≡_};
 ghost use lib.ListN.{length};
 ghost use Prim.Native.Nat.{suc};
 ghost use Rattle.formats.specs.Format.{noFormat};
-ghost use Rattle.commands.specs.Commands.{commandsFrom};
-ghost use Rattle.labels.specs.Labels.{none, refused, valueIn, labelOf, told, toldOf, isNamed, closing, judged, answerIn, labelNamed, labelAt};
+ghost use Rattle.sequence.specs.Commands.{commandsFrom};
+ghost use Rattle.labels.specs.Labels.{none, refused, valueIn, labelOf, labelBy, labelSetBy, isNamed, closing, judged, answerIn, labelNamed, labelAt};
 ghost use Rattle.labels.specs.Pass.{Lies, NameLies, wants, met, leftAfter, firstWanted};
 use book::Book;
 use command::Span;
-use commands::Placed;
-use commands::Turn;
 use names::Sets;
+use sequence::Placed;
+use sequence::Turn;
 
 // Where the name and the value of a file attribute stand in the file; a value that is not there is at 0 to 0.
 pub struct Label {
@@ -79,9 +79,9 @@ fn label_of(file: &[u8], c: Placed, n: Span) -> Label
 }
 
 // The file attribute that a command sets, if it is a TF.
-fn told_of(file: &[u8], c: Placed) -> Found
+fn label_set_by(file: &[u8], c: Placed) -> Found
     requires { ⌜ NameLies (length (now file)) c ⌝ }
-    ensures { λ r. ⌜ r ≡ toldOf (now (file .entry)) c ⌝ }
+    ensures { λ r. ⌜ r ≡ labelSetBy (now (file .entry)) c ⌝ }
 {
     let command = c.command;
     let s = names::sets_of(command);
@@ -110,12 +110,12 @@ fn wants(file: &[u8], named: bool, name: &[u8], left: usize, l: Label) -> bool
 }
 
 // What is found with a command more.
-fn met(file: &[u8], named: bool, name: &[u8], left: usize, told: Found, found: Found) -> Found
-    ensures { λ r. ⌜ r ≡ met (now (file .entry)) named (now (name .entry)) left told found ⌝ }
+fn met(file: &[u8], named: bool, name: &[u8], left: usize, label: Found, found: Found) -> Found
+    ensures { λ r. ⌜ r ≡ met (now (file .entry)) named (now (name .entry)) left label found ⌝ }
 {
     match found {
         Found::Is(l) => Found::Is(l),
-        Found::Nothing => match told {
+        Found::Nothing => match label {
             Found::Nothing => Found::Nothing,
             Found::Is(l) => {
                 if wants(file, named, name, left, l) {
@@ -128,10 +128,10 @@ fn met(file: &[u8], named: bool, name: &[u8], left: usize, told: Found, found: F
 }
 
 // How many file attributes are to be passed yet.
-fn left_after(left: usize, told: Found) -> usize
-    ensures { λ r. ⌜ r ≡ leftAfter left told ⌝ }
+fn left_after(left: usize, label: Found) -> usize
+    ensures { λ r. ⌜ r ≡ leftAfter left label ⌝ }
 {
-    match told {
+    match label {
         Found::Nothing => left,
         Found::Is(_) => {
             if left == 0 {
@@ -171,24 +171,24 @@ fn pass(book: Book, file: &[u8], named: bool, name: &[u8], i: usize) -> Answer
     let mut left = i;
     let mut found = Found::Nothing;
     loop {
-        let t = commands::turn_at(book, format, file, at);
+        let t = sequence::turn_at(book, format, file, at);
         match t {
             Turn::Fault(f) => {
                 return judged(f.number, found);
             }
             Turn::Last { command, next } => {
-                let f = commands::tail_fault(file, next);
-                let told = told_of(file, command);
-                return judged(f.number, met(file, named, name, left, told, found));
+                let f = sequence::tail_fault(file, next);
+                let label = label_set_by(file, command);
+                return judged(f.number, met(file, named, name, left, label, found));
             }
             Turn::More {
                 command,
                 format: f,
                 next,
             } => {
-                let told = told_of(file, command);
-                found = met(file, named, name, left, told, found);
-                left = left_after(left, told);
+                let label = label_set_by(file, command);
+                found = met(file, named, name, left, label, found);
+                left = left_after(left, label);
                 format = f;
                 at = next;
             }

@@ -4,7 +4,7 @@ use Prim.Native.Nat.{ℕ, _+_}
 use mathlib.Core.Path.{_≡_}
 use mathlib.Core.List.{List, [], _∷_, _++_}
 use native.Mathlib.Omega.{arith}
-use Rattle.commands.specs.declared.Placed.{Placed}
+use Rattle.sequence.specs.declared.Placed.{Placed}
 use Rattle.layer.specs.Made.{madeOf}
 use Rattle.layer.specs.Work.{itemsBy, aperturesBy, operationsIn, aperturesIn, setsOf, designatorsIn}
 

@@ -12,18 +12,18 @@ use lib.ListN.{take, drop}
 use Rattle.base.specs.Choose.{pick}
 use Rattle.book.specs.declared.Book.{Book}
 use Rattle.text.specs.Text.{text}
-use Rattle.commands.specs.Commands.{commandsOf}
-use Rattle.commands.specs.declared.Placed.{Placed}
-use Rattle.sayings.specs.Sayings.{sayingOf, takenAt}
-use Rattle.sayings.specs.declared.Kind.{Kind}
-use Rattle.sayings.specs.declared.Kind.the-variants as kind
-use Rattle.sayings.specs.declared.Saying.{Saying}
-use Rattle.sayings.specs.declared.Saying.the-variants.{Silent, Deletes, Sets}
-use Rattle.attribute.specs.Attribute.{before, fromOn, later, nothing, heardWith, heardIn, held, answerAt, answerFor, answerIn, attributeOf}
-use Rattle.attribute.specs.declared.Heard.{Heard}
-use Rattle.components.specs.Values as values
-use Rattle.components.specs.Values.{Value}
-use Rattle.components.specs.Parts.{Texts}
+use Rattle.sequence.specs.Commands.{commandsOf}
+use Rattle.sequence.specs.declared.Placed.{Placed}
+use Rattle.attribute_call.specs.Sayings.{sayingOf, takenAt}
+use Rattle.attribute_call.specs.declared.Kind.{Kind}
+use Rattle.attribute_call.specs.declared.Kind.the-variants as kind
+use Rattle.attribute_call.specs.declared.Saying.{Saying}
+use Rattle.attribute_call.specs.declared.Saying.the-variants.{Silent, Deletes, Sets}
+use Rattle.attribute_call.specs.Attribute.{before, fromOn, later, nothing, heardWith, heardIn, held, answerAt, answerFor, answerIn, attributeOf}
+use Rattle.attribute_call.specs.declared.Heard.{Heard}
+use Rattle.law_components.specs.Values as values
+use Rattle.law_components.specs.Values.{Value}
+use Rattle.law_components.specs.Parts.{Texts}
 use Rattle.layer.specs.Attributes.{valueOf, objectAt, textsAt}
 
 -- all of these commands begin before a place

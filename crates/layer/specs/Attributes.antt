@@ -11,17 +11,17 @@ use Rattle.base.specs.And.{_and_}
 use Rattle.base.specs.Or.{_or_}
 use Rattle.book.specs.declared.Book.{Book}
 use Rattle.text.specs.Text.{text, _is_}
-use Rattle.commands.specs.Commands.{commandsOf}
-use Rattle.commands.specs.declared.Placed.{Placed}
-use Rattle.sayings.specs.Sayings.{textOf, named, sayingOf}
-use Rattle.sayings.specs.declared.Kind.the-variants as kind
-use Rattle.sayings.specs.declared.Saying.{Saying}
-use Rattle.sayings.specs.declared.Saying.the-variants.{Silent}
-use Rattle.attribute.specs.Attribute.{later, held, attributeOf}
-use Rattle.attribute.specs.declared.Answer.{Answer}
-use Rattle.components.specs.Values as values
-use Rattle.components.specs.Values.{Value, field}
-use Rattle.components.specs.Parts.{Texts}
+use Rattle.sequence.specs.Commands.{commandsOf}
+use Rattle.sequence.specs.declared.Placed.{Placed}
+use Rattle.attribute_call.specs.Sayings.{textOf, named, sayingOf}
+use Rattle.attribute_call.specs.declared.Kind.the-variants as kind
+use Rattle.attribute_call.specs.declared.Saying.{Saying}
+use Rattle.attribute_call.specs.declared.Saying.the-variants.{Silent}
+use Rattle.attribute_call.specs.Attribute.{later, held, attributeOf}
+use Rattle.attribute_call.specs.declared.Answer.{Answer}
+use Rattle.law_components.specs.Values as values
+use Rattle.law_components.specs.Values.{Value, field}
+use Rattle.law_components.specs.Parts.{Texts}
 use Rattle.layer.specs.Made.{madeOf}
 use Rattle.layer.specs.declared.Made.{Made}
 use Rattle.layer.specs.declared.Made.the-variants.{Item, Aperture, File, Nothing}

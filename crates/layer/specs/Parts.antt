@@ -4,7 +4,7 @@ use Prim.Native.Nat.{ℕ}
 use mathlib.Core.List.{List, map}
 use Rattle.book.specs.declared.Book.{Book}
 use Rattle.place.specs.declared.Item.{Item}
-use Rattle.components.specs.Parts.{Part, partOf}
+use Rattle.law_components.specs.Parts.{Part, partOf}
 use Rattle.layer.specs.Attributes.{textsAt, functionOf}
 
 unfoldable pub partsOf : Book → List ℕ → List Item → List Part

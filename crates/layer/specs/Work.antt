@@ -4,11 +4,11 @@ use Prim.Native.Nat.{ℕ, _+_}
 use Prim.Native.String.{String}
 use mathlib.Core.List.{List, [], _∷_}
 use Rattle.text.specs.Text.{text}
-use Rattle.commands.specs.declared.Placed.{Placed}
-use Rattle.sayings.specs.Sayings.{sayingOf}
-use Rattle.sayings.specs.declared.Kind.the-variants as kind
-use Rattle.sayings.specs.declared.Saying.{Saying}
-use Rattle.sayings.specs.declared.Saying.the-variants.{Silent, Deletes, Sets}
+use Rattle.sequence.specs.declared.Placed.{Placed}
+use Rattle.attribute_call.specs.Sayings.{sayingOf}
+use Rattle.attribute_call.specs.declared.Kind.the-variants as kind
+use Rattle.attribute_call.specs.declared.Saying.{Saying}
+use Rattle.attribute_call.specs.declared.Saying.the-variants.{Silent, Deletes, Sets}
 use Rattle.layer.specs.Made.{madeOf}
 use Rattle.layer.specs.declared.Made.{Made}
 use Rattle.layer.specs.declared.Made.the-variants.{Item, Aperture, File, Nothing}

@@ -13,7 +13,7 @@ use Rattle.reckon.specs.declared.Reckoned.the-variants.{Value}
 use lib.Dec.{eqb}
 use Rattle.text.specs.First.{place}
 use Rattle.text.proofs.First.{first-from}
-use Rattle.tokens.specs.LineEnds.{withoutLeading}
+use Rattle.macro_tokens.specs.LineEnds.{withoutLeading}
 use Rattle.text.proofs.Pieces.{pieces-next, pieces-end}
 use Rattle.primitives.specs.Asked.{none, added, asked, amount}
 use Rattle.primitives.proofs.Gathered.{gathered, gathered-is}

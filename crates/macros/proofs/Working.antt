@@ -12,13 +12,13 @@ use lib.Seq.{slice}
 use borrow.Author.Tests.{eq-eqb, ne-eqb}
 use Rattle.text.specs.First.{place, before, after}
 use Rattle.command.specs.declared.Number.{Number}
-use Rattle.tokens.specs.Tokens.{variableNumber}
+use Rattle.macro_tokens.specs.Tokens.{variableNumber}
 use Rattle.text.proofs.Pieces.{pieces-next, pieces-end}
 use Rattle.expression.specs.Reading.{Fits}
 use Rattle.ints.specs.Ints.{signed}
 use Rattle.base.specs.Choose.{pick}
 use Rattle.base.proofs.Choose.{row-holds, row-fails}
-use Rattle.tokens.specs.LineEnds.{withoutLeading}
+use Rattle.macro_tokens.specs.LineEnds.{withoutLeading}
 use Rattle.expression.specs.Value.{valueOf}
 use Rattle.primitives.specs.Asked.{none, asked}
 use Rattle.primitives.specs.Heading.{heading}

@@ -11,9 +11,9 @@ use Rattle.text.specs.Text.{byte}
 use Rattle.base.specs.Choose.{choose}
 use Rattle.reckon.specs.declared.Reckoned.{Reckoned}
 use Rattle.reckon.specs.declared.Reckoned.the-variants.{Refused, Value}
-use Rattle.tokens.specs.LineEnds.{withoutLeading}
+use Rattle.macro_tokens.specs.LineEnds.{withoutLeading}
 use Rattle.text.specs.Pieces.{pieces}
-use Rattle.tokens.specs.Tokens.{variableNumber}
+use Rattle.macro_tokens.specs.Tokens.{variableNumber}
 use Rattle.expression.specs.Value.{valueOf}
 use Rattle.primitives.specs.Asked.{none, asked}
 use Rattle.primitives.specs.Heading.{heading}

@@ -88,7 +88,10 @@ fn values(t: &[u8], comma: usize, v: Variables, numbers: &mut [i64], p: Pen) -> 
     let mut at = comma;
     while at < t.len() {
         let next = text::find(t, at + 1, b',');
-        let w = worth_of(tokens::without_leading(base::part(t, at + 1, next)), v);
+        let w = worth_of(
+            macro_tokens::without_leading(base::part(t, at + 1, next)),
+            v,
+        );
         if w.fine {
             let a = w.value;
             pen = write(numbers, pen, a);
@@ -170,7 +173,7 @@ fn assignment(t: &[u8], v: Variables, numbers: &mut [i64], p: Pen) -> Done
     requires { ⌜ Fits (v .values) ⌝ }
     ensures { λ r. ⌜ Does (assignmentDone (v .values) (now (t .entry))) (now (numbers .entry)) (now (numbers .exit)) p r ⌝ }
 {
-    let n = tokens::variable_number(base::from_on(text::before(t, b'='), 1));
+    let n = macro_tokens::variable_number(base::from_on(text::before(t, b'='), 1));
     let w = worth_of(text::after(t, b'='), v);
     if w.fine {
         let a = w.value;
@@ -192,7 +195,7 @@ fn block(s: &[u8], v: Variables, numbers: &mut [i64], p: Pen) -> Done
     requires { ⌜ Fits (v .values) ⌝ }
     ensures { λ r. ⌜ Does (blockDone (v .values) (now (s .entry))) (now (numbers .entry)) (now (numbers .exit)) p r ⌝ }
 {
-    let t = tokens::without_leading(s);
+    let t = macro_tokens::without_leading(s);
     let b = base::byte_at(t, 0);
     if b == b'0' {
         return Done {

@@ -11,7 +11,7 @@ use Rattle.text.specs.First.{firstIn}
 use Rattle.text.specs.Text.{text}
 use Rattle.book.specs.Books.{ascii, film, isOld, isOldEdition}
 use Rattle.scan.specs.Permitted.{printable}
-use Rattle.extents.specs.Extents.{skips, closes, mark, apart, onto, cut, closing}
+use Rattle.mending.specs.Extents.{skips, closes, mark, apart, onto, cut, closing}
 use Rattle.mending.specs.Changes.{Change, dropRepeat, addEnd, dropTail, dropAfterEnd, opens, textOf, firstOf, matches, repeats, follows, changesFrom, changes}
 use Rattle.mending.specs.Rebuilt.{rebuiltFrom, rebuilt, mended}
 

@@ -1,4 +1,4 @@
--- What follows M02 is told by the first place that holds no CR or LF.
+-- What follows M02 is reported by the first place that holds no CR or LF.
 -- Assumes nothing.
 use Prim.Native.Nat.{ℕ, _+_, _≤_}
 use mathlib.Core.Path.{_≡_, refl, sym, ap, _∙_}

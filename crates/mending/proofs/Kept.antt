@@ -18,8 +18,8 @@ use Rattle.mending.proofs.Or.{false-or}
 use Rattle.base.proofs.Lists.{slice-take}
 use Rattle.text.specs.First.{place}
 use Rattle.text.specs.Text.{text}
-use Rattle.extents.specs.Extents.{Piece, piece, pieces, closing}
-use Rattle.extents.proofs.Found.{Found, found, percent-closes}
+use Rattle.mending.specs.Extents.{Piece, piece, pieces, closing}
+use Rattle.mending.proofs.Found.{Found, found, percent-closes}
 use Rattle.mending.specs.Changes.{Change, dropRepeat, addEnd, dropTail, dropAfterEnd, opens, firstOf, matches, repeats, follows, changesFrom, changes}
 use Rattle.mending.specs.Rebuilt.{rebuiltFrom, rebuilt, mended}
 

@@ -13,9 +13,9 @@ use Rattle.book.specs.declared.Book.{Book}
 use Rattle.base.specs.And.{_and_}
 use Rattle.base.proofs.And.{and-l, and-r}
 use Rattle.text.specs.Text.{text}
-use Rattle.extents.specs.Extents.{pieces, closing, extentOf}
-use Rattle.extents.specs.declared.Extent.the-variants.{Rest}
-use Rattle.extents.proofs.Found.{Cuts, none-cut}
+use Rattle.mending.specs.Extents.{pieces, closing, extentOf}
+use Rattle.mending.specs.declared.Extent.the-variants.{Rest}
+use Rattle.mending.proofs.Found.{Cuts, none-cut}
 use Rattle.mending.specs.Changes.{Change, dropRepeat, addEnd, dropTail, dropAfterEnd, firstOf, repeats, follows, changesFrom, changes}
 use Rattle.mending.specs.Mended.{wordsOf, words, report, fileFits, reportFits, writtenOf, written, Fills}
 use Rattle.mending.specs.Rebuilt.{mended}
@@ -139,7 +139,7 @@ pub record Running (book : Book) (file : List ℕ) (bytes room : ℕ) (fs mo : L
   pub noted-part : Tells (report book file) room noted t (words (changes-left book file fs mo at))
 
 pub running-starts : (book : Book) (file out noted : List ℕ) → out ≡ replicate (length out) 0 → noted ≡ replicate (length noted) 0 →
-    Running book file (length out) (length noted) [] [] 0 out 0 noted (record { k = 0; told = true })
+    Running book file (length out) (length noted) [] [] 0 out 0 noted (record { k = 0; reported = true })
 unfolding report changes
 running-starts book file out noted e f = record {
   inside = omega arith;
@@ -156,7 +156,7 @@ module _ {book : Book} {file : List ℕ} {bytes room : ℕ} {fs mo : List ℕ} {
   -- where the two lists that are left are these
   finishes : (s w : List ℕ) → bytes-left book file fs mo at ≡ s → words (changes-left book file fs mo at) ≡ w →
       {r : Written} {out′ noted′ : List ℕ} → Finished out n s noted t w r out′ noted′ → Fills book file bytes room r out′ noted′
-  finishes s w e f {r} {out′} {noted′} d = go (holds out n s) refl (t .told and holds noted (t .k) w) refl
+  finishes s w e f {r} {out′} {noted′} d = go (holds out n s) refl (t .reported and holds noted (t .k) w) refl
     where
       e′ : bytes-left book file fs mo at ≡ s ++ []
       e′ = e ∙ sym (append-nil s)
@@ -167,7 +167,7 @@ module _ {book : Book} {file : List ℕ} {bytes room : ℕ} {fs mo : List ℕ} {
       many : length noted′ ≡ room
       many = d .as-many ∙ g .noted-part .many
 
-      go : (b : Bool) → holds out n s ≡ b → (u : Bool) → (t .told and holds noted (t .k) w) ≡ u → Fills book file bytes room r out′ noted′
+      go : (b : Bool) → holds out n s ≡ b → (u : Bool) → (t .reported and holds noted (t .k) w) ≡ u → Fills book file bytes room r out′ noted′
       go true p true q =
           rw (d .answer, p, q)
           (fills-both book file bytes room (part-goes (g .out-part) s [] e′ p (d .bytes p)) (part-goes (g .noted-part .part (and-l _ _ q)) w [] f′ (and-r _ _ q) (d .words p q)))

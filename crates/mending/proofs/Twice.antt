@@ -12,10 +12,10 @@ use Rattle.base.specs.And.{_and_}
 use Rattle.base.specs.Or.{_or_}
 use Rattle.base.specs.Bytes.{sameBytes}
 use Rattle.text.specs.Text.{text}
-use Rattle.extents.specs.Extents.{between, skips, closes, mark, Piece, piece, cut, pieces, closing, extentsFrom, extents}
-use Rattle.extents.proofs.Told.{Breaks, none, Whole, ended, goes}
-use Rattle.extents.proofs.Joined.{piece-joined, breaks-joined}
-use Rattle.extents.proofs.Found.{Found, found}
+use Rattle.mending.specs.Extents.{between, skips, closes, mark, Piece, piece, cut, pieces, closing, extentsFrom, extents}
+use Rattle.mending.proofs.Told.{Breaks, none, Whole, ended, goes}
+use Rattle.mending.proofs.Joined.{piece-joined, breaks-joined}
+use Rattle.mending.proofs.Found.{Found, found}
 use Rattle.mending.specs.Changes.{Change, dropRepeat, addEnd, dropTail, dropAfterEnd, firstOf, repeats, follows, changesFrom, changes}
 use Rattle.mending.specs.Laws.{remaining}
 use Rattle.mending.specs.Mended.{wordsOf, words, changeOf, changesIn, report}

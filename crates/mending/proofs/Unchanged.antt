@@ -17,8 +17,8 @@ use Rattle.base.specs.Trimmed.{keptBefore, dropTrailing}
 use Rattle.base.proofs.And.{and-l, and-r, and-i, true-and, false-and}
 use Rattle.base.proofs.Lists.{same-is}
 use Rattle.text.specs.Text.{text}
-use Rattle.extents.proofs.Told.{Breaks, none as no-breaks, one-more}
-use Rattle.extents.specs.Extents.{between, skips, Piece, piece, pieces, closing, extentsFrom, extents}
+use Rattle.mending.proofs.Told.{Breaks, none as no-breaks, one-more}
+use Rattle.mending.specs.Extents.{between, skips, Piece, piece, pieces, closing, extentsFrom, extents}
 use Rattle.mending.specs.Changes.{dropAfterEnd, opens, textOf, firstOf, matches, repeats, follows, changesFrom, changes}
 use Rattle.mending.specs.Laws.{closed, endOf, twins, none, unrepeated, Sound}
 use Rattle.mending.specs.Rebuilt.{rebuilt, mended}

@@ -13,7 +13,7 @@ use Rattle.base.specs.Trimmed.{dropTrailing}
 use Rattle.text.specs.Text.{text}
 use Rattle.book.specs.declared.Book.{Book}
 use Rattle.scan.specs.Permitted.{printable}
-use Rattle.extents.specs.Extents.{Piece, piece, pieces, closing}
+use Rattle.mending.specs.Extents.{Piece, piece, pieces, closing}
 
 -- a change, and its place in the file
 pub data Change : Type 0 where

@@ -14,7 +14,7 @@ use Rattle.base.specs.And.{_and_}
 use Rattle.base.specs.Or.{_or_}
 use Rattle.text.specs.Text.{text}
 use Rattle.book.specs.declared.Book.{Book}
-use Rattle.extents.specs.Extents.{closing, extents}
+use Rattle.mending.specs.Extents.{closing, extents}
 use Rattle.mending.specs.Changes.{opens, textOf, firstOf, matches, repeats, follows}
 
 -- one of these commands is M02, which is then the last of them

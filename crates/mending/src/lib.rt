@@ -1,9 +1,9 @@
 // Mending a broken file: its changes, and what they make of it, in one pass over its complete commands.
 use book::Book;
-use extents::Extent;
 ghost use mathlib.Core.Path.{_≡_};
+ghost use lib.ListN.{drop, length, take, replicate};
+ghost use Rattle.mending.specs.Extents.{pieces, extentOf, closing};
 ghost use mathlib.Core.List.{_++_};
-ghost use lib.ListN.{length, drop, take, replicate};
 ghost use lib.Seq.{slice};
 ghost use Prim.Native.Nat.{_≤_};
 ghost use Rattle.base.specs.Breaks.{isBreak};
@@ -12,6 +12,54 @@ ghost use Rattle.text.specs.Text.{text};
 ghost use Rattle.mending.specs.Changes.{opens, textOf, firstOf, matches, repeats, follows};
 ghost use Rattle.mending.specs.Mended.{Fills};
 ghost use Rattle.mending.specs.Steps.{holds, laid, Noted, Finished, TextEnd, Stands};
+
+// A file cut into its complete commands by extent alone, whatever their bytes: from a place in the file, the next one.
+
+// The next complete command is place..next, with its `*` or its two `%`; or what is left holds none.
+pub enum Extent {
+    Command { place: usize, next: usize },
+    Rest,
+}
+
+// The next complete command from a place on.
+fn extent_at(file: &[u8], from: usize) -> Extent
+    ensures { λ r. ⌜ r ≡ extentOf from (pieces (drop from (now (file .entry)))) ⌝ }
+{
+    let place = text::past_breaks(file, from);
+    if place >= file.len() {
+        return Extent::Rest;
+    }
+    if file[place] == b'%' {
+        let close = text::find(file, place + 1, b'%');
+        if close >= file.len() {
+            return Extent::Rest;
+        }
+        return Extent::Command {
+            place,
+            next: close + 1,
+        };
+    }
+    let close = text::find(file, place, b'*');
+    if close >= file.len() {
+        return Extent::Rest;
+    }
+    Extent::Command {
+        place,
+        next: close + 1,
+    }
+}
+
+// These bytes are M02, or M2 in the old edition.
+fn is_closing(book: Book, c: &[u8]) -> bool
+    ensures { λ r. ⌜ r ≡ closing book (now (c .entry)) ⌝ }
+{
+    base::either(
+        text::is(c, b"M02*"),
+        base::both(book::is_old(book), text::is(c, b"M2*")),
+    )
+}
+
+// The changes, and the mended file.
 
 // So many bytes of the mended file and so many changes; the report does not fit into what is lent, or the mended file does not.
 pub enum Written {
@@ -23,7 +71,7 @@ pub enum Written {
 // So many words are noted; or some did not fit.
 pub struct Tally {
     pub k: usize,
-    pub told: bool,
+    pub reported: bool,
 }
 
 // A part of the file.
@@ -151,16 +199,16 @@ fn note_on(noted: &mut [u64], t: Tally, w: &[u64]) -> Tally
     ensures { λ r. ⌜ Noted (now (noted .entry)) t (now (w .entry)) r (now (noted .exit)) ⌝ }
 {
     let k = t.k;
-    if t.told {
+    if t.reported {
         if note(noted, k, w) {
             return Tally {
                 k: k + w.len(),
-                told: true,
+                reported: true,
             };
         }
-        return Tally { k, told: false };
+        return Tally { k, reported: false };
     }
-    Tally { k, told: false }
+    Tally { k, reported: false }
 }
 
 // Lays the last bytes and notes the last words.
@@ -169,7 +217,7 @@ fn finish(out: &mut [u8], n: usize, s: &[u8], noted: &mut [u64], t: Tally, w: &[
 {
     if lay(out, n, s) {
         let r = note_on(noted, t, w);
-        if r.told {
+        if r.reported {
             return Written::Both {
                 bytes: n + s.len(),
                 changes: r.k / 2,
@@ -188,15 +236,18 @@ pub fn mend_into(book: Book, file: &[u8], out: &mut [u8], noted: &mut [u64]) -> 
 {
     let mut at: usize = 0;
     let mut n: usize = 0;
-    let mut t = Tally { k: 0, told: true };
+    let mut t = Tally {
+        k: 0,
+        reported: true,
+    };
     let mut fs = Span { from: 0, to: 0 };
     let mut mo = Span { from: 0, to: 0 };
     loop {
-        let e = extents::extent_at(file, at);
+        let e = extent_at(file, at);
         match e {
             Extent::Command { place, next } => {
                 let c = base::part(file, place, next);
-                if extents::is_closing(book, c) {
+                if is_closing(book, c) {
                     if is_followed(file, next) {
                         return finish(
                             out,

@@ -17,9 +17,9 @@ use Rattle.scan.specs.Fields.{inField}
 use Rattle.base.specs.Choose.{pick}
 use Rattle.words.specs.Newer.{codeOf, newerWord}
 use Rattle.words.specs.Words.{wordOf}
-use Rattle.attributes.specs.Attributes.{valueOf, attributeOf}
+use Rattle.attribute_commands.specs.Attributes.{valueOf, attributeOf}
 use Rattle.recognise.specs.Commands.{oneBlock, isUnread, dataOf, dataIn, extendedOf, commandOf}
-use Rattle.reading.specs.Apertures.{isAmong}
+use Rattle.law_reading.specs.Apertures.{isAmong}
 use Rattle.names.specs.Sets.{setsBy, setsOf}
 use Rattle.names.specs.Twice.{seen, looked, lookAt, namedFrom, twiceFrom, twiceAt}
 

@@ -17,7 +17,7 @@ use Rattle.index.specs.Names.{named}
 use Rattle.tables.specs.Added.{hasRoom, added}
 use Rattle.tables.specs.Macros.{macroWords}
 use Rattle.tables.proofs.Adding.{added-long}
-use Rattle.reading.specs.Apertures.{isAmong}
+use Rattle.law_reading.specs.Apertures.{isAmong}
 use Rattle.names.specs.Twice.{lookAt, twiceIn, firstIn}
 use Rattle.names.specs.Kept.{nameAt, noted, notedOf, keptAt, keptOf, Narrow, Passed}
 use Rattle.names.specs.declared.Look.the-variants.{End, Other, Naming}

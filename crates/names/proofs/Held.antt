@@ -21,7 +21,7 @@ use Rattle.tables.specs.Macros.{macroOf, macroWords}
 use Rattle.tables.specs.declared.Macro.{Macro}
 use Rattle.tables.proofs.Names.{name-new}
 use Rattle.tables.proofs.Macros.{macro-named, macro-new, macro-kept}
-use Rattle.reading.specs.Apertures.{isAmong}
+use Rattle.law_reading.specs.Apertures.{isAmong}
 use Rattle.names.specs.Kept.{nameAt}
 
 pub record Held (file s : List ℕ) (used : ℕ) (names : List (List ℕ)) : Type 0 where

@@ -7,7 +7,7 @@ use Rattle.command.specs.declared.Command.{Command}
 use Rattle.command.specs.declared.Command.the-variants as cmd
 use Rattle.command.specs.declared.Deed.{Deed}
 use Rattle.command.specs.declared.Deed.the-variants as deed
-use Rattle.bounds.specs.Bounded.{DeedBounded, Bounded}
+use Rattle.law_bounds.specs.Bounded.{DeedBounded, Bounded}
 use Rattle.names.specs.Sets.{setsBy, setsOf}
 use Rattle.names.specs.declared.Sets.{Sets}
 use Rattle.names.specs.declared.Sets.the-variants.{Nothing, Name}

@@ -14,7 +14,7 @@ use Rattle.book.specs.declared.Book.{Book}
 use Rattle.base.specs.Or.{_or_}
 use Rattle.base.specs.Bytes.{sameBytes}
 use Rattle.base.proofs.Lists.{same-is, same-refl}
-use Rattle.reading.specs.Apertures.{isAmong}
+use Rattle.law_reading.specs.Apertures.{isAmong}
 use Rattle.names.specs.Twice.{lookAt, twiceIn, twiceAt, firstIn, firstAt}
 use Rattle.names.specs.declared.Look.the-variants.{Other, Naming}
 use Rattle.names.proofs.Walk.{other-onward, naming-onward, first-other, first-here, first-on, twice-other, twice-again, twice-new}

@@ -31,10 +31,10 @@ use Rattle.settings.specs.Repeats.{repeats, repeatStart, repeatOf}
 use Rattle.settings.specs.Transformations.{rotationOf, scaleOf, mirrorOf, transformationOf}
 use Rattle.apertures.specs.Definitions.{definition, apertureOf}
 use Rattle.apertures.specs.Blocks.{blockStart, blockOf}
-use Rattle.form.specs.Macro.{headed, macroOf}
-use Rattle.attributes.specs.Attributes.{attributeOf, deletionOf}
+use Rattle.macro_form.specs.Macro.{headed, macroOf}
+use Rattle.attribute_commands.specs.Attributes.{attributeOf, deletionOf}
 use Rattle.recognise.specs.Commands.{dataOf, dataIn, extendedOf, commandOf}
-use Rattle.bounds.proofs.Tables.{picks, judges}
+use Rattle.law_bounds.proofs.Tables.{picks, judges}
 use Rattle.names.specs.Sets.{setsBy, setsOf}
 use Rattle.names.specs.declared.Sets.the-variants.{Nothing}
 

@@ -18,14 +18,14 @@ use Rattle.scan.proofs.Within.{Within, next-within}
 use Rattle.command.specs.declared.Span.{Span}
 use Rattle.formats.specs.declared.Format.{Format}
 use Rattle.recognise.specs.Commands.{commandOf}
-use Rattle.bounds.proofs.Bounds.{bounded}
-use Rattle.commands.specs.Leads.{leadOf}
-use Rattle.commands.specs.Turns.{led, turned, turnOf}
-use Rattle.commands.specs.declared.Lead.{Lead}
-use Rattle.commands.specs.declared.Lead.the-variants as lead
-use Rattle.commands.specs.declared.Placed.{Placed}
-use Rattle.commands.specs.declared.Turn.the-variants as turn
-use Rattle.reading.specs.Apertures.{isAmong}
+use Rattle.law_bounds.proofs.Bounds.{bounded}
+use Rattle.sequence.specs.Leads.{leadOf}
+use Rattle.sequence.specs.Turns.{led, turned, turnOf}
+use Rattle.sequence.specs.declared.Lead.{Lead}
+use Rattle.sequence.specs.declared.Lead.the-variants as lead
+use Rattle.sequence.specs.declared.Placed.{Placed}
+use Rattle.sequence.specs.declared.Turn.the-variants as turn
+use Rattle.law_reading.specs.Apertures.{isAmong}
 use Rattle.names.specs.Sets.{setsOf}
 use Rattle.names.specs.Twice.{seen, looked, lookAt, twiceAt, firstAt}
 use Rattle.names.specs.declared.Look.the-variants.{Naming}
@@ -46,7 +46,7 @@ module _ (book : Book) (f : Format) (file : List ℕ) (at : ℕ) where
   more-command f c d (lead.Broken number) g next to e = let z : _≡_ {A = ℕ} 0 1 = cc in absurd (omega arith)
   more-command f c d lead.Last g next to e = let z : _≡_ {A = ℕ} 0 1 = cc in absurd (omega arith)
   more-command f c d (lead.Format h) g next to e = (cc, cc)
-  more-command f c d lead.Plain g next to e = (cc, cc)
+  more-command f c d lead.Other g next to e = (cc, cc)
 
   same-scan : (c : Placed) (g : Format) (next : ℕ) (s : Scan) → nextCommand book file at ≡ s → Within (length file) at s → turned book f file s ≡ turn.More c g next → Same book file at next c
   unfolding turned lookAt looked

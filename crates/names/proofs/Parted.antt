@@ -10,7 +10,7 @@ use lib.ListN.{length}
 use Rattle.book.specs.declared.Book.{Book}
 use Rattle.base.specs.Or.{_or_}
 use Rattle.base.specs.Bytes.{sameBytes}
-use Rattle.reading.specs.Apertures.{isAmong}
+use Rattle.law_reading.specs.Apertures.{isAmong}
 use Rattle.names.specs.Twice.{lookAt, Named, namedFrom, twiceFrom, twiceIn, firstFrom, firstIn}
 use Rattle.names.specs.declared.Look.{Look}
 use Rattle.names.specs.declared.Look.the-variants.{End, Other, Naming}

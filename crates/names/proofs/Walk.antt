@@ -16,8 +16,8 @@ use Rattle.scan.proofs.Within.{Within, next-within}
 use Rattle.command.specs.declared.Span.{Span}
 use Rattle.formats.specs.Format.{noFormat}
 use Rattle.recognise.specs.Commands.{commandOf}
-use Rattle.bounds.proofs.Bounds.{bounded}
-use Rattle.reading.specs.Apertures.{isAmong}
+use Rattle.law_bounds.proofs.Bounds.{bounded}
+use Rattle.law_reading.specs.Apertures.{isAmong}
 use Rattle.names.specs.Sets.{setsOf}
 use Rattle.names.specs.Twice.{seen, looked, lookAt, Named, namedFrom, namedIn, twiceFrom, twiceIn, firstFrom, firstIn}
 use Rattle.names.specs.declared.Look.{Look}

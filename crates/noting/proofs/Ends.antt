@@ -9,9 +9,9 @@ use lib.ListN.{length, getD}
 use Rattle.text.specs.Pieces.{parted}
 use Rattle.base.specs.Bytes.{sameBytes}
 use Rattle.book.specs.declared.Book.{Book}
-use Rattle.commands.specs.Commands.{commandsOf}
-use Rattle.commands.specs.declared.Placed.{Placed}
-use Rattle.sayings.specs.declared.Saying.the-variants.{Silent}
+use Rattle.sequence.specs.Commands.{commandsOf}
+use Rattle.sequence.specs.declared.Placed.{Placed}
+use Rattle.attribute_call.specs.declared.Saying.the-variants.{Silent}
 use Rattle.index.specs.Tree.{recordWidth}
 use Rattle.index.specs.Names.{nameOf}
 use Rattle.index.specs.Numbers.{numberOf, numbered, Numbered}
@@ -19,15 +19,15 @@ use Rattle.index.specs.declared.Search.{Search}
 use Rattle.index.specs.declared.Search.the-variants.{At, Free}
 use Rattle.index.proofs.More.{numbered-none, named-none}
 use Rattle.tables.proofs.Numbers.{number-new}
-use Rattle.components.specs.Values as values
-use Rattle.components.specs.Values.{bytesOf, field}
+use Rattle.law_components.specs.Values as values
+use Rattle.law_components.specs.Values.{bytesOf, field}
 use Rattle.layer.specs.Attributes.{functionIn, functionOf, isComponentIn, isComponent}
 use Rattle.layer.specs.Work.{operationsIn, aperturesIn, designatorsIn}
 use Rattle.layer.proofs.Held as held
 use Rattle.layer.proofs.Held.{saidIn, valueSaid, textsBy}
-use Rattle.hearing.specs.Designators as designators
-use Rattle.hearing.specs.Functions.{functionIs, functionNumber}
-use Rattle.hearing.proofs.Fields.{nowhere-is}
+use Rattle.notes.specs.Designators as designators
+use Rattle.notes.specs.Functions.{functionIs, functionNumber}
+use Rattle.notes.proofs.Fields.{nowhere-is}
 use Rattle.noting.specs.Steps.{begun}
 use Rattle.noting.specs.Holds.{wordAt, roleNumber, Roomy, Noted, Makes, here, there}
 use Rattle.noting.specs.declared.Noting.{Noting}

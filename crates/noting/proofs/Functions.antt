@@ -6,13 +6,13 @@ use mathlib.Core.Bool.{Bool, true, false, false≢true}
 use mathlib.Core.List.{List, [], _∷_, _++_}
 use Rattle.base.specs.Or.{_or_}
 use Rattle.text.specs.Text.{text}
-use Rattle.commands.specs.declared.Placed.{Placed}
-use Rattle.sayings.specs.declared.Kind.the-variants as kind
-use Rattle.sayings.specs.Sayings.{sayingOf}
-use Rattle.sayings.specs.declared.Saying.{Saying}
-use Rattle.attribute.specs.Attribute.{later, held}
-use Rattle.components.specs.Values as values
-use Rattle.components.specs.Values.{Value}
+use Rattle.sequence.specs.declared.Placed.{Placed}
+use Rattle.attribute_call.specs.declared.Kind.the-variants as kind
+use Rattle.attribute_call.specs.Sayings.{sayingOf}
+use Rattle.attribute_call.specs.declared.Saying.{Saying}
+use Rattle.attribute_call.specs.Attribute.{later, held}
+use Rattle.law_components.specs.Values as values
+use Rattle.law_components.specs.Values.{Value}
 use Rattle.layer.specs.Made.{madeOf}
 use Rattle.layer.specs.Attributes.{valueOf, isApertureAs, functionIn}
 use Rattle.layer.proofs.Held.{saidIn, valueSaid, said-value}

@@ -11,14 +11,14 @@ use Rattle.book.specs.declared.Book.{Book}
 use Rattle.formats.specs.Format.{noFormat}
 use Rattle.formats.specs.declared.Format.{Format}
 use Rattle.scan.specs.Permitted.{fits}
-use Rattle.commands.specs.Commands.{Sequence, commandsOf}
-use Rattle.commands.specs.Turns.{turnOf}
-use Rattle.commands.specs.declared.Placed.{Placed}
-use Rattle.commands.specs.declared.Refusal.{Refusal}
-use Rattle.commands.specs.declared.Turn.the-variants.{Fault, Last, More}
-use Rattle.commands.proofs.Walk.{walk, walk-fault, walk-last, walk-more, more-onward}
+use Rattle.sequence.specs.Commands.{Sequence, commandsOf}
+use Rattle.sequence.specs.Turns.{turnOf}
+use Rattle.sequence.specs.declared.Placed.{Placed}
+use Rattle.sequence.specs.declared.Refusal.{Refusal}
+use Rattle.sequence.specs.declared.Turn.the-variants.{Fault, Last, More}
+use Rattle.sequence.proofs.Walk.{walk, walk-fault, walk-last, walk-more, more-onward}
 use Rattle.index.specs.Numbers.{Numbered}
-use Rattle.hearing.specs.Designators.{Designators}
+use Rattle.notes.specs.Designators.{Designators}
 use Rattle.noting.specs.Steps.{begun, Small, Notes}
 use Rattle.noting.specs.Holds.{Noted}
 use Rattle.noting.specs.declared.Noting.{Noting}

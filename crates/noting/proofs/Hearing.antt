@@ -8,28 +8,28 @@ use native.Mathlib.Omega.{arith}
 use lib.ListN.{length}
 use Rattle.text.specs.Text.{text}
 use Rattle.command.specs.declared.Span.{Span}
-use Rattle.commands.specs.declared.Placed.{Placed}
+use Rattle.sequence.specs.declared.Placed.{Placed}
 use Rattle.base.specs.Or.{_or_}
-use Rattle.sayings.specs.Sayings.{textOf, sayingOf}
-use Rattle.sayings.specs.declared.Saying.{Saying}
-use Rattle.sayings.specs.declared.Kind.the-variants as kind
-use Rattle.attribute.specs.Attribute.{later}
+use Rattle.attribute_call.specs.Sayings.{textOf, sayingOf}
+use Rattle.attribute_call.specs.declared.Saying.{Saying}
+use Rattle.attribute_call.specs.declared.Kind.the-variants as kind
+use Rattle.attribute_call.specs.Attribute.{later}
 use Rattle.index.specs.Tree.{recordWidth}
 use Rattle.index.specs.Names.{nameOf}
-use Rattle.components.specs.Values.{Value, field}
-use Rattle.components.specs.Parts.{Texts}
+use Rattle.law_components.specs.Values.{Value, field}
+use Rattle.law_components.specs.Parts.{Texts}
 use Rattle.notes.specs.declared.Note.{Note}
 use Rattle.layer.specs.Made.{madeOf}
 use Rattle.layer.specs.Attributes.{declaresAs}
 use Rattle.layer.specs.Work.{itemsBy, aperturesBy, setBy, setsOf}
 use Rattle.layer.specs.declared.Made.{Made}
 use Rattle.layer.proofs.Held.{valueSaid, saidBy, said-more, saidObject, textsBy}
-use Rattle.hearing.specs.Spans.{SpanIs, Follows}
-use Rattle.hearing.specs.Designators.{Denotes, Grown, Hears}
-use Rattle.hearing.specs.Functions.{FunctionFollows}
-use Rattle.hearing.specs.Means.{Means}
-use Rattle.hearing.specs.declared.Designated.{Designated}
-use Rattle.hearing.proofs.Designators.{denotes-more}
+use Rattle.notes.specs.Spans.{SpanIs, Follows}
+use Rattle.notes.specs.Designators.{Denotes, Grown, Hears}
+use Rattle.notes.specs.Functions.{FunctionFollows}
+use Rattle.notes.specs.Means.{Means}
+use Rattle.notes.specs.declared.Designated.{Designated}
+use Rattle.notes.proofs.Designators.{denotes-more}
 use Rattle.noting.specs.Steps.{functionBy, placedAt, notedAs, Puts, HearsBoth, TextFollows, HearsAll, Notes}
 use Rattle.noting.specs.declared.Both.{Both}
 use Rattle.noting.specs.declared.Heard.{Heard}

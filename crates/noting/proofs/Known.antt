@@ -15,17 +15,17 @@ use Rattle.base.specs.Or.{_or_}
 use Rattle.text.specs.Text.{text}
 use Rattle.book.specs.declared.Book.{Book}
 use Rattle.command.specs.declared.Span.{Span}
-use Rattle.commands.specs.Commands.{commandsOf}
-use Rattle.commands.specs.declared.Placed.{Placed}
-use Rattle.sayings.specs.Sayings.{textOf, sayingOf}
-use Rattle.sayings.specs.declared.Kind.the-variants as kind
-use Rattle.sayings.specs.declared.Saying.{Saying}
-use Rattle.sayings.specs.declared.Saying.the-variants.{Silent, Deletes, Sets}
-use Rattle.sayings.specs.declared.Saying.the-variants.{Silent}
+use Rattle.sequence.specs.Commands.{commandsOf}
+use Rattle.sequence.specs.declared.Placed.{Placed}
+use Rattle.attribute_call.specs.Sayings.{textOf, sayingOf}
+use Rattle.attribute_call.specs.declared.Kind.the-variants as kind
+use Rattle.attribute_call.specs.declared.Saying.{Saying}
+use Rattle.attribute_call.specs.declared.Saying.the-variants.{Silent, Deletes, Sets}
+use Rattle.attribute_call.specs.declared.Saying.the-variants.{Silent}
 use Rattle.index.specs.Tree.{recordWidth}
 use Rattle.index.specs.Names.{nameOf}
 use Rattle.index.specs.Numbers.{numberOf, Numbered}
-use Rattle.components.specs.Parts.{Texts}
+use Rattle.law_components.specs.Parts.{Texts}
 use Rattle.notes.specs.Notes.{noteRoom, noteOf, withNote, Ordered}
 use Rattle.notes.specs.declared.Note.{Note}
 use Rattle.notes.proofs.Notes.{note-put, note-stays, length-with}
@@ -36,11 +36,11 @@ use Rattle.layer.specs.declared.Made.{Made}
 use Rattle.layer.specs.declared.Made.the-variants.{Item, Aperture, File, Nothing}
 use Rattle.layer.proofs.Held.{Below, below-more, below-snoc, saidBy, textsBy, texts-at}
 use Rattle.layer.proofs.Counts.{operations-append, apertures-append, designators-append, operations-one, apertures-one, designators-one}
-use Rattle.hearing.specs.Spans.{SpanIs}
-use Rattle.hearing.specs.Designators.{Designators, Grown}
-use Rattle.hearing.specs.Functions.{functionNumber}
-use Rattle.hearing.specs.Means.{Means}
-use Rattle.hearing.proofs.Designators.{denotes-more}
+use Rattle.notes.specs.Spans.{SpanIs}
+use Rattle.notes.specs.Designators.{Designators, Grown}
+use Rattle.notes.specs.Functions.{functionNumber}
+use Rattle.notes.specs.Means.{Means}
+use Rattle.notes.proofs.Designators.{denotes-more}
 use Rattle.noting.specs.Steps.{functionBy, placedAt, notedAs, Put, Puts, Notes}
 use Rattle.noting.specs.Holds.{Makes, here, there}
 use Rattle.noting.specs.declared.Noting.{Noting}

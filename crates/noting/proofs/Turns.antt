@@ -13,13 +13,13 @@ use Rattle.scan.specs.declared.Scan.{Scan}
 use Rattle.scan.specs.declared.Scan.the-variants as scan
 use Rattle.scan.proofs.Within.{Within, next-within}
 use Rattle.recognise.specs.Commands.{commandOf}
-use Rattle.commands.specs.Leads.{leadOf}
-use Rattle.commands.specs.Turns.{led, turned, turnOf}
-use Rattle.commands.specs.declared.Lead.{Lead}
-use Rattle.commands.specs.declared.Lead.the-variants as lead
-use Rattle.commands.specs.declared.Placed.{Placed}
-use Rattle.commands.specs.declared.Turn.{Turn}
-use Rattle.commands.specs.declared.Turn.the-variants.{Fault, Last, More}
+use Rattle.sequence.specs.Leads.{leadOf}
+use Rattle.sequence.specs.Turns.{led, turned, turnOf}
+use Rattle.sequence.specs.declared.Lead.{Lead}
+use Rattle.sequence.specs.declared.Lead.the-variants as lead
+use Rattle.sequence.specs.declared.Placed.{Placed}
+use Rattle.sequence.specs.declared.Turn.{Turn}
+use Rattle.sequence.specs.declared.Turn.the-variants.{Fault, Last, More}
 
 abbrev Begins : ℕ → Turn → Type 0
 Begins at (Fault f) = Unit
@@ -31,7 +31,7 @@ unfolding led
 led-begins at n c (lead.Broken number) next h k = tt
 led-begins at n c lead.Last next h k = (h, k)
 led-begins at n c (lead.Format m) next h k = (h, k)
-led-begins at n c lead.Plain next h k = (h, k)
+led-begins at n c lead.Other next h k = (h, k)
 
 turned-begins : (book : Book) (n : Format) (file : List ℕ) (at : ℕ) (s : Scan) → Within (length file) at s → Begins at (turned book n file s)
 unfolding turned

@@ -5,8 +5,8 @@ use mathlib.Core.Path.{_≡_}
 use mathlib.Core.List.{List, [], _∷_}
 use lib.ListN.{length, getD}
 use Rattle.book.specs.declared.Book.{Book}
-use Rattle.commands.specs.Commands.{commandsOf}
-use Rattle.commands.specs.declared.Placed.{Placed}
+use Rattle.sequence.specs.Commands.{commandsOf}
+use Rattle.sequence.specs.declared.Placed.{Placed}
 use Rattle.index.specs.Tree.{recordWidth}
 use Rattle.index.specs.Names.{nameOf}
 use Rattle.index.specs.Numbers.{numbered, Numbered}
@@ -17,9 +17,9 @@ use Rattle.layer.specs.Made.{madeOf}
 use Rattle.layer.specs.Attributes.{textsAt, functionOf, isComponent}
 use Rattle.layer.specs.Work.{operationsIn, aperturesIn, designatorsIn}
 use Rattle.layer.specs.declared.Made.the-variants.{Item}
-use Rattle.hearing.specs.Designators.{Designators}
-use Rattle.hearing.specs.Functions.{functionNumber}
-use Rattle.hearing.specs.Means.{Means}
+use Rattle.notes.specs.Designators.{Designators}
+use Rattle.notes.specs.Functions.{functionNumber}
+use Rattle.notes.specs.Means.{Means}
 use Rattle.noting.specs.declared.Noting.{Noting}
 
 -- a D01 or D03 begins at a place

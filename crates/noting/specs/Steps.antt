@@ -7,13 +7,13 @@ use lib.ListN.{length, getD}
 use Rattle.base.specs.Or.{_or_}
 use Rattle.text.specs.Text.{text}
 use Rattle.command.specs.declared.Span.{Span}
-use Rattle.commands.specs.declared.Placed.{Placed}
-use Rattle.sayings.specs.Sayings.{textOf}
-use Rattle.sayings.specs.declared.Kind.the-variants as kind
+use Rattle.sequence.specs.declared.Placed.{Placed}
+use Rattle.attribute_call.specs.Sayings.{textOf}
+use Rattle.attribute_call.specs.declared.Kind.the-variants as kind
 use Rattle.index.specs.Tree.{recordWidth}
 use Rattle.index.specs.Names.{nameOf}
 use Rattle.index.specs.Numbers.{numberOf, Numbered}
-use Rattle.components.specs.Values.{field}
+use Rattle.law_components.specs.Values.{field}
 use Rattle.notes.specs.Notes.{withNote}
 use Rattle.notes.specs.declared.Note.{Note}
 use Rattle.layer.specs.Made.{madeOf}
@@ -22,10 +22,10 @@ use Rattle.layer.specs.Work.{itemsBy, aperturesBy, setsOf}
 use Rattle.layer.specs.declared.Made.{Made}
 use Rattle.layer.specs.declared.Made.the-variants.{Item, Aperture, File, Nothing}
 use Rattle.layer.proofs.Held.{valueSaid, saidBy, textsBy}
-use Rattle.hearing.specs.Spans.{SpanIs}
-use Rattle.hearing.specs.Designators.{Denotes, Grown}
-use Rattle.hearing.specs.Functions.{functionNumber}
-use Rattle.hearing.specs.Means.{Means}
+use Rattle.notes.specs.Spans.{SpanIs}
+use Rattle.notes.specs.Designators.{Denotes, Grown}
+use Rattle.notes.specs.Functions.{functionNumber}
+use Rattle.notes.specs.Means.{Means}
 use Rattle.noting.specs.declared.Both.{Both}
 use Rattle.noting.specs.declared.Heard.{Heard}
 use Rattle.noting.specs.declared.Noting.{Noting}

@@ -1,22 +1,22 @@
 // One pass over a file's commands: of each D01 and D03 its attributes are noted, of each AD what its aperture is for.
+use attribute_call::Kind;
 use book::Book;
 use command::Span;
-use commands::Placed;
-use commands::Turn;
 use index::Search;
 use layer::Made;
 use notes::Note;
-use sayings::Kind;
+use sequence::Placed;
+use sequence::Turn;
 use sheet::Aperture;
 ghost use mathlib.Core.Path.{_≡_};
 ghost use mathlib.Core.Bool.{true};
 ghost use Prim.Native.Nat.{_+_, _≤_};
 ghost use Rattle.scan.specs.Permitted.{fits};
-ghost use Rattle.commands.specs.Commands.{commandsOf};
+ghost use Rattle.sequence.specs.Commands.{commandsOf};
 ghost use Rattle.index.specs.Numbers.{Numbered};
 ghost use Rattle.layer.specs.Attributes.{declaresAs};
 ghost use Rattle.layer.specs.Work.{itemsBy, aperturesBy};
-ghost use Rattle.hearing.specs.Designators.{Designators};
+ghost use Rattle.notes.specs.Designators.{Designators};
 ghost use Rattle.noting.specs.Steps.{placedAt, notedAs, Put, Puts, HearsBoth, TextFollows, HearsAll, Small, Notes, begun};
 ghost use Rattle.noting.specs.Holds.{Noted};
 
@@ -53,15 +53,15 @@ fn designators(file: &[u8], names: &mut [u64], used: usize, n: Note, c: Placed) 
     requires { ⌜ Designators (now file) (now names) used ⌝ }
     ensures { λ r. ⌜ HearsBoth (now (file .entry)) (now (names .entry)) (now (names .exit)) used n c r ⌝ }
 {
-    let of_c = sayings::saying_of(file, Kind::Object, b".C", c);
-    let of_p = sayings::saying_of(file, Kind::Object, b".P", c);
-    let component = hearing::designator_after(file, names, used, n.component, of_c);
-    let pin = hearing::designator_after(file, names, component.used, n.pin, of_p);
+    let of_c = attribute_call::saying_of(file, Kind::Object, b".C", c);
+    let of_p = attribute_call::saying_of(file, Kind::Object, b".P", c);
+    let component = notes::designator_after(file, names, used, n.component, of_c);
+    let pin = notes::designator_after(file, names, component.used, n.pin, of_p);
     Both {
         component: component.word,
         pin: pin.word,
         used: pin.used,
-        settings: hearing::set_by(of_c) + hearing::set_by(of_p),
+        settings: notes::set_by(of_c) + notes::set_by(of_p),
     }
 }
 
@@ -69,16 +69,16 @@ fn designators(file: &[u8], names: &mut [u64], used: usize, n: Note, c: Placed) 
 fn text_of(file: &[u8], name: &[u8], old: Span, c: Placed) -> Span
     ensures { λ r. ⌜ TextFollows (now (file .entry)) 0 (now (name .entry)) old r c ⌝ }
 {
-    let s = sayings::saying_of(file, Kind::Object, name, c);
-    hearing::text_after(file, old, s)
+    let s = attribute_call::saying_of(file, Kind::Object, name, c);
+    notes::text_after(file, old, s)
 }
 
 // Where its second field lies.
 fn number_of(file: &[u8], name: &[u8], old: Span, c: Placed) -> Span
     ensures { λ r. ⌜ TextFollows (now (file .entry)) 1 (now (name .entry)) old r c ⌝ }
 {
-    let s = sayings::saying_of(file, Kind::Object, name, c);
-    hearing::number_after(file, old, s)
+    let s = attribute_call::saying_of(file, Kind::Object, name, c);
+    notes::number_after(file, old, s)
 }
 
 // All texts after a command.
@@ -230,8 +230,8 @@ fn note_command(
     let used = note_aperture(roles, made, n.roles, n.function);
     let declared = declares(base::part(file, c.from, c.end), made);
     let heard = hear(file, names, n.names, said, c);
-    let s = sayings::saying_of(file, Kind::Aperture, b".AperFunction", c);
-    let function = hearing::function_after(file, n.function, s);
+    let s = attribute_call::saying_of(file, Kind::Aperture, b".AperFunction", c);
+    let function = notes::function_after(file, n.function, s);
     let note = heard.note;
     Noting {
         said: note,
@@ -285,7 +285,7 @@ pub fn note_all(
     let mut at: usize = 0;
     let mut known = nothing();
     loop {
-        let t = commands::turn_at(book, format, file, at);
+        let t = sequence::turn_at(book, format, file, at);
         match t {
             Turn::Fault(_) => {
                 return known;

@@ -8,13 +8,13 @@ use Rattle.book.specs.declared.Book.{Book}
 use Rattle.book.specs.declared.Edition.{Edition}
 use Rattle.book.specs.declared.Edition.the-variants as edition
 use Rattle.book.specs.declared.Letters.the-variants as letters
-use Rattle.commands.specs.Rounded.{roundedIn}
-use Rattle.sayings.specs.declared.Kind.{Kind}
-use Rattle.attribute.specs.Attribute as attribute
+use Rattle.sequence.specs.Rounded.{roundedIn}
+use Rattle.attribute_call.specs.declared.Kind.{Kind}
+use Rattle.attribute_call.specs.Attribute as attribute
 use Rattle.signature.specs.Signature as signature
 use Rattle.labels.specs.Labels as labels
-use Rattle.reading.specs.State.{Room}
-use Rattle.reading.specs.Reading.{reading}
+use Rattle.law_reading.specs.State.{Room}
+use Rattle.law_reading.specs.Reading.{reading}
 use Rattle.progress.specs.Lent.{Lent}
 use Rattle.reader.specs.Reads.{Reads, Zeroed}
 use Rattle.reader.specs.declared.Answer as code

@@ -7,10 +7,10 @@ use lib.ListN.{replicate}
 use Rattle.book.specs.declared.Book.{Book}
 use Rattle.progress.specs.Lent.{Lent, roomOf}
 use Rattle.reader.specs.Reads.{Zeroed}
-use Rattle.mender.specs.Outcome.{mendingOf}
-use Rattle.mender.specs.Mends.{Mends}
-use Rattle.mender.specs.declared.Answer.{Answer}
-use Rattle.mender.specs.declared.Answer.the-variants.{Refused}
+use Rattle.mend_call.specs.Outcome.{mendingOf}
+use Rattle.mend_call.specs.Mends.{Mends}
+use Rattle.mend_call.specs.declared.Answer.{Answer}
+use Rattle.mend_call.specs.declared.Answer.the-variants.{Refused}
 use Rattle.numbered.specs.Mending.{MendsBy}
 use Rattle.numbered.specs.declared.Choice.{Choice}
 use Rattle.numbered.specs.declared.Choice.the-variants.{By, Unknown}

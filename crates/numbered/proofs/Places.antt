@@ -7,9 +7,9 @@ use lib.ListN.{replicate}
 use Rattle.book.specs.declared.Book.{Book}
 use Rattle.progress.specs.Lent.{Lent}
 use Rattle.reader.specs.Reads.{Zeroed}
-use Rattle.roster.specs.Lists.{answered}
-use Rattle.roster.specs.declared.Answer.{Answer}
-use Rattle.assembly.specs.Placement.{Work, Places}
+use Rattle.placement_list.specs.Lists.{answered}
+use Rattle.placement_list.specs.declared.Answer.{Answer}
+use Rattle.placement_call.specs.Placement.{Work, Places}
 use Rattle.numbered.specs.Placing.{PlacesBy}
 use Rattle.numbered.specs.declared.Choice.{Choice}
 use Rattle.numbered.specs.declared.Choice.the-variants.{By, Unknown}

@@ -1,16 +1,16 @@
 -- What the calls on a file come to by the book that is named: those of the book; or 101, a number of ours, before all else (decision 420).
 use Prim.Native.Nat.{ℕ}
 use mathlib.Core.List.{List}
-use Rattle.commands.specs.Rounded.{roundedIn}
-use Rattle.sayings.specs.declared.Kind.{Kind}
-use Rattle.attribute.specs.Attribute as attribute
-use Rattle.attribute.specs.declared.Answer as attribute-answer
+use Rattle.sequence.specs.Rounded.{roundedIn}
+use Rattle.attribute_call.specs.declared.Kind.{Kind}
+use Rattle.attribute_call.specs.Attribute as attribute
+use Rattle.attribute_call.specs.declared.Answer as attribute-answer
 use Rattle.signature.specs.Signature as signature
 use Rattle.signature.specs.declared.Answer as signature-answer
 use Rattle.labels.specs.Labels as labels
 use Rattle.labels.specs.declared.Answer as labels-answer
-use Rattle.reading.specs.State.{Room}
-use Rattle.reading.specs.Reading.{Answer, refused, reading}
+use Rattle.law_reading.specs.State.{Room}
+use Rattle.law_reading.specs.Reading.{Answer, refused, reading}
 use Rattle.numbered.specs.declared.Choice.{Choice}
 use Rattle.numbered.specs.declared.Choice.the-variants.{By, Unknown}
 

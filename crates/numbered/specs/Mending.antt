@@ -2,9 +2,9 @@
 use Prim.Native.Nat.{ℕ}
 use mathlib.Core.List.{List}
 use Rattle.progress.specs.Lent.{Lent, roomOf}
-use Rattle.mender.specs.Outcome.{mendingOf}
-use Rattle.mender.specs.Mends.{Withheld, Mends}
-use Rattle.mender.specs.declared.Answer.{Answer}
+use Rattle.mend_call.specs.Outcome.{mendingOf}
+use Rattle.mend_call.specs.Mends.{Withheld, Mends}
+use Rattle.mend_call.specs.declared.Answer.{Answer}
 use Rattle.numbered.specs.declared.Choice.{Choice}
 use Rattle.numbered.specs.declared.Choice.the-variants.{By, Unknown}
 

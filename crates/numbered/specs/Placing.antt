@@ -5,9 +5,9 @@ use mathlib.Core.List.{List}
 use lib.ListN.{replicate}
 use Rattle.progress.specs.Lent.{Lent}
 use Rattle.reader.specs.Reads.{Zeroed}
-use Rattle.roster.specs.Lists.{answered}
-use Rattle.roster.specs.declared.Answer.{Answer}
-use Rattle.assembly.specs.Placement.{Work, Places}
+use Rattle.placement_list.specs.Lists.{answered}
+use Rattle.placement_list.specs.declared.Answer.{Answer}
+use Rattle.placement_call.specs.Placement.{Work, Places}
 use Rattle.numbered.specs.declared.Choice.{Choice}
 use Rattle.numbered.specs.declared.Choice.the-variants.{By, Unknown}
 

@@ -1,9 +1,9 @@
 // The calls on a file whose book is named by two numbers, as a host in C names it: a number that names nothing is answered and not trusted.
-use attribute::Answer;
+use attribute_call::Answer;
+use attribute_call::Kind;
 use book::Book;
 use book::Edition;
 use book::Letters;
-use sayings::Kind;
 ghost use mathlib.Core.Path.{_≡_};
 ghost use Rattle.progress.specs.Lent.{lentOf, roomOf};
 ghost use Rattle.reader.specs.Reads.{Reads};
@@ -11,7 +11,7 @@ ghost use Rattle.numbered.specs.Choice.{withLetters, choiceOf, shortChoi
 ghost use lib.ListN.{length};
 ghost use Rattle.numbered.specs.Mending.{MendsBy};
 ghost use Rattle.numbered.specs.Placing.{PlacesBy};
-ghost use Rattle.assembly.specs.Placement.{workOf};
+ghost use Rattle.placement_call.specs.Placement.{workOf};
 ghost use Rattle.numbered.specs.Calls.{attributeBy, signatureBy, readingBy, roundedBy, labelNamedBy, labelAtBy};
 
 // The book that is named, or none.
@@ -65,7 +65,7 @@ pub fn attribute(
 {
     let c = choice_of(edition, letters);
     match c {
-        Choice::By(book) => attribute::attribute(book, file, kind, place, name),
+        Choice::By(book) => attribute_call::attribute(book, file, kind, place, name),
         Choice::Unknown => Answer {
             number: 101,
             place: 0,
@@ -177,7 +177,7 @@ pub fn mend(
     a: &mut [u64],
     m: &mut [u64],
     numbers: &mut [i64],
-) -> mender::Answer
+) -> mend_call::Answer
     ensures { λ r. ⌜ MendsBy (choiceOf edition letters)
         (lentOf (now (file .entry)) (now (e .entry)) (now (a .entry)) (now (m .entry)) (now (numbers .entry)))
         (lentOf (now (file .entry)) (now (e .exit)) (now (a .exit)) (now (m .exit)) (now (numbers .exit)))
@@ -185,10 +185,10 @@ pub fn mend(
 {
     let c = choice_of(edition, letters);
     match c {
-        Choice::By(book) => mender::mend(book, file, out, report, head, e, a, m, numbers),
+        Choice::By(book) => mend_call::mend(book, file, out, report, head, e, a, m, numbers),
         Choice::Unknown => {
-            mender::clear(out, report, head, e, a, m, numbers);
-            mender::Answer::Refused { number: 101 }
+            mend_call::clear(out, report, head, e, a, m, numbers);
+            mend_call::Answer::Refused { number: 101 }
         }
     }
 }
@@ -208,7 +208,7 @@ pub fn placement(
     roles: &mut [u64],
     pins: &mut [u64],
     out: &mut [u8],
-) -> roster::Answer
+) -> placement_list::Answer
     ensures { λ r. ⌜ PlacesBy (choiceOf edition letters)
         (lentOf (now (file .entry)) (now (e .entry)) (now (a .entry)) (now (m .entry)) (now (numbers .entry)))
         (lentOf (now (file .entry)) (now (e .exit)) (now (a .exit)) (now (m .exit)) (now (numbers .exit))) (now (head .exit))
@@ -216,7 +216,7 @@ pub fn placement(
 {
     let c = choice_of(edition, letters);
     match c {
-        Choice::By(book) => assembly::placement(
+        Choice::By(book) => placement_call::placement(
             book,
             file,
             head,
@@ -234,7 +234,7 @@ pub fn placement(
             mending::clear_bytes(out);
             *head = [0u64; 8];
             reader::clear(e, a, m, numbers);
-            roster::refused(101, 0)
+            placement_list::refused(101, 0)
         }
     }
 }

@@ -47,14 +47,14 @@ unfoldable pub draw : Fields → Written
 draw f = record { formless = broken f or alone f; long = tooLong f; operation = Draw (axisOf (f .x)) (axisOf (f .y)) (offsetOf f) }
 
 -- D02 and D03, which have no I and J
-unfoldable pub plain : Fields → Operation → Written
-plain f o = record { formless = broken f or f .i .given or f .j .given; long = tooLong f; operation = o }
+unfoldable pub withoutOffset : Fields → Operation → Written
+withoutOffset f o = record { formless = broken f or f .i .given or f .j .given; long = tooLong f; operation = o }
 
 unfoldable pub move : Fields → Written
-move f = plain f (Move (axisOf (f .x)) (axisOf (f .y)))
+move f = withoutOffset f (Move (axisOf (f .x)) (axisOf (f .y)))
 
 unfoldable pub flash : Fields → Written
-flash f = plain f (Flash (axisOf (f .x)) (axisOf (f .y)))
+flash f = withoutOffset f (Flash (axisOf (f .x)) (axisOf (f .y)))
 
 -- the operation of a number, 1 for D01, of its coordinates alone
 unfoldable pub operationIn : ℕ → Format → List ℕ → Written

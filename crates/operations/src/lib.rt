@@ -6,7 +6,7 @@ ghost use Rattle.digits.specs.Sign.{isSign};
 ghost use Rattle.formats.specs.Format.{exactPlaces};
 ghost use Rattle.formats.specs.declared.Format.{Format};
 ghost use Rattle.operations.specs.Coordinates.{given, fieldAt, fieldsIn};
-ghost use Rattle.operations.specs.Operations.{alone, broken, tooLong, axisOf, offsetOf, draw, move, flash, plain, operationCode, operationIn, operates, coded, operationOf};
+ghost use Rattle.operations.specs.Operations.{alone, broken, tooLong, axisOf, offsetOf, draw, move, flash, withoutOffset, operationCode, operationIn, operates, coded, operationOf};
 use command::Axis;
 use command::Command;
 use command::Offset;
@@ -250,7 +250,7 @@ fn drawn(f: Fields) -> Written
 
 // An operation that has no I and J.
 fn without_offset(f: Fields, operation: Operation) -> Written
-    ensures { λ r. ⌜ r ≡ plain f operation ⌝ }
+    ensures { λ r. ⌜ r ≡ withoutOffset f operation ⌝ }
 {
     let formless = base::either(base::either(is_broken(f), f.i.given), f.j.given);
     Written {

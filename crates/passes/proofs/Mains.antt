@@ -16,21 +16,21 @@ use Rattle.base.proofs.Lists.{same-is, same-refl}
 use Rattle.index.specs.Tree.{recordWidth}
 use Rattle.sheet.specs.Meaning.{flagWord}
 use Rattle.sheet.specs.declared.Container.{Container}
-use Rattle.components.specs.Values.{Value, field, isHeld}
-use Rattle.components.specs.Parts.{Part, Texts, isMain, designatorAs, designator}
-use Rattle.components.specs.Outlines.{at}
-use Rattle.components.specs.Faults.{lacksAs, lacks, hasMain, repeats, fault, faultOf}
-use Rattle.components.specs.Pass.{metOf, noOutline, outlineAfter, goesOn, isOpen, stepFault, endFault, pass}
-use Rattle.components.specs.declared.Fault.{Fault}
-use Rattle.components.specs.declared.Met.{Met}
-use Rattle.components.specs.declared.Outline as outline
-use Rattle.components.specs.declared.Role.{Role}
-use Rattle.components.specs.declared.Role.the-variants.{Main, Pin, Outline, Other}
-use Rattle.components.proofs.Pass.{pass-finds}
-use Rattle.components.proofs.Steps.{pass-on, pass-out, pass-end, hasMain-more}
+use Rattle.law_components.specs.Values.{Value, field, isHeld}
+use Rattle.law_components.specs.Parts.{Part, Texts, isMain, designatorAs, designator}
+use Rattle.law_components.specs.Outlines.{at}
+use Rattle.law_components.specs.Faults.{lacksAs, lacks, hasMain, repeats, fault, faultOf}
+use Rattle.law_components.specs.Pass.{metOf, noOutline, outlineAfter, goesOn, isOpen, stepFault, endFault, pass}
+use Rattle.law_components.specs.declared.Fault.{Fault}
+use Rattle.law_components.specs.declared.Met.{Met}
+use Rattle.law_components.specs.declared.Outline as outline
+use Rattle.law_components.specs.declared.Role.{Role}
+use Rattle.law_components.specs.declared.Role.the-variants.{Main, Pin, Outline, Other}
+use Rattle.law_components.proofs.Pass.{pass-finds}
+use Rattle.law_components.proofs.Steps.{pass-on, pass-out, pass-end, hasMain-more}
 use Rattle.notes.specs.declared.Note.{Note}
-use Rattle.hearing.specs.Designators.{Denotes, nothing, one}
-use Rattle.hearing.specs.Means.{Means}
+use Rattle.notes.specs.Designators.{Denotes, nothing, one}
+use Rattle.notes.specs.Means.{Means}
 use Rattle.seeing.specs.Layer.{Layer, parts, SeenIs}
 use Rattle.seeing.specs.declared.Seen.{Seen}
 use Rattle.seeing.proofs.Sights.{parts-many}

@@ -18,20 +18,20 @@ use Rattle.index.specs.Tree.{recordWidth}
 use Rattle.index.specs.Names.{nameOf}
 use Rattle.sheet.specs.Meaning.{flagWord}
 use Rattle.sheet.specs.declared.Container.{Container}
-use Rattle.components.specs.Values.{Value, field, isHeld}
-use Rattle.components.specs.Parts.{Part, isPin, designatorAs, designator, nothing}
-use Rattle.components.specs.Outlines.{at}
-use Rattle.components.specs.Faults.{lacksAs, lacks, hasMain}
-use Rattle.components.specs.Numbers.{numbersFrom, aPinOf}
-use Rattle.components.specs.Answer.{listedAmong, listedPins}
-use Rattle.components.specs.Chain.{linkWidth, Chain, end}
-use Rattle.components.specs.declared.Role.{Role}
-use Rattle.components.specs.declared.Role.the-variants.{Main, Pin, Outline, Other}
-use Rattle.components.proofs.Chain.{numbers-add, numbers-skip, Stays, chain-stays, chain-grows}
+use Rattle.law_components.specs.Values.{Value, field, isHeld}
+use Rattle.law_components.specs.Parts.{Part, isPin, designatorAs, designator, nothing}
+use Rattle.law_components.specs.Outlines.{at}
+use Rattle.law_components.specs.Faults.{lacksAs, lacks, hasMain}
+use Rattle.law_components.specs.Numbers.{numbersFrom, aPinOf}
+use Rattle.law_components.specs.Answer.{listedAmong, listedPins}
+use Rattle.law_components.specs.Chain.{linkWidth, Chain, end}
+use Rattle.law_components.specs.declared.Role.{Role}
+use Rattle.law_components.specs.declared.Role.the-variants.{Main, Pin, Outline, Other}
+use Rattle.law_components.proofs.Chain.{numbers-add, numbers-skip, Stays, chain-stays, chain-grows}
 use Rattle.notes.specs.declared.Note.{Note}
-use Rattle.hearing.specs.Designators as hearing
-use Rattle.hearing.specs.Designators.{Denotes, one}
-use Rattle.hearing.specs.Means.{Means}
+use Rattle.notes.specs.Designators as hearing
+use Rattle.notes.specs.Designators.{Denotes, one}
+use Rattle.notes.specs.Means.{Means}
 use Rattle.seeing.specs.Layer.{Layer, parts, SeenIs}
 use Rattle.seeing.specs.declared.Seen.{Seen}
 use Rattle.seeing.proofs.Sights.{parts-many}

@@ -13,16 +13,16 @@ use Rattle.index.specs.Tree.{recordWidth}
 use Rattle.index.specs.Names.{nameOf}
 use Rattle.sheet.specs.Meaning.{flagWord}
 use Rattle.sheet.specs.declared.Container.{Container}
-use Rattle.components.specs.Values.{Value, isHeld}
-use Rattle.components.specs.Parts.{Texts}
-use Rattle.components.specs.Outlines.{at}
-use Rattle.components.specs.Faults.{lacksAs, lacks}
-use Rattle.components.specs.Pass.{metOf}
-use Rattle.components.specs.declared.Role.{Role}
-use Rattle.components.specs.declared.Role.the-variants.{Main, Pin, Outline, Other}
+use Rattle.law_components.specs.Values.{Value, isHeld}
+use Rattle.law_components.specs.Parts.{Texts}
+use Rattle.law_components.specs.Outlines.{at}
+use Rattle.law_components.specs.Faults.{lacksAs, lacks}
+use Rattle.law_components.specs.Pass.{metOf}
+use Rattle.law_components.specs.declared.Role.{Role}
+use Rattle.law_components.specs.declared.Role.the-variants.{Main, Pin, Outline, Other}
 use Rattle.notes.specs.declared.Note.{Note}
-use Rattle.hearing.specs.Designators.{Denotes, nothing, one}
-use Rattle.hearing.specs.Means.{Means}
+use Rattle.notes.specs.Designators.{Denotes, nothing, one}
+use Rattle.notes.specs.Means.{Means}
 use Rattle.seeing.specs.Layer.{Layer, parts, SeenIs}
 use Rattle.seeing.specs.declared.Seen.{Seen}
 use Rattle.passes.specs.Words.{wordOf, withWord, lacksBy, metBy}

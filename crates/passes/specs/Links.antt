@@ -8,11 +8,11 @@ use lib.ListN.{length, getD}
 use Rattle.index.specs.Tree.{recordWidth}
 use Rattle.index.specs.Names.{nameOf}
 use Rattle.sheet.specs.declared.Container.{Container}
-use Rattle.components.specs.Faults.{hasMain, lacks}
-use Rattle.components.specs.Outlines.{at}
-use Rattle.components.specs.Numbers.{numbersFrom, aPinOf}
-use Rattle.components.specs.Answer.{listedPins}
-use Rattle.components.specs.Chain.{linkWidth, Chain}
+use Rattle.law_components.specs.Faults.{hasMain, lacks}
+use Rattle.law_components.specs.Outlines.{at}
+use Rattle.law_components.specs.Numbers.{numbersFrom, aPinOf}
+use Rattle.law_components.specs.Answer.{listedPins}
+use Rattle.law_components.specs.Chain.{linkWidth, Chain}
 use Rattle.seeing.specs.Layer.{Layer, parts}
 use Rattle.passes.specs.Words.{pinWord}
 

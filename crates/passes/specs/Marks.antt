@@ -7,8 +7,8 @@ use Rattle.index.specs.Tree.{recordWidth}
 use Rattle.index.specs.Names.{nameOf}
 use Rattle.sheet.specs.Meaning.{flagWord}
 use Rattle.sheet.specs.declared.Container.{Container}
-use Rattle.components.specs.Faults.{hasMain, faultOf}
-use Rattle.components.specs.declared.Fault.{Fault}
+use Rattle.law_components.specs.Faults.{hasMain, faultOf}
+use Rattle.law_components.specs.declared.Fault.{Fault}
 use Rattle.seeing.specs.Layer.{Layer, parts}
 use Rattle.passes.specs.Words.{mainWord, pinWord}
 

@@ -5,10 +5,10 @@ use mathlib.Core.List.{List}
 use lib.Dec.{eqb}
 use lib.ListN.{getD, set}
 use Rattle.index.specs.Tree.{recordWidth}
-use Rattle.components.specs.declared.Role.{Role}
-use Rattle.components.specs.declared.Role.the-variants.{Main, Pin, Outline, Other}
-use Rattle.components.specs.Chain.{linkWidth}
-use Rattle.components.specs.declared.Met.{Met}
+use Rattle.law_components.specs.declared.Role.{Role}
+use Rattle.law_components.specs.declared.Role.the-variants.{Main, Pin, Outline, Other}
+use Rattle.law_components.specs.Chain.{linkWidth}
+use Rattle.law_components.specs.declared.Met.{Met}
 use Rattle.notes.specs.declared.Note.{Note}
 use Rattle.seeing.specs.declared.Seen.{Seen}
 

@@ -1,22 +1,133 @@
 // The passes over the items of a component layer: the first at fault, and the pins of each main.
-use components::Fault;
-use components::Met;
-use components::Outline;
-use components::Role;
+use law_components::Fault;
+use law_components::Met;
+use law_components::Outline;
+use law_components::Role;
 use notes::Note;
 use points::Point;
 use seeing::Seen;
 use sheet::Container;
 ghost use mathlib.Core.Path.{_≡_};
+ghost use mathlib.Core.Bool.{cond};
+ghost use Rattle.law_components.specs.Parts.{isOutline};
+ghost use Rattle.law_components.specs.Pass.{goesOn, isOpen, outlineAfter, stepFault, endFault, noOutline};
 ghost use Prim.Native.Nat.{_+_, _/_, _<_};
 ghost use lib.ListN.{length};
 ghost use Rattle.index.specs.Tree.{recordWidth};
-ghost use Rattle.components.specs.Pass.{noOutline};
-ghost use Rattle.components.specs.Chain.{linkWidth};
+ghost use Rattle.law_components.specs.Chain.{linkWidth};
 ghost use Rattle.seeing.specs.Layer.{Layer, parts};
 ghost use Rattle.passes.specs.Words.{wordOf, withWord, pinWord, mainAs, pinAs, lacksBy, metBy, withLink};
 ghost use Rattle.passes.specs.Marks.{Marked, Judged};
 ghost use Rattle.passes.specs.Links.{Sound, Links};
+
+// One step of the pass that finds the first item at fault of a component layer.
+
+// Whether an item of this role is an outline's.
+fn is_outline(role: Role) -> bool
+    ensures { λ t. ⌜ t ≡ isOutline role ⌝ }
+{
+    match role {
+        Role::Main => false,
+        Role::Pin => false,
+        Role::Outline => true,
+        Role::Other => false,
+    }
+}
+
+fn pick(t: bool, p: Point, q: Point) -> Point
+    ensures { λ r. ⌜ r ≡ cond t p q ⌝ }
+{
+    if t {
+        return p;
+    }
+    q
+}
+
+// Whether the item goes on with the outline.
+fn goes_on(o: Outline, m: Met) -> bool
+    ensures { λ t. ⌜ t ≡ goesOn o m ⌝ }
+{
+    let role = m.role;
+    let to = o.end;
+    let from = m.start;
+    base::both(
+        o.under,
+        base::both(is_outline(role), points::same_point(to, from)),
+    )
+}
+
+// Whether the outline has not come back to where it began.
+fn is_open(o: Outline) -> bool
+    ensures { λ t. ⌜ t ≡ isOpen o ⌝ }
+{
+    let to = o.end;
+    let from = o.start;
+    base::both(o.under, !points::same_point(to, from))
+}
+
+// The outline after the item.
+fn outline_after(o: Outline, m: Met) -> Outline
+    ensures { λ r. ⌜ r ≡ outlineAfter o m ⌝ }
+{
+    let role = m.role;
+    let before = o.start;
+    let here = m.start;
+    let end = m.end;
+    let under = is_outline(role);
+    let start = pick(goes_on(o, m), before, here);
+    Outline {
+        under: under,
+        start: start,
+        end: end,
+        place: m.place,
+    }
+}
+
+// What the pass finds with an item more: an open outline before it, or a fault of its own; number 0 where there is none.
+fn step_fault(o: Outline, m: Met, again: bool) -> Fault
+    ensures { λ r. ⌜ r ≡ stepFault o m again ⌝ }
+{
+    if base::both(is_open(o), !goes_on(o, m)) {
+        return Fault {
+            number: 28,
+            place: o.place,
+        };
+    }
+    if m.lacks {
+        return Fault {
+            number: 26,
+            place: m.place,
+        };
+    }
+    if again {
+        return Fault {
+            number: 27,
+            place: m.place,
+        };
+    }
+    Fault {
+        number: 0,
+        place: 0,
+    }
+}
+
+// What it finds after the last item.
+fn end_fault(o: Outline) -> Fault
+    ensures { λ r. ⌜ r ≡ endFault o ⌝ }
+{
+    if is_open(o) {
+        return Fault {
+            number: 28,
+            place: o.place,
+        };
+    }
+    Fault {
+        number: 0,
+        place: 0,
+    }
+}
+
+// The passes, each over all items.
 
 // Whether an item of a role lacks the attribute that it must have.
 fn lacks(role: Role, note: Note) -> bool
@@ -136,15 +247,15 @@ pub fn faults(
         let role = s.role;
         let note = s.note;
         let d = main_of(role, note);
-        let f = judging::step_fault(o, m, word_of(names, d, 2) == 1);
+        let f = step_fault(o, m, word_of(names, d, 2) == 1);
         if f.number != 0 {
             return f;
         }
         set_word(names, d, 2, 1);
-        o = judging::outline_after(o, m);
+        o = outline_after(o, m);
         k += 1;
     }
-    judging::end_fault(o)
+    end_fault(o)
 }
 
 // Puts a pin's number before the others of its designator.

@@ -34,7 +34,7 @@ fn list(file: &[u8]) {
     let mut roles = [0u64; 65536];
     let mut pins = [0u64; 65536];
     let mut out = [0u8; 524288];
-    let a = assembly::placement(
+    let a = placement_call::placement(
         book::ascii(),
         file,
         &mut head,

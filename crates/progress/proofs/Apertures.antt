@@ -22,19 +22,19 @@ use Rattle.place.specs.Mark.{Mark}
 use Rattle.sheet.specs.Records.{apertureOf, apertureRoom, entryRoom}
 use Rattle.sheet.specs.Valid.{isBlock}
 use Rattle.sheet.specs.declared.Aperture as store
-use Rattle.reading.specs.State.{Aperture}
+use Rattle.law_reading.specs.State.{Aperture}
 use Rattle.sheet.proofs.Apertures.{aperture-number}
 use Rattle.tables.specs.Added.{added}
 use Rattle.tables.specs.Apertures.{apertureWords}
 use Rattle.tables.proofs.Apertures.{aperture-numbered, aperture-new, aperture-kept, aperture-behind}
 use Rattle.build.specs.declared.Builder.{Builder}
-use Rattle.shown.specs.Shown.{Shows}
-use Rattle.shown.proofs.Apertures.{aperture-more}
-use Rattle.drawing.specs.Counts.{most}
+use Rattle.law_built_store.specs.Shown.{Shows}
+use Rattle.law_built_store.proofs.Apertures.{aperture-more}
+use Rattle.operation_rules.specs.Counts.{most}
 use Rattle.graphics.specs.Graphics.{noAperture}
 use Rattle.graphics.specs.declared.Selected.{Selected}
-use Rattle.reading.specs.Apertures as reading
-use Rattle.reading.specs.Apertures.{isTaken, selected, apertureFrom, apertureWith}
+use Rattle.law_reading.specs.Apertures as reading
+use Rattle.law_reading.specs.Apertures.{isTaken, selected, apertureFrom, apertureWith}
 use Rattle.progress.specs.Tables.{asRead, ApertureTable, Chosen}
 use Rattle.progress.proofs.AsRead.{number-as-read}
 use Rattle.progress.proofs.Records.{records-long, records-more}

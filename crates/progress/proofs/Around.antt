@@ -7,10 +7,10 @@ use native.Mathlib.Nat.{le-refl}
 use native.Mathlib.Omega.{arith}
 use Rattle.sheet.specs.Records.{entryOf, apertureOf}
 use Rattle.sheet.specs.declared.Aperture.{Aperture}
-use Rattle.building.specs.Open.{opener}
-use Rattle.building.proofs.Grow.{MayRise, stays-as-high}
-use Rattle.building.proofs.Starts.{starts-below}
-use Rattle.reading.specs.State.{Opened, State, block, repeat}
+use Rattle.law_open_store.specs.Open.{opener}
+use Rattle.law_open_store.proofs.Grow.{MayRise, stays-as-high}
+use Rattle.law_open_store.proofs.Starts.{starts-below}
+use Rattle.law_reading.specs.State.{Opened, State, block, repeat}
 use Rattle.progress.specs.Around.{Around}
 use Rattle.progress.specs.Lent.{Lent}
 use Rattle.progress.specs.Knows.{Knows}

@@ -7,7 +7,7 @@ use lib.Dec.{eqb}
 use borrow.Author.Tests.{eqb-true}
 use Rattle.base.specs.And.{_and_}
 use Rattle.sheet.specs.declared.Aperture.{Aperture}
-use Rattle.reading.specs.Apertures.{block, blockOf, selected}
+use Rattle.law_reading.specs.Apertures.{block, blockOf, selected}
 use Rattle.progress.specs.Tables.{asStored, asRead}
 
 pub block-as-read : (r : Aperture) → eqb (r .kind) block ≡ true → asRead r ≡ blockOf (r .number) (r .items) (r .height)

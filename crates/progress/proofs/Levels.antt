@@ -9,8 +9,8 @@ use lib.Dec.{eqb}
 use borrow.Author.Tests.{le-leb, lt-leb, ne-eqb}
 use Rattle.graphics.specs.Level.{repeat}
 use Rattle.graphics.specs.declared.Level.{Level}
-use Rattle.drawing.specs.Counts.{most, counted}
-use Rattle.reading.specs.State.{State}
+use Rattle.operation_rules.specs.Counts.{most, counted}
+use Rattle.law_reading.specs.State.{State}
 use Rattle.progress.specs.Lent.{Lent}
 use Rattle.progress.specs.Levels.{levelAt, levelOf}
 use Rattle.progress.specs.Knows.{Knows}

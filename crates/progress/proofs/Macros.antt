@@ -22,8 +22,8 @@ use Rattle.tables.specs.Added.{added}
 use Rattle.tables.specs.Macros.{macroRoom, macroOf, macroWords}
 use Rattle.tables.specs.declared.Macro.{Macro}
 use Rattle.tables.proofs.Macros.{macro-named, macro-new, macro-kept, macro-behind}
-use Rattle.reading.specs.State.{Template}
-use Rattle.reading.specs.Apertures.{isAmong, namesOf, blocksOf}
+use Rattle.law_reading.specs.State.{Template}
+use Rattle.law_reading.specs.Apertures.{isAmong, namesOf, blocksOf}
 use Rattle.progress.specs.Tables.{templateOf, MacroTable}
 use Rattle.progress.proofs.Records.{records-long, records-more}
 use Rattle.progress.proofs.Found.{isFound, Picked, first-picked}

@@ -6,9 +6,9 @@ use mathlib.Core.List.{List, [], _∷_}
 use Rattle.sheet.specs.Records.{apertureOf}
 use Rattle.sheet.specs.declared.Entry.{Entry}
 use Rattle.graphics.specs.declared.Level.{Level}
-use Rattle.building.specs.Open.{opener}
-use Rattle.reading.specs.State.{Opened, block, repeat}
-use Rattle.reading.specs.Apertures.{openBlock}
+use Rattle.law_open_store.specs.Open.{opener}
+use Rattle.law_reading.specs.State.{Opened, block, repeat}
+use Rattle.law_reading.specs.Apertures.{openBlock}
 use Rattle.progress.specs.Levels.{levelAt, Counted}
 
 -- a block, of an aperture record below `limit` that is open; l is the level around it

@@ -7,9 +7,9 @@ use Rattle.place.specs.Mark as mark
 use Rattle.place.specs.Mark.{Mark, written}
 use Rattle.place.specs.declared.Item.{Item}
 use Rattle.sheet.specs.Records.{entryRoom}
-use Rattle.building.specs.Drawing.{Drawing}
+use Rattle.law_open_store.specs.OpenContour.{Drawing}
 use Rattle.build.specs.declared.Builder.{Builder}
-use Rattle.shown.specs.Shown.{blank}
+use Rattle.law_built_store.specs.Shown.{blank}
 
 pub record Contour (e a : List ℕ) (n : ℕ) (b : Builder) (at : ℕ) (marks : List Mark) : Type 0 where
   pub before : List Mark

@@ -4,9 +4,9 @@ use mathlib.Core.Path.{_≡_}
 use mathlib.Core.Bool.{true}
 use Rattle.points.specs.Points.{Within}
 use Rattle.sheet.specs.Records.{entryRoom}
-use Rattle.shown.specs.Shown.{Shows}
-use Rattle.reading.specs.State.{Room, State}
-use Rattle.reading.specs.Steps.{Step}
+use Rattle.law_built_store.specs.Shown.{Shows}
+use Rattle.law_reading.specs.State.{Room, State}
+use Rattle.law_reading.specs.Steps.{Step}
 use Rattle.progress.specs.Lent.{Lent, roomOf}
 use Rattle.progress.specs.Levels.{levelOf, Counted}
 use Rattle.progress.specs.Tables.{ApertureTable, MacroTable, NumberTable, Chosen}

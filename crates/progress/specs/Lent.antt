@@ -5,7 +5,7 @@ use lib.IntN.{ℤ}
 use lib.ListN.{length}
 use Rattle.sheet.specs.Records.{entryRoom, apertureRoom}
 use Rattle.tables.specs.Macros.{macroRoom}
-use Rattle.reading.specs.State.{Room}
+use Rattle.law_reading.specs.State.{Room}
 
 pub record Lent : Type 0 where
   pub file : List ℕ

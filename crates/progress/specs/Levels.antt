@@ -5,7 +5,7 @@ use mathlib.Core.Bool.{cond}
 use lib.Dec.{eqb, leb}
 use Rattle.graphics.specs.Level.{topLevel, block, repeat}
 use Rattle.graphics.specs.declared.Level.{Level}
-use Rattle.drawing.specs.Counts.{most, counted}
+use Rattle.operation_rules.specs.Counts.{most, counted}
 use Rattle.progress.specs.declared.Progress.{Progress}
 
 -- a container of height h with so many items, where so many blocks are open; copies and sheet are those of the open repeat

@@ -17,9 +17,9 @@ use Rattle.tables.specs.Macros.{macroWidth, macroOf}
 use Rattle.tables.specs.declared.Macro.{Macro}
 use Rattle.graphics.specs.Graphics.{noAperture}
 use Rattle.graphics.specs.declared.Selected.{Selected}
-use Rattle.drawing.specs.Counts.{most}
-use Rattle.reading.specs.State.{Aperture, Template}
-use Rattle.reading.specs.Apertures.{block, blockOf, selected}
+use Rattle.operation_rules.specs.Counts.{most}
+use Rattle.law_reading.specs.State.{Aperture, Template}
+use Rattle.law_reading.specs.Apertures.{block, blockOf, selected}
 
 -- a record as its words have it
 unfoldable pub asStored : store.Aperture → Aperture

@@ -9,13 +9,13 @@ use lib.IntN.{pos}
 use lib.ListN.{length, replicate, length-replicate}
 use Rattle.book.specs.declared.Book.{Book}
 use Rattle.scan.specs.Permitted.{fits}
-use Rattle.commands.specs.Commands.{commandsOf}
-use Rattle.commands.specs.Rounded.{roundedAmong, roundedIn}
-use Rattle.commands.specs.declared.Refusal.{Refusal}
+use Rattle.sequence.specs.Commands.{commandsOf}
+use Rattle.sequence.specs.Rounded.{roundedAmong, roundedIn}
+use Rattle.sequence.specs.declared.Refusal.{Refusal}
 use Rattle.sheet.specs.Records.{entryRoom}
-use Rattle.close.specs.Closed.{headOf, Ended}
-use Rattle.reading.specs.State.{begun}
-use Rattle.reading.specs.Reading.{Answer, refused, readOn, reading}
+use Rattle.build.specs.Closed.{headOf, Ended}
+use Rattle.law_reading.specs.State.{begun}
+use Rattle.law_reading.specs.Reading.{Answer, refused, readOn, reading}
 use Rattle.progress.specs.Lent.{Lent, roomOf, withEntries}
 use Rattle.progress.specs.declared.Progress.{Progress}
 use Rattle.reader.specs.declared.Answer.the-variants as answer

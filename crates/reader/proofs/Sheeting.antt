@@ -17,18 +17,18 @@ use Rattle.base.specs.Or.{_or_}
 use Rattle.sheet.specs.Records.{apertureRoom}
 use Rattle.sheet.specs.Valid.{valid}
 use Rattle.graphics.specs.declared.Graphics.{Graphics}
-use Rattle.fits.specs.Fits.{unready}
+use Rattle.operation_tests.specs.Fits.{unready}
 use Rattle.graphics.specs.declared.Level.{Level}
-use Rattle.bounds.proofs.Tables.{neither}
+use Rattle.law_bounds.proofs.Tables.{neither}
 use Rattle.base.proofs.Faults.{unbroken}
-use Rattle.rules.specs.Rules.{endFault}
-use Rattle.drawing.specs.Counts.{most}
-use Rattle.close.specs.Closed.{headOf, Ended}
-use Rattle.shown.proofs.Ends.{is-sheet, is-from-marks, is-plain}
-use Rattle.addresses.specs.Addresses.{sheetAddresses}
-use Rattle.addresses.specs.Marks.{partAddresses, addressesOf}
-use Rattle.addresses.proofs.Parts.{addresses-are}
-use Rattle.reading.specs.State.{State}
+use Rattle.command_rules.specs.Rules.{endFault}
+use Rattle.operation_rules.specs.Counts.{most}
+use Rattle.build.specs.Closed.{headOf, Ended}
+use Rattle.law_built_store.proofs.Ends.{is-sheet, is-from-marks, is-plain}
+use Rattle.law_addresses.specs.Addresses.{sheetAddresses}
+use Rattle.law_addresses.specs.Marks.{partAddresses, addressesOf}
+use Rattle.law_addresses.proofs.Parts.{addresses-are}
+use Rattle.law_reading.specs.State.{State}
 use Rattle.progress.specs.Lent.{Lent}
 use Rattle.progress.specs.Levels.{levelOf}
 use Rattle.progress.specs.Knows.{Knows}
@@ -36,7 +36,7 @@ use Rattle.progress.specs.declared.Progress.{Progress}
 use Rattle.progress.proofs.Levels.{items-known}
 use Rattle.progress.proofs.Apertures as apertures
 use Rattle.progress.proofs.Macros as macros
-use Rattle.containers.proofs.Levels.{inside-top, around-top}
+use Rattle.container_steps.proofs.Levels.{inside-top, around-top}
 use Rattle.reader.specs.Leaves.{Leaves}
 
 -- a unit that MO or a code has given

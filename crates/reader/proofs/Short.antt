@@ -4,9 +4,9 @@ use Prim.Native.Nat.{ℕ}
 use mathlib.Core.Path.{_≡_}
 use mathlib.Core.List.{List}
 use Rattle.book.specs.declared.Book.{Book}
-use Rattle.commands.specs.Rounded.{roundedIn}
-use Rattle.reading.specs.State.{Room}
-use Rattle.reading.specs.Reading.{reading}
+use Rattle.sequence.specs.Rounded.{roundedIn}
+use Rattle.law_reading.specs.State.{Room}
+use Rattle.law_reading.specs.Reading.{reading}
 use Rattle.progress.specs.Lent.{Lent}
 use Rattle.reader.specs.Reads.{Reads}
 use Rattle.reader.specs.declared.Answer.{Answer}

@@ -15,10 +15,10 @@ use Rattle.sheet.specs.Records.{entryWidth, apertureWidth, apertureOf}
 use Rattle.sheet.specs.Containers.{unitOf, entriesUsed, aperturesUsed}
 use Rattle.sheet.specs.Meaning.{sheetItems}
 use Rattle.sheet.specs.Valid.{valid}
-use Rattle.addresses.specs.Addresses.{sheetAddresses}
-use Rattle.addresses.specs.Marks.{addressesOf}
+use Rattle.law_addresses.specs.Addresses.{sheetAddresses}
+use Rattle.law_addresses.specs.Marks.{addressesOf}
 use Rattle.tables.specs.Macros.{macroWidth, macroOf}
-use Rattle.reading.specs.State.{State}
+use Rattle.law_reading.specs.State.{State}
 use Rattle.progress.specs.Tables.{asRead, templateOf}
 
 abbrev pub macrosUsed : List ℕ → ℕ

@@ -5,7 +5,7 @@ use mathlib.Core.Path.{_≡_}
 use mathlib.Core.List.{List}
 use lib.IntN.{pos}
 use lib.ListN.{length, replicate}
-use Rattle.reading.specs.Reading.{Answer, accepted, refused}
+use Rattle.law_reading.specs.Reading.{Answer, accepted, refused}
 use Rattle.progress.specs.Lent.{Lent}
 pub use Rattle.running.specs.Ends.{AsLong}
 use Rattle.reader.specs.Leaves.{Leaves}

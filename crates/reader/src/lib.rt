@@ -7,9 +7,9 @@ ghost use lib.ListN.{length, replicate};
 ghost use Rattle.running.specs.Units.{unitIn};
 ghost use Rattle.scan.specs.Permitted.{fits};
 ghost use Rattle.sheet.specs.Records.{entryRoom};
-ghost use Rattle.close.specs.Closed.{headOf, Ended};
-ghost use Rattle.commands.specs.Rounded.{roundedIn};
-ghost use Rattle.reading.specs.Reading.{reading};
+ghost use Rattle.build.specs.Closed.{headOf, Ended};
+ghost use Rattle.sequence.specs.Rounded.{roundedIn};
+ghost use Rattle.law_reading.specs.Reading.{reading};
 ghost use Rattle.progress.specs.Lent.{lentOf, roomOf};
 ghost use Rattle.running.specs.Ends.{AsLong, answerOf, Ends};
 ghost use Rattle.reader.specs.Reads.{Reads};
@@ -92,8 +92,8 @@ fn finish(e: &mut [u64], p: Progress) -> [u64; 8]
 {
     let b = p.builder;
     let h = p.graphics.header;
-    close::finish(e, b);
-    close::head_words(
+    build::finish(e, b);
+    build::head_words(
         running::unit_in(h),
         b,
         p.apertures as u64,

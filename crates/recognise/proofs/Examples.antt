@@ -55,7 +55,7 @@ use Rattle.apertures.specs.Definitions.{definition, apertureOf}
 use Rattle.apertures.specs.Blocks.{blockOf}
 use Rattle.apertures.specs.Parameters.{more, gathered, parametersOf}
 use Rattle.text.specs.Pieces.{onto, parted, pieces}
-use Rattle.attributes.specs.Attributes.{valueOf, attributeOf, deletionOf}
+use Rattle.attribute_commands.specs.Attributes.{valueOf, attributeOf, deletionOf}
 use Rattle.recognise.specs.Commands.{oneBlock, isUnread, dataOf, dataIn, extendedOf, commandOf}
 
 -- Commands of the newer edition after FS with n 3. Unknown, or not of their form (decisions 3, 23, 26, 27 and 31)

@@ -23,8 +23,8 @@ use Rattle.settings.specs.Repeats.{repeatOf}
 use Rattle.settings.specs.Transformations.{transformationOf}
 use Rattle.apertures.specs.Definitions.{apertureOf}
 use Rattle.apertures.specs.Blocks.{blockOf}
-use Rattle.form.specs.Macro.{macroOf}
-use Rattle.attributes.specs.Attributes.{attributeOf, deletionOf}
+use Rattle.macro_form.specs.Macro.{macroOf}
+use Rattle.attribute_commands.specs.Attributes.{attributeOf, deletionOf}
 
 -- one data block: after its `*` CR and LF only (decisions 3, 6 and 31)
 unfoldable pub oneBlock : List ℕ → ℕ → Bool

@@ -50,9 +50,9 @@ fn data_of(book: Book, s: &[u8]) -> Command
         return settings::transformation_of(s);
     }
     if text::begins(s, b"TD") {
-        return attributes::deletion_of(s);
+        return attribute_commands::deletion_of(s);
     }
-    attributes::attribute_of(s)
+    attribute_commands::attribute_of(s)
 }
 
 // A data block, without its `*`.
@@ -83,6 +83,6 @@ pub fn command_of(book: Book, format: Format, kind: Kind, s: &[u8]) -> Command
     match kind {
         Kind::Word => words::word_of(book, format, s),
         Kind::Extended => extended_of(book, s),
-        Kind::Macro => form::macro_of(s),
+        Kind::Macro => macro_form::macro_of(s),
     }
 }

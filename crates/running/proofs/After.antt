@@ -25,14 +25,14 @@ use Rattle.command.specs.declared.Command.the-variants as cmd
 use Rattle.graphics.specs.Graphics.{withHeader, withNotation, withPoint, withAperture, withMode, withQuadrants, withTransform, withRegion}
 use Rattle.graphics.specs.declared.Graphics.{Graphics}
 use Rattle.changes.specs.After.{afterSetting, afterOperation, after, goingTo, withFormat, withUnit, withCoded}
-use Rattle.rules.specs.Rules.{fileAttributeFault}
+use Rattle.command_rules.specs.Rules.{fileAttributeFault}
 use Rattle.names.specs.Sets.{setsBy, setsOf}
 use Rattle.names.specs.declared.Sets.{Sets}
 use Rattle.names.specs.declared.Sets.the-variants.{Nothing, Name}
-use Rattle.reading.specs.State as opened
-use Rattle.reading.specs.State.{Room, Opened, State}
-use Rattle.reading.specs.Apertures.{isAmong}
-use Rattle.reading.specs.Steps.{
+use Rattle.law_reading.specs.State as opened
+use Rattle.law_reading.specs.State.{Room, Opened, State}
+use Rattle.law_reading.specs.Apertures.{isAmong}
+use Rattle.law_reading.specs.Steps.{
   passed,
   withGraphics,
   withLevel,

@@ -11,10 +11,10 @@ use Rattle.index.proofs.More.{numbered-none, named-none}
 use Rattle.place.specs.Mark.{written}
 use Rattle.graphics.specs.Graphics as graphics
 use Rattle.graphics.specs.Graphics.{origin, unset, noAperture, noRegion}
-use Rattle.drawing.specs.Counts.{counted}
-use Rattle.close.proofs.Clearing.{zeros-read}
-use Rattle.shown.proofs.Ends.{starts}
-use Rattle.reading.specs.State.{outermost, begun}
+use Rattle.operation_rules.specs.Counts.{counted}
+use Rattle.build.proofs.Clearing.{zeros-read}
+use Rattle.law_built_store.proofs.Ends.{starts}
+use Rattle.law_reading.specs.State.{outermost, begun}
 use Rattle.progress.specs.Lent.{Lent}
 use Rattle.progress.specs.Levels.{levelAt, levelOf}
 use Rattle.progress.specs.Around.{Around}

@@ -10,11 +10,11 @@ use lib.ListN.{length}
 use Rattle.book.specs.declared.Book.{Book}
 use Rattle.command.specs.Rounded.{roundedOf}
 use Rattle.command.specs.declared.Command.the-variants.{End}
-use Rattle.commands.specs.Rounded.{roundedAmong}
-use Rattle.commands.specs.Turns.{turnOf}
-use Rattle.commands.specs.declared.Placed.{Placed}
-use Rattle.commands.specs.declared.Turn.the-variants as turn
-use Rattle.commands.proofs.Walk.{walk, walk-last, walk-more}
+use Rattle.sequence.specs.Rounded.{roundedAmong}
+use Rattle.sequence.specs.Turns.{turnOf}
+use Rattle.sequence.specs.declared.Placed.{Placed}
+use Rattle.sequence.specs.declared.Turn.the-variants as turn
+use Rattle.sequence.proofs.Walk.{walk, walk-last, walk-more}
 use Rattle.running.specs.Ends.{walked}
 
 -- those of a file

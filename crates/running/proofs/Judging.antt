@@ -12,9 +12,9 @@ use borrow.Author.Tests.{eqb-true, eq-eqb, ne-eqb}
 use Rattle.book.specs.declared.Book.{Book}
 use Rattle.base.specs.Or.{_or_}
 use Rattle.command.specs.declared.Span.{Span}
-use Rattle.commands.specs.declared.Placed.{Placed}
-use Rattle.reading.specs.Apertures.{isAmong}
-use Rattle.reading.specs.Steps.{part}
+use Rattle.sequence.specs.declared.Placed.{Placed}
+use Rattle.law_reading.specs.Apertures.{isAmong}
+use Rattle.law_reading.specs.Steps.{part}
 use Rattle.names.specs.Sets.{setsOf}
 use Rattle.names.specs.declared.Sets.the-variants.{Nothing, Name}
 use Rattle.names.specs.Twice.{firstAt, twiceAt}

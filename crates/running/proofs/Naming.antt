@@ -11,13 +11,13 @@ use lib.ListN.{length}
 use lib.Seq.{slice}
 use Rattle.book.specs.declared.Book.{Book}
 use Rattle.command.specs.declared.Span.{Span}
-use Rattle.commands.specs.Turns.{turnOf}
-use Rattle.commands.specs.declared.Placed.{Placed}
-use Rattle.commands.specs.declared.Turn.the-variants as turn
-use Rattle.commands.proofs.Walk.{more-onward}
-use Rattle.reading.specs.State.{State}
-use Rattle.reading.specs.Apertures.{isAmong}
-use Rattle.reading.specs.Steps.{part}
+use Rattle.sequence.specs.Turns.{turnOf}
+use Rattle.sequence.specs.declared.Placed.{Placed}
+use Rattle.sequence.specs.declared.Turn.the-variants as turn
+use Rattle.sequence.proofs.Walk.{more-onward}
+use Rattle.law_reading.specs.State.{State}
+use Rattle.law_reading.specs.Apertures.{isAmong}
+use Rattle.law_reading.specs.Steps.{part}
 use Rattle.names.specs.Sets.{setsBy, setsOf}
 use Rattle.names.specs.declared.Sets.{Sets}
 use Rattle.names.specs.declared.Sets.the-variants.{Nothing, Name}

@@ -15,16 +15,16 @@ use Rattle.scan.specs.Tail.{tailOf}
 use Rattle.command.specs.Rounded.{roundedOf}
 use Rattle.command.specs.declared.Command.{Command}
 use Rattle.command.specs.declared.Command.the-variants as cmd
-use Rattle.commands.specs.Turns.{turnOf, tailFault}
-use Rattle.commands.specs.declared.Placed.{Placed}
-use Rattle.commands.specs.declared.Refusal.{Refusal}
-use Rattle.commands.specs.declared.Turn.{Turn}
-use Rattle.commands.specs.declared.Turn.the-variants as turn
-use Rattle.commands.proofs.Walk.{walk, walk-fault, walk-last, walk-more, more-onward}
-use Rattle.rules.specs.Rules.{endFault}
-use Rattle.reading.specs.State.{Room, State}
-use Rattle.reading.specs.Steps.{stepOf}
-use Rattle.reading.specs.Reading.{Answer, accepted, refused, stepAt, readOn}
+use Rattle.sequence.specs.Turns.{turnOf, tailFault}
+use Rattle.sequence.specs.declared.Placed.{Placed}
+use Rattle.sequence.specs.declared.Refusal.{Refusal}
+use Rattle.sequence.specs.declared.Turn.{Turn}
+use Rattle.sequence.specs.declared.Turn.the-variants as turn
+use Rattle.sequence.proofs.Walk.{walk, walk-fault, walk-last, walk-more, more-onward}
+use Rattle.command_rules.specs.Rules.{endFault}
+use Rattle.law_reading.specs.State.{Room, State}
+use Rattle.law_reading.specs.Steps.{stepOf}
+use Rattle.law_reading.specs.Reading.{Answer, accepted, refused, stepAt, readOn}
 use Rattle.progress.specs.Lent.{Lent}
 use Rattle.progress.specs.Knows.{Knows, Follows}
 use Rattle.progress.specs.declared.Progress.{Progress}

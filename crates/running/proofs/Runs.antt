@@ -17,13 +17,13 @@ use Rattle.command.specs.declared.Command.{Command}
 use Rattle.command.specs.declared.Command.the-variants as command
 use Rattle.names.specs.Sets.{setsOf}
 use Rattle.names.specs.declared.Sets.the-variants as sets
-use Rattle.commands.specs.Turns.{turnOf, tailFault}
-use Rattle.commands.specs.declared.Placed.{Placed}
-use Rattle.commands.specs.declared.Refusal.{Refusal}
-use Rattle.commands.specs.declared.Turn.the-variants as turn
+use Rattle.sequence.specs.Turns.{turnOf, tailFault}
+use Rattle.sequence.specs.declared.Placed.{Placed}
+use Rattle.sequence.specs.declared.Refusal.{Refusal}
+use Rattle.sequence.specs.declared.Turn.the-variants as turn
 use Rattle.graphics.specs.Graphics as graphics
-use Rattle.reading.specs.State.{Room, State, begun}
-use Rattle.reading.specs.Reading.{refused, stepAt}
+use Rattle.law_reading.specs.State.{Room, State, begun}
+use Rattle.law_reading.specs.Reading.{refused, stepAt}
 use Rattle.progress.specs.Lent.{Lent, lentOf, roomOf, withEntries}
 use Rattle.progress.specs.Strokes.{withStroke}
 use Rattle.progress.specs.declared.Stroke.{Stroke}

@@ -3,7 +3,7 @@
 use Prim.Native.Nat.{ℕ}
 use mathlib.Core.Path.{_≡_}
 use borrow.Author.Tests.{eq-eqb, ne-eqb}
-use Rattle.commands.specs.declared.Refusal.{Refusal}
+use Rattle.sequence.specs.declared.Refusal.{Refusal}
 use Rattle.progress.specs.declared.Progress.{Progress}
 use Rattle.progress.specs.declared.Stepped.{Stepped}
 use Rattle.progress.specs.declared.Stepped.the-variants as stepped

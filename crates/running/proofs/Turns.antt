@@ -24,13 +24,13 @@ use Rattle.command.specs.declared.Setting.the-variants as setting
 use Rattle.command.specs.declared.Command.{Command}
 use Rattle.command.specs.declared.Command.the-variants as cmd
 use Rattle.recognise.specs.Commands.{commandOf}
-use Rattle.commands.specs.Leads.{leadOfFlaw, leadOfSetting, leadOf}
-use Rattle.commands.specs.Turns.{led, turned, turnOf}
-use Rattle.commands.specs.declared.Placed.{Placed}
-use Rattle.commands.specs.declared.Turn.{Turn}
-use Rattle.commands.specs.declared.Turn.the-variants.{Fault, Last, More}
-use Rattle.bounds.proofs.Bounds.{bounded}
-use Rattle.bounds.proofs.Rounded.{rounded-within}
+use Rattle.sequence.specs.Leads.{leadOfFlaw, leadOfSetting, leadOf}
+use Rattle.sequence.specs.Turns.{led, turned, turnOf}
+use Rattle.sequence.specs.declared.Placed.{Placed}
+use Rattle.sequence.specs.declared.Turn.{Turn}
+use Rattle.sequence.specs.declared.Turn.the-variants.{Fault, Last, More}
+use Rattle.law_bounds.proofs.Bounds.{bounded}
+use Rattle.law_bounds.proofs.Rounded.{rounded-within}
 use Rattle.steps.specs.Steps.{Sound}
 
 unfoldable pub SoundTurn : List ℕ → ℕ → Turn → Type 0

@@ -10,13 +10,13 @@ use lib.Dec.{eqb}
 use lib.IntN.{pos}
 use lib.ListN.{length, replicate}
 use Rattle.book.specs.declared.Book.{Book}
-use Rattle.commands.specs.Commands.{Sequence, commandsFrom}
-use Rattle.commands.specs.Rounded.{roundedAmong}
-use Rattle.commands.specs.declared.Refusal.{Refusal}
+use Rattle.sequence.specs.Commands.{Sequence, commandsFrom}
+use Rattle.sequence.specs.Rounded.{roundedAmong}
+use Rattle.sequence.specs.declared.Refusal.{Refusal}
 use Rattle.graphics.specs.Graphics as graphics
-use Rattle.rules.specs.Rules.{endFault}
-use Rattle.reading.specs.State.{State, begun}
-use Rattle.reading.specs.Reading.{Answer, accepted, refused, readOn}
+use Rattle.command_rules.specs.Rules.{endFault}
+use Rattle.law_reading.specs.State.{State, begun}
+use Rattle.law_reading.specs.Reading.{Answer, accepted, refused, readOn}
 use Rattle.progress.specs.Lent.{Lent, roomOf}
 use Rattle.progress.specs.Knows.{Knows}
 use Rattle.progress.specs.declared.Progress.{Progress}

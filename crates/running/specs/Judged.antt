@@ -6,8 +6,8 @@ use lib.Dec.{eqb, ltb}
 use lib.Seq.{slice}
 use Rattle.base.specs.Or.{_or_}
 use Rattle.book.specs.declared.Book.{Book}
-use Rattle.commands.specs.declared.Placed.{Placed}
-use Rattle.reading.specs.Steps.{part}
+use Rattle.sequence.specs.declared.Placed.{Placed}
+use Rattle.law_reading.specs.Steps.{part}
 use Rattle.names.specs.Sets.{setsOf}
 use Rattle.names.specs.Twice.{firstAt}
 use Rattle.names.specs.declared.Sets.{Sets}

@@ -9,14 +9,14 @@ ghost use Rattle.running.specs.Ends.{start, Empty, AsLong, answerOf, set
 ghost use Rattle.running.specs.Judged.{judgedName, judgedOf};
 use book::Book;
 use build::Builder;
-use commands::Placed;
-use commands::Refusal;
-use commands::Turn;
 use graphics::Header;
 use names::Sets;
 use progress::Progress;
 use progress::Stepped;
 use progress::Struck;
+use sequence::Placed;
+use sequence::Refusal;
+use sequence::Turn;
 
 // Where a name of TF is set twice first, the length of the file where none is, once that was looked for.
 pub enum Repeat {
@@ -163,7 +163,7 @@ pub fn run(
     let mut set: usize = 0;
     let mut rounded: usize = 0;
     loop {
-        let t = commands::turn_at(book, format, file, at);
+        let t = sequence::turn_at(book, format, file, at);
         match t {
             Turn::Fault(f) => {
                 return Outcome::Ends(End::Fault(f));
@@ -171,7 +171,7 @@ pub fn run(
             Turn::Last { command, next } => {
                 let place = command.place;
                 let r = steps::step(file, e, a, m, numbers, p, command, false);
-                return Outcome::Ends(settled(r, place, commands::tail_fault(file, next), rounded));
+                return Outcome::Ends(settled(r, place, sequence::tail_fault(file, next), rounded));
             }
             Turn::More {
                 command,

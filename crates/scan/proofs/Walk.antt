@@ -16,7 +16,7 @@ use Rattle.base.specs.Bytes.{sameBytes}
 use Rattle.text.specs.First.{firstIn, skipped}
 use Rattle.text.specs.Text.{_begins_}
 use Rattle.fields.specs.Parts.{partAfter, opensMacro}
-use Rattle.fields.specs.declared.Part.the-variants.{Start, Mark, MarkA, Plain}
+use Rattle.fields.specs.declared.Part.the-variants.{Start, Mark, MarkA, Over}
 use Rattle.fields.proofs.Ahead.{first-here, first-later}
 use Rattle.fields.proofs.Macros.{noMacro}
 use Rattle.fields.proofs.Opened.{word-field, mark-field, begins-none, begins-next}
@@ -91,11 +91,11 @@ module _ (book : Book) (n at b : ℕ) (r : List ℕ) (long : n ≡ at + length (
   unfolding kindOf sameBytes
   macro-kind = rw (begins-next b (65 ∷ 77 ∷ r) 37 (65 ∷ 77 ∷ []) 2 f)
 
-  first-two : run book n at (Inside (fresh Extended Mark)) (65 ∷ 77 ∷ r) (at + 1) ≡ run book n at (Inside (stand Macro Plain 77 nothing 0)) r (at + 1 + 1 + 1)
+  first-two : run book n at (Inside (fresh Extended Mark)) (65 ∷ 77 ∷ r) (at + 1) ≡ run book n at (Inside (stand Macro Over 77 nothing 0)) r (at + 1 + 1 + 1)
   unfolding step inside within idle permitted printable moved kindAfter opensMacro partAfter endOf _and_ _or_
   first-two =
       run-inside book n at (Inside (fresh Extended Mark)) 65 (77 ∷ r) (at + 1) {x = stand Extended MarkA 65 nothing 0} refl
-      ∙ run-inside book n at (Inside (stand Extended MarkA 65 nothing 0)) 77 r (at + 1 + 1) {x = stand Macro Plain 77 nothing 0} refl
+      ∙ run-inside book n at (Inside (stand Extended MarkA 65 nothing 0)) 77 r (at + 1 + 1) {x = stand Macro Over 77 nothing 0} refl
 
   end-behind : firstIn (ends Macro) (65 ∷ 77 ∷ r) (at + 1) ≡ firstIn (ends Macro) r (at + 1 + 1 + 1)
   unfolding endOf
@@ -107,7 +107,7 @@ module _ (book : Book) (n at b : ℕ) (r : List ℕ) (long : n ≡ at + length (
       bad-goes Macro (inField book all at) 0 65 (77 ∷ r) (at + 1) refl
       ∙ bad-goes Macro (inField book all at) 65 77 r (at + 1 + 1) refl
 
-  ready-macro : Ready book n at Macro (inField book all at) Plain 0 0 0 r (at + 1 + 1 + 1)
+  ready-macro : Ready book n at Macro (inField book all at) Over 0 0 0 r (at + 1 + 1 + 1)
   unfolding partAfter noMacro
   ready-macro =
       record {
@@ -126,7 +126,7 @@ module _ (book : Book) (n at b : ℕ) (r : List ℕ) (long : n ≡ at + length (
   macro =
       rw macro-kind
       (first-two
-      ∙ comes book n at Macro (inField book all at) r (at + 1 + 1 + 1) Plain 77 0 0 0 0 ready-macro
+      ∙ comes book n at Macro (inField book all at) r (at + 1 + 1 + 1) Over 77 0 0 0 0 ready-macro
       ∙ sym (λ i. cutBy Macro n at (end-behind i) (bad-behind i)))
 
 -- behind `%`, whatever comes

@@ -10,11 +10,11 @@ use Rattle.base.specs.Bytes.{sameBytes}
 use Rattle.base.proofs.Lists.{same-is}
 use Rattle.text.specs.Text.{text, _is_}
 use Rattle.place.specs.Kind as kind
-use Rattle.components.specs.Values.{Value, field}
-use Rattle.components.specs.Parts.{isDrawn, roleOf}
-use Rattle.components.specs.declared.Role.{Role}
-use Rattle.components.specs.declared.Role.the-variants.{Main, Pin, Outline, Other}
-use Rattle.hearing.specs.Functions.{functionIs, functionNumber}
+use Rattle.law_components.specs.Values.{Value, field}
+use Rattle.law_components.specs.Parts.{isDrawn, roleOf}
+use Rattle.law_components.specs.declared.Role.{Role}
+use Rattle.law_components.specs.declared.Role.the-variants.{Main, Pin, Outline, Other}
+use Rattle.notes.specs.Functions.{functionIs, functionNumber}
 use Rattle.seeing.specs.Roles.{roleBy}
 
 -- the roles by three tests

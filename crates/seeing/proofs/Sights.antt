@@ -14,14 +14,14 @@ use Rattle.sheet.proofs.Expand.{length-sheet}
 use Rattle.descend.specs.Search.{Asked}
 use Rattle.descend.proofs.Answers.{asked-top}
 use Rattle.sheet.proofs.Sound.{top-sound}
-use Rattle.components.specs.Parts.{Part, Texts, partOf, nothing}
-use Rattle.components.specs.Outlines.{at}
-use Rattle.components.specs.declared.Role.{Role}
+use Rattle.law_components.specs.Parts.{Part, Texts, partOf, nothing}
+use Rattle.law_components.specs.Outlines.{at}
+use Rattle.law_components.specs.declared.Role.{Role}
 use Rattle.notes.specs.Notes.{noteOf, Sought, Found}
 use Rattle.notes.specs.declared.Note.{Note}
 use Rattle.layer.specs.Attributes.{textsAt, functionOf}
 use Rattle.layer.specs.Parts.{partsOf}
-use Rattle.hearing.specs.Means.{Means}
+use Rattle.notes.specs.Means.{Means}
 use Rattle.noting.specs.Holds.{roleNumber}
 use Rattle.seeing.specs.Roles.{roleBy}
 use Rattle.seeing.specs.Layer.{Layer, parts, SeenIs}

@@ -11,13 +11,13 @@ use Rattle.sheet.specs.Containers.{topOf}
 use Rattle.sheet.specs.Meaning.{sheetItems}
 use Rattle.sheet.specs.Valid.{valid}
 use Rattle.sheet.specs.declared.Container.{Container}
-use Rattle.components.specs.Parts.{Part}
-use Rattle.components.specs.Outlines.{at}
+use Rattle.law_components.specs.Parts.{Part}
+use Rattle.law_components.specs.Outlines.{at}
 use Rattle.notes.specs.Notes.{noteOf, Ordered}
 use Rattle.layer.specs.Attributes.{textsAt, functionOf}
 use Rattle.layer.specs.Parts.{partsOf}
-use Rattle.hearing.specs.Functions.{functionNumber}
-use Rattle.hearing.specs.Means.{Means}
+use Rattle.notes.specs.Functions.{functionNumber}
+use Rattle.notes.specs.Means.{Means}
 use Rattle.noting.specs.Holds.{roleNumber}
 use Rattle.seeing.specs.declared.Seen.{Seen}
 

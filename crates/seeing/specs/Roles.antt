@@ -4,9 +4,9 @@ use mathlib.Core.Bool.{cond}
 use lib.Dec.{eqb}
 use Rattle.base.specs.And.{_and_}
 use Rattle.place.specs.Kind as kind
-use Rattle.components.specs.Parts.{isDrawn}
-use Rattle.components.specs.declared.Role.{Role}
-use Rattle.components.specs.declared.Role.the-variants.{Main, Pin, Outline, Other}
+use Rattle.law_components.specs.Parts.{isDrawn}
+use Rattle.law_components.specs.declared.Role.{Role}
+use Rattle.law_components.specs.declared.Role.the-variants.{Main, Pin, Outline, Other}
 
 unfoldable pub roleBy : ℕ → ℕ → Role
 roleBy k function =

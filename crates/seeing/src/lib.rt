@@ -1,13 +1,13 @@
 // An item of a sheet as a part of a component layer: what it is to the bench, and what is noted of it.
-use components::Role;
 use index::Search;
+use law_components::Role;
 use notes::Note;
 use points::Point;
 use sheet::Container;
 ghost use mathlib.Core.Path.{_≡_};
 ghost use Prim.Native.Nat.{_<_};
 ghost use Rattle.index.specs.Numbers.{Numbered};
-ghost use Rattle.components.specs.Parts.{isDrawn};
+ghost use Rattle.law_components.specs.Parts.{isDrawn};
 ghost use Rattle.noting.specs.Holds.{roleNumber};
 ghost use Rattle.seeing.specs.Roles.{roleBy};
 ghost use Rattle.seeing.specs.Layer.{Layer, SeenIs};

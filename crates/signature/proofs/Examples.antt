@@ -19,9 +19,9 @@ use Rattle.scan.specs.Tail.{tailOf}
 use Rattle.digest.specs.Text.{unbroken}
 use Rattle.digest.specs.Bytes.{bytesOf}
 use Rattle.digest.specs.Md5.{padding, lengthOf, tail, initial, blocks, output, md5}
-use Rattle.md5.specs.Word.{wordsOf, rotated}
-use Rattle.md5.specs.Table.{table}
-use Rattle.md5.specs.Rounds.{mixed, place, amounts, amount, operation, row, added, block}
+use Rattle.digest.specs.Word.{wordsOf, rotated}
+use Rattle.digest.specs.Table.{table}
+use Rattle.digest.specs.Rounds.{mixed, place, amounts, amount, operation, row, added, block}
 use Rattle.hex.specs.Digits.{hexDigit, hexDigits, small, sameDigits}
 use Rattle.hex.specs.Hex.{digit, hexOf}
 use Rattle.signature.specs.Form.{isEnd, isSignature, digitsOf}

@@ -5,7 +5,7 @@ use mathlib.Core.Path.{_≡_, _∙_, ap, subst}
 use mathlib.Core.List.{List}
 use lib.IntN.{ℤ}
 use Rattle.progress.specs.Lent.{Lent, withEntries, withApertures, withMacros, withNumbers}
-use Rattle.reading.specs.Steps.{Step}
+use Rattle.law_reading.specs.Steps.{Step}
 use Rattle.progress.specs.Knows.{Knows, Known, Follows}
 use Rattle.progress.specs.declared.Stepped.{Stepped}
 use Rattle.progress.specs.declared.Progress.{Progress}

@@ -17,15 +17,15 @@ use Rattle.graphics.specs.Graphics.{withMode}
 use Rattle.changes.specs.After.{afterSetting, modeOf}
 use Rattle.faults.specs.Order.{sooner}
 use Rattle.faults.proofs.Laws.{sooner-first}
-use Rattle.reading.specs.State.{State}
-use Rattle.reading.specs.Steps.{Step, settingStep}
+use Rattle.law_reading.specs.State.{State}
+use Rattle.law_reading.specs.Steps.{Step, settingStep}
 use Rattle.progress.specs.Parts.{withGraphics}
 use Rattle.progress.specs.Lent.{Lent}
 use Rattle.progress.specs.Knows.{Knows, Known, Follows, FollowsStroke}
 use Rattle.progress.specs.declared.Progress.{Progress}
 use Rattle.progress.specs.declared.Struck.{Struck}
 use Rattle.progress.specs.declared.Struck.the-variants.{Next, Fault, Other}
-use Rattle.plain.proofs.Keeps.{keeps-itself, still-known, setting-keeps}
+use Rattle.state_steps.proofs.Keeps.{keeps-itself, still-known, setting-keeps}
 use Rattle.steps.specs.Coded.{behindCode, joined}
 use Rattle.steps.specs.Steps.{behindFault}
 use Rattle.steps.specs.declared.Held.{Held}

@@ -7,10 +7,10 @@ use Rattle.base.specs.Choose.{pick}
 use Rattle.command.specs.declared.Command.{Command}
 use Rattle.command.specs.declared.Command.the-variants as command
 use Rattle.graphics.specs.declared.Graphics.{Graphics}
-use Rattle.rules.specs.Settings.{settingFault}
+use Rattle.command_rules.specs.Settings.{settingFault}
 use Rattle.faults.specs.Order.{sooner}
-use Rattle.reading.specs.State.{State}
-use Rattle.reading.specs.Steps.{Step, settingStep, operationStep, codedStep, stepOf}
+use Rattle.law_reading.specs.State.{State}
+use Rattle.law_reading.specs.Steps.{Step, settingStep, operationStep, codedStep, stepOf}
 use Rattle.progress.specs.Lent.{Lent, roomOf, withEntries}
 use Rattle.progress.specs.Strokes.{withStroke}
 use Rattle.progress.specs.Knows.{Knows, Known, Follows, FollowsStroke}

@@ -7,7 +7,7 @@ use Rattle.command.specs.declared.Command.{Command}
 use Rattle.command.specs.declared.Command.the-variants as command
 use Rattle.graphics.specs.declared.Graphics.{Graphics}
 use Rattle.changes.specs.After.{afterSetting}
-use Rattle.rules.specs.Settings.{settingFault}
+use Rattle.command_rules.specs.Settings.{settingFault}
 use Rattle.faults.specs.Order.{sooner}
 use Rattle.progress.specs.Parts.{withGraphics}
 use Rattle.progress.specs.declared.Progress.{Progress}

@@ -9,13 +9,13 @@ use Rattle.command.specs.declared.Span.{Span}
 use Rattle.command.specs.declared.Deed.{Deed}
 use Rattle.command.specs.declared.Deed.the-variants.{SetFile}
 use Rattle.command.specs.declared.Command.the-variants.{Attribute}
-use Rattle.commands.specs.declared.Placed.{Placed}
-use Rattle.bounds.specs.Bounded.{Bounded}
-use Rattle.reading.specs.State.{State}
-use Rattle.reading.specs.Apertures.{isAmong}
+use Rattle.sequence.specs.declared.Placed.{Placed}
+use Rattle.law_bounds.specs.Bounded.{Bounded}
+use Rattle.law_reading.specs.State.{State}
+use Rattle.law_reading.specs.Apertures.{isAmong}
 use Rattle.faults.specs.Order.{sooner}
-use Rattle.reading.specs.Steps.{Step, does, part, operationStep}
-use Rattle.reading.specs.Reading.{stepAt}
+use Rattle.law_reading.specs.Steps.{Step, does, part, operationStep}
+use Rattle.law_reading.specs.Reading.{stepAt}
 use Rattle.progress.specs.Lent.{Lent, roomOf, withEntries}
 use Rattle.progress.specs.Knows.{Knows, Follows, StrikesTo}
 use Rattle.progress.specs.declared.Progress.{Progress}

@@ -4,12 +4,12 @@ ghost use mathlib.Core.Path.{_≡_};
 ghost use mathlib.Core.List.{List};
 ghost use lib.ListN.{length};
 ghost use lib.Seq.{slice};
-ghost use Rattle.bounds.specs.Bounded.{DefinitionBounded, BracketBounded};
-ghost use Rattle.reading.specs.State.{State};
-ghost use Rattle.reading.specs.Steps.{operationStep, definitionStep, bracketStep, deedStep};
+ghost use Rattle.law_bounds.specs.Bounded.{DefinitionBounded, BracketBounded};
+ghost use Rattle.law_reading.specs.State.{State};
+ghost use Rattle.law_reading.specs.Steps.{operationStep, definitionStep, bracketStep, deedStep};
 ghost use Rattle.progress.specs.Knows.{Knows, Known, Follows, StepsTo, StrikesTo};
 ghost use Rattle.progress.specs.Lent.{Lent, lentOf, withEntries, withApertures, withMacros, withNumbers};
-ghost use Rattle.definitions.specs.Lends.{Lends};
+ghost use Rattle.definition_steps.specs.Lends.{Lends};
 ghost use Rattle.steps.specs.Steps.{Sound, AgainBy, Reads, Operates};
 ghost use Rattle.changes.specs.After.{afterSetting};
 ghost use Rattle.progress.specs.Parts.{withGraphics};
@@ -21,11 +21,11 @@ use command::Deed;
 use command::Definition;
 use command::Operation;
 use command::Setting;
-use commands::Placed;
 use graphics::Graphics;
 use progress::Progress;
 use progress::Stepped;
 use progress::Struck;
+use sequence::Placed;
 
 // The operation that a command has, alone or after a G code; or it is none.
 pub enum Held {
@@ -40,9 +40,9 @@ fn operate(e: &mut [u64], p: Progress, place: u64, o: Operation) -> Struck
         × StrikesTo (λ room s. operationStep room place o s) (λ w. w .entries ≡ now (e .entry)) (withEntries (now (e .exit))) p r ⌝ }
 {
     match o {
-        Operation::Draw { x, y, centre } => draws::draw(e, p, place, x, y, centre),
-        Operation::Move { x, y } => plain::go(p, x, y),
-        Operation::Flash { x, y } => draws::flash(e, p, place, x, y),
+        Operation::Draw { x, y, centre } => stroke_steps::draw(e, p, place, x, y, centre),
+        Operation::Move { x, y } => state_steps::go(p, x, y),
+        Operation::Flash { x, y } => stroke_steps::flash(e, p, place, x, y),
     }
 }
 
@@ -86,13 +86,13 @@ fn define(
             name,
             parameters,
             ..
-        } => definitions::define(file, a, m, numbers, p, from, end, number, name, parameters),
+        } => definition_steps::define(file, a, m, numbers, p, from, end, number, name, parameters),
         Definition::Macro {
             name,
             blocks,
             deep,
             ..
-        } => definitions::add_macro(file, m, p, from, end, name, blocks, deep),
+        } => definition_steps::add_macro(file, m, p, from, end, name, blocks, deep),
     }
 }
 
@@ -106,12 +106,12 @@ fn contain(e: &mut [u64], a: &mut [u64], p: Progress, place: u64, b: Bracket) ->
         (λ w. withApertures (now (a .exit)) (withEntries (now (e .exit)) w)) p r ⌝ }
 {
     match b {
-        Bracket::BlockStart(n) => containers::block_start(e, a, p, place, n),
-        Bracket::BlockEnd => containers::block_end(e, a, p),
+        Bracket::BlockStart(n) => container_steps::block_start(e, a, p, place, n),
+        Bracket::BlockEnd => container_steps::block_end(e, a, p),
         Bracket::RepeatStart { nx, ny, dx, dy, .. } => {
-            containers::repeat_start(e, p, place, nx, ny, dx, dy)
+            container_steps::repeat_start(e, p, place, nx, ny, dx, dy)
         }
-        Bracket::RepeatEnd => containers::repeat_end(e, p),
+        Bracket::RepeatEnd => container_steps::repeat_end(e, p),
     }
 }
 
@@ -120,11 +120,11 @@ fn attribute(p: Progress, d: Deed, again: bool) -> Stepped
     ensures { λ r. ⌜ ((text : List ℕ) (w : Lent) (s : State) → AgainBy text d again s → Knows w p s → Follows (Knows w) (deedStep text d s) r) ⌝ }
 {
     match d {
-        Deed::SetFile { .. } => plain::set_name(p, again),
-        Deed::SetAperture { .. } => plain::set(p, Command::Attribute(d)),
-        Deed::SetObject { .. } => plain::set(p, Command::Attribute(d)),
-        Deed::Delete { .. } => plain::set(p, Command::Attribute(d)),
-        Deed::DeleteAll => plain::set(p, Command::Attribute(d)),
+        Deed::SetFile { .. } => state_steps::set_name(p, again),
+        Deed::SetAperture { .. } => state_steps::set(p, Command::Attribute(d)),
+        Deed::SetObject { .. } => state_steps::set(p, Command::Attribute(d)),
+        Deed::Delete { .. } => state_steps::set(p, Command::Attribute(d)),
+        Deed::DeleteAll => state_steps::set(p, Command::Attribute(d)),
     }
 }
 
@@ -133,7 +133,7 @@ pub fn code_fault(g: Graphics, c: Command) -> u64
     ensures { λ r. ⌜ r ≡ codeFault g c ⌝ }
 {
     match c {
-        Command::Coded { code, .. } => rules::setting_fault(g, code),
+        Command::Coded { code, .. } => command_rules::setting_fault(g, code),
         Command::Broken(_) => 0,
         Command::Note => 0,
         Command::End => 0,
@@ -234,14 +234,14 @@ pub fn step(
     let end = c.end;
     let command = c.command;
     match command {
-        Command::Select(n) => definitions::select(a, p, n),
+        Command::Select(n) => definition_steps::select(a, p, n),
         Command::Define(d) => define(file, a, m, numbers, p, from, end, d),
         Command::Contain(b) => contain(e, a, p, place, b),
         Command::Attribute(d) => attribute(p, d, again),
-        Command::Broken(_) => plain::set(p, command),
-        Command::Note => plain::set(p, command),
-        Command::End => plain::set(p, command),
-        Command::Set(_) => plain::set(p, command),
+        Command::Broken(_) => state_steps::set(p, command),
+        Command::Note => state_steps::set(p, command),
+        Command::End => state_steps::set(p, command),
+        Command::Set(_) => state_steps::set(p, command),
         Command::Operate(_) => Stepped::Next(p),
         Command::Coded { .. } => Stepped::Next(p),
     }

@@ -1,335 +1,234 @@
-// The summary of a sheet, worked out from the store: for each aperture record, and for the regions, how many items of the expansion
-// there are and where their points lie. No copy is written out.
+// The summary of a sheet: in one pass over its entries where no block is flashed, else aperture by aperture.
+use place::Repeat;
 use sheet::Container;
 use sheet::Entry;
-use sheet::Role;
-use spans::Rect;
-use spans::Span;
-use summaries::Asked;
-use summaries::Extent;
-use summaries::Row;
+use summary_by_aperture::Outcome;
+use summary_rows::Asked;
 ghost use mathlib.Core.Path.{_≡_};
-ghost use mathlib.Core.Bool.{true};
-ghost use Prim.Native.Nat.{_+_, _*_, _/_, _≤_, _<_};
+ghost use mathlib.Core.Bool.{true, false};
+ghost use mathlib.Core.List.{[]};
+ghost use Prim.Native.Nat.{ℕ, _+_, _*_, _/_, _≤_, _<_};
 ghost use lib.ListN.{length, replicate};
-ghost use mir.Syntax.{w64};
-ghost use mir.Val.{ofZ};
-ghost use Rattle.sheet.specs.Records.{entryRoom, entryOf, apertureRoom, stored};
-ghost use Rattle.sheet.specs.Containers.{aperturesUsed, blockOf};
-ghost use Rattle.sheet.specs.Meaning.{flagWord, sheetItems};
-ghost use Rattle.summaries.specs.Summed.{rowOf};
-ghost use Rattle.summaries.specs.declared.Asked.the-variants.{Regions};
-ghost use Rattle.summary.specs.Kept.{hasPoints, corners, rowWords, keptWords, spanOf, extentIf, rowAt};
-ghost use Rattle.summary.specs.Walk.{entryRow, isIdle, runRow, topEntryRow, topRow, EntryReady, RunReady, TopEntryReady, TopReady};
-ghost use Rattle.summary.specs.Listed.{isAt, withListed, Listed};
-ghost use Rattle.summary.specs.Blocks.{withBlock, Fits, Ready, Done};
-ghost use Rattle.summary.specs.Answers.{summaryWords};
+ghost use Rattle.sheet.specs.Records.{apertureRoom};
+ghost use Rattle.sheet.specs.Containers.{aperturesUsed};
+ghost use Rattle.sheet.specs.Meaning.{sheetItems};
+ghost use Rattle.summary_rows.specs.Rows.{copiedRow};
+ghost use Rattle.summary_by_aperture.specs.Kept.{rowWidth, keptWidth};
+ghost use Rattle.summary_by_aperture.specs.Walk.{entryRow, runRow, topEntryRow};
+ghost use Rattle.summary_by_aperture.specs.Blocks.{Fits};
+ghost use Rattle.summary_by_aperture.specs.Answers.{summaryWords, outcomeOf, summed};
+ghost use Rattle.summary.specs.Links.{recordOf, isLed, isLinked};
+ghost use Rattle.summary.specs.Adds.{single, Adds, Room, Copies, Near, NoFlash, RunNear, RunFree, EntryNear, EntryFree, TopReady, TopFree, Gathered, putRows};
 
-// The words of a row, of a row that is kept meanwhile, and of scratch for each aperture record: a row, and a word in the list of the
-// blocks.
-pub const ROW_WORDS: usize = 5;
-
-const KEPT_WORDS: usize = 6;
-
-pub const SCRATCH_WORDS: usize = 8;
-
-// The outcome of the call.
-pub enum Outcome {
-    Done,
-    Short,
-    NotSheet,
-}
-
-// An end of a span as a word.
-fn low_word(s: Span) -> u64
-    ensures { λ r. ⌜ r ≡ ofZ w64 (s .low) ⌝ }
+// The aperture record with a number, of the first n, that the links lead to; n where they lead to none.
+fn record_of(a: &[u64], n: usize, number: u64) -> usize
+    requires { ⌜ n ≤ apertureRoom (now a) ⌝ }
+    ensures { λ r. ⌜ r ≡ recordOf (now (a .entry)) n number ⌝ }
 {
-    ints::word(s.low)
-}
-
-fn high_word(s: Span) -> u64
-    ensures { λ r. ⌜ r ≡ ofZ w64 (s .high) ⌝ }
-{
-    ints::word(s.high)
-}
-
-// The span that two words hold.
-fn span_of(low: u64, high: u64) -> Span
-    ensures { λ s. ⌜ s ≡ spanOf low high ⌝ }
-{
-    Span {
-        low: ints::from_word(low),
-        high: ints::from_word(high),
-    }
-}
-
-fn has_points(x: Extent) -> bool
-    ensures { λ r. ⌜ r ≡ hasPoints x ⌝ }
-{
-    match x {
-        Extent::Nothing => false,
-        Extent::Over(_) => true,
-    }
-}
-
-// The rectangle of an extent, zeros where there is none.
-fn corners_of(x: Extent) -> Rect
-    ensures { λ r. ⌜ r ≡ corners x ⌝ }
-{
-    match x {
-        Extent::Nothing => {
-            let none = Span { low: 0, high: 0 };
-            Rect {
-                across: none,
-                up: none,
-            }
+    let mut steps: u64 = 65;
+    let mut at: usize = 0;
+    let mut key = number;
+    while steps > 0 {
+        if at >= n {
+            return n;
         }
-        Extent::Over(b) => b,
-    }
-}
-
-fn extent_if(some: bool, b: Rect) -> Extent
-    ensures { λ r. ⌜ r ≡ extentIf some b ⌝ }
-{
-    if some {
-        return Extent::Over(b);
-    }
-    Extent::Nothing
-}
-
-// Stores a row's five words from a place on.
-pub fn put_row(out: &mut [u64], at: usize, r: Row)
-    requires { ⌜ at + 5 ≤ length (now out) ⌝ }
-    ensures { λ _. ⌜ now (out .exit) ≡ stored (now (out .entry)) at (rowWords r) ⌝ }
-{
-    let x = r.extent;
-    let c = corners_of(x);
-    let across = c.across;
-    let up = c.up;
-    let w = [
-        r.count,
-        low_word(across),
-        low_word(up),
-        high_word(across),
-        high_word(up),
-    ];
-    sheet::put_words(out, at, &w);
-}
-
-// Keeps the row of aperture record b, in six words.
-pub fn keep_row(s: &mut [u64], b: usize, r: Row)
-    requires { ⌜ b < length (now s) / 6 ⌝ }
-    ensures { λ _. ⌜ now (s .exit) ≡ stored (now (s .entry)) (b * 6) (keptWords r) ⌝ }
-{
-    let x = r.extent;
-    let c = corners_of(x);
-    let across = c.across;
-    let up = c.up;
-    let w = [
-        sheet::flag_word(has_points(x)),
-        r.count,
-        low_word(across),
-        low_word(up),
-        high_word(across),
-        high_word(up),
-    ];
-    sheet::put_words(s, b * KEPT_WORDS, &w);
-}
-
-// The row kept of aperture record b.
-pub fn kept_row(s: &[u64], b: usize) -> Row
-    requires { ⌜ b < length (now s) / 6 ⌝ }
-    ensures { λ r. ⌜ r ≡ rowAt (now (s .entry)) b ⌝ }
-{
-    let at = b * KEPT_WORDS;
-    let across = span_of(base::word_at(s, at + 2), base::word_at(s, at + 4));
-    let up = span_of(base::word_at(s, at + 3), base::word_at(s, at + 5));
-    let some = base::word_at(s, at) == 1;
-    let b = Rect { across, up };
-    Row {
-        count: base::word_at(s, at + 1),
-        extent: extent_if(some, b),
-    }
-}
-
-// The row of an entry of a block or a body.
-fn entry_row(s: &[u64], q: Asked, r: Entry) -> Row
-    requires { ⌜ EntryReady (now s) r ⌝ }
-    ensures { λ t. ⌜ t ≡ entryRow (now (s .entry)) q r ⌝ }
-{
-    match sheet::role_of(r.kind) {
-        Role::Draws => summaries::item_row(q, sheet::draw(r)),
-        Role::Uses => summaries::move_row(sheet::pose_of(r), kept_row(s, sheet::index(r.who))),
-        Role::Repeats => summaries::no_row(),
-        Role::Defines => summaries::no_row(),
-        Role::Unknown => summaries::no_row(),
-    }
-}
-
-// Whether entry i draws an item that is not asked for, told by two of its words.
-fn is_idle(e: &[u64], i: usize, q: Asked) -> bool
-    requires { ⌜ i < entryRoom (now e) ⌝ }
-    ensures { λ t. ⌜ t ≡ isIdle q (entryOf (now (e .entry)) i) ⌝ }
-{
-    let kind = base::word_at(e, i * sheet::ENTRY_WORDS);
-    match q {
-        Asked::Aperture(n) => {
-            let who = base::word_at(e, i * sheet::ENTRY_WORDS + 2);
-            base::both(kind <= 8, !base::both(kind <= 4, who == n))
+        if base::word_at(a, at * 8) == number {
+            return at;
         }
-        Asked::Regions => kind <= 4,
+        at = sheet::index(base::word_at(a, at * 8 + 6 + sheet::index(key % 2)));
+        key = key / 2;
+        steps -= 1;
     }
+    n
 }
 
-// The row of a block or a body: its entries' rows, merged.
-fn run_row(e: &[u64], s: &[u64], q: Asked, k: Container) -> Row
-    requires { ⌜ RunReady (now e) (now s) q k ⌝ }
-    ensures { λ t. ⌜ t ≡ runRow (now (e .entry)) (now (s .entry)) q k ⌝ }
+// Whether the links lead to record b.
+fn is_led(a: &[u64], n: usize, b: usize) -> bool
+    requires { ⌜ (n ≤ apertureRoom (now a)) × (b < n) ⌝ }
+    ensures { λ t. ⌜ t ≡ isLed (now (a .entry)) n b ⌝ }
 {
-    let first = k.first;
-    let len = k.len;
-    let mut i: usize = 0;
-    let mut so_far = summaries::no_row();
-    while i < len {
-        if is_idle(e, first + i, q) {
-            i += 1;
-        } else {
-            let r = sheet::entry_at(e, first + i);
-            so_far = summaries::merge(so_far, entry_row(s, q, r));
-            i += 1;
-        }
-    }
-    so_far
+    record_of(a, n, base::word_at(a, b * 8)) == b
 }
 
-// The row of an entry of the top level: a repeat's is its body's, copied.
-fn top_entry_row(e: &[u64], s: &[u64], q: Asked, r: Entry) -> Row
-    requires { ⌜ TopEntryReady (now e) (now s) q r ⌝ }
-    ensures { λ t. ⌜ t ≡ topEntryRow (now (e .entry)) (now (s .entry)) q r ⌝ }
-{
-    if r.kind == 10 {
-        return summaries::copy_row(sheet::repeat_of(r), run_row(e, s, q, sheet::body_of(r)));
-    }
-    entry_row(s, q, r)
-}
-
-// The row of the top level.
-fn top_row(e: &[u64], s: &[u64], q: Asked, k: Container) -> Row
-    requires { ⌜ TopReady (now e) (now s) q k ⌝ }
-    ensures { λ t. ⌜ t ≡ topRow (now (e .entry)) (now (s .entry)) q k ⌝ }
-{
-    let first = k.first;
-    let len = k.len;
-    let mut i: usize = 0;
-    let mut so_far = summaries::no_row();
-    while i < len {
-        if is_idle(e, first + i, q) {
-            i += 1;
-        } else {
-            let r = sheet::entry_at(e, first + i);
-            so_far = summaries::merge(so_far, top_entry_row(e, s, q, r));
-            i += 1;
-        }
-    }
-    so_far
-}
-
-// Lists record b after m others, where it is a block of height h; how many are listed then.
-fn list_block(a: &[u64], n: usize, h: u64, b: usize, m: usize, s: &mut [u64]) -> usize
-    requires { ⌜ (b < apertureRoom (now a)) × (n ≤ length (now s) / 8) × (m ≤ n) ⌝ }
-    ensures { λ r. ⌜ (r ≡ m + flagWord (isAt (now (a .entry)) h b)) × (now (s .exit) ≡ withListed (now (a .entry)) n h b m (now (s .entry))) ⌝ }
-{
-    let k = sheet::block_at(a, b);
-    if base::both(entry::is_block(a, b), k.height == h) {
-        base::put(s, n * KEPT_WORDS + m, b as u64);
-        return m + 1;
-    }
-    m
-}
-
-// Lists the blocks of height h, where the lower ones are listed.
-fn list_height(a: &[u64], n: usize, h: u64, m: usize, s: &mut [u64]) -> usize
-    requires { ⌜ (n ≤ apertureRoom (now a)) × (n ≤ length (now s) / 8) × Listed (now a) (now s) n h 0 m ⌝ }
-    ensures { λ r. ⌜ Listed (now (a .entry)) (now (s .exit)) n (h + 1) 0 r ⌝ }
+// Whether the links lead to every record, as a reading leaves them.
+fn is_linked(a: &[u64], n: usize) -> bool
+    requires { ⌜ n ≤ apertureRoom (now a) ⌝ }
+    ensures { λ t. ⌜ t ≡ isLinked (now (a .entry)) n ⌝ }
 {
     let mut b: usize = 0;
-    let mut r = m;
     while b < n {
-        r = list_block(a, n, h, b, r, s);
+        if is_led(a, n, b) {
+            b += 1;
+        } else {
+            return false;
+        }
+    }
+    true
+}
+
+// One copy, where it stands.
+fn once() -> Repeat
+    ensures { λ m. ⌜ m ≡ single ⌝ }
+{
+    Repeat {
+        nx: 1,
+        ny: 1,
+        dx: 0,
+        dy: 0,
+    }
+}
+
+// Adds the copies of what an entry draws to the row of its aperture; false, and nothing, where it flashes a block.
+fn add_row(a: &[u64], n: usize, m: Repeat, r: Entry, s: &mut [u64]) -> bool
+    requires { ⌜ Room (now a) n (λ q. copiedRow m (entryRow [] q r)) (now s) × Copies m × Near r ⌝ }
+    ensures { λ t. ⌜ (t ≡ true → NoFlash r × Adds (now (a .entry)) n (λ q. copiedRow m (entryRow [] q r)) (now (s .entry)) (now (s .exit))) ⌝ }
+{
+    if r.kind == 9 {
+        return false;
+    }
+    if base::either(r.kind == 0, r.kind >= 5) {
+        return true;
+    }
+    let b = record_of(a, n, r.who);
+    if b >= n {
+        return true;
+    }
+    let one = summary_rows::copy_row(
+        m,
+        summary_rows::item_row(Asked::Aperture(r.who), sheet::draw(r)),
+    );
+    let sum = summary_rows::merge(summary_by_aperture::kept_row(s, b), one);
+    summary_by_aperture::keep_row(s, b, sum);
+    true
+}
+
+// Adds the copies of what the entries of a container draw; false where one flashes a block.
+fn add_run(e: &[u64], a: &[u64], n: usize, m: Repeat, k: Container, s: &mut [u64]) -> bool
+    requires { ⌜ Room (now a) n (λ q. copiedRow m (runRow (now e) [] q k)) (now s) × Copies m × RunNear (now e) k ⌝ }
+    ensures { λ t. ⌜ (t ≡ true → RunFree (now (e .entry)) k × Adds (now (a .entry)) n (λ q. copiedRow m (runRow (now (e .entry)) [] q k)) (now (s .entry)) (now (s .exit))) ⌝ }
+{
+    let first = k.first;
+    let len = k.len;
+    let mut i: usize = 0;
+    while i < len {
+        if add_row(a, n, m, sheet::entry_at(e, first + i), s) {
+            i += 1;
+        } else {
+            return false;
+        }
+    }
+    true
+}
+
+// Adds what an entry of the top level puts out; false where a block is flashed.
+fn add_entry(e: &[u64], a: &[u64], n: usize, r: Entry, s: &mut [u64]) -> bool
+    requires { ⌜ Room (now a) n (λ q. topEntryRow (now e) [] q r) (now s) × EntryNear (now e) r ⌝ }
+    ensures { λ t. ⌜ (t ≡ true → EntryFree (now (e .entry)) r × Adds (now (a .entry)) n (λ q. topEntryRow (now (e .entry)) [] q r) (now (s .entry)) (now (s .exit))) ⌝ }
+{
+    if r.kind == 10 {
+        return add_run(e, a, n, sheet::repeat_of(r), sheet::body_of(r), s);
+    }
+    add_row(a, n, once(), r, s)
+}
+
+// Gathers the rows of all aperture records from the top level; false where a block is flashed.
+fn add_top(e: &[u64], a: &[u64], n: usize, k: Container, s: &mut [u64]) -> bool
+    requires { ⌜ TopReady (now e) (now a) n k (now s) ⌝ }
+    ensures { λ t. ⌜ (t ≡ true → TopFree (now (e .entry)) k × Gathered (now (e .entry)) (now (a .entry)) n k (now (s .exit))) ⌝ }
+{
+    let first = k.first;
+    let len = k.len;
+    let mut i: usize = 0;
+    while i < len {
+        if add_entry(e, a, n, sheet::entry_at(e, first + i), s) {
+            i += 1;
+        } else {
+            return false;
+        }
+    }
+    true
+}
+
+// Puts the rows kept of the first n records, into words that are all 0.
+fn put_rows(s: &[u64], n: usize, out: &mut [u64])
+    requires { ⌜ (n ≤ length (now s) / keptWidth) × (n < length (now out) / rowWidth) × (now out ≡ replicate (length (now out)) 0) ⌝ }
+    ensures { λ _. ⌜ now (out .exit) ≡ putRows (now (s .entry)) n (length (now (out .entry))) ⌝ }
+{
+    let mut b: usize = 0;
+    while b < n {
+        summary_by_aperture::put_row(
+            out,
+            b * summary_by_aperture::ROW_WORDS,
+            summary_by_aperture::kept_row(s, b),
+        );
         b += 1;
     }
-    r
 }
 
-// Lists the blocks of n records, heights from 0 to 8; how many there are.
-fn list_blocks(a: &[u64], n: usize, s: &mut [u64]) -> usize
-    requires { ⌜ (n ≤ apertureRoom (now a)) × (n ≤ length (now s) / 8) ⌝ }
-    ensures { λ r. ⌜ Listed (now (a .entry)) (now (s .exit)) n 9 0 r ⌝ }
-{
-    let mut h: u64 = 0;
-    let mut r: usize = 0;
-    while h < 9 {
-        r = list_height(a, n, h, r, s);
-        h += 1;
-    }
-    r
-}
-
-// Keeps the row of record b, a block whose lower blocks' rows are kept.
-fn keep_block(e: &[u64], a: &[u64], q: Asked, b: usize, s: &mut [u64])
-    requires { ⌜ (b < apertureRoom (now a)) × (b < length (now s) / 6) × RunReady (now e) (now s) q (blockOf (now a) b) ⌝ }
-    ensures { λ _. ⌜ now (s .exit) ≡ withBlock (now (e .entry)) (now (a .entry)) q b (now (s .entry)) ⌝ }
-{
-    let r = run_row(e, s, q, sheet::block_at(a, b));
-    keep_row(s, b, r);
-}
-
-// Keeps the rows of the m blocks that are listed.
-fn keep_blocks(head: &[u64; 8], e: &[u64], a: &[u64], q: Asked, m: usize, s: &mut [u64])
-    requires { ⌜ Ready (now head) (now e) (now a) (now s) m ⌝ }
-    ensures { λ _. ⌜ Done (now (head .entry)) (now (e .entry)) (now (a .entry)) q m m (now (s .exit)) ⌝ }
+// The rows of a sheet in one pass, into words that are all 0; false, and these as they were, where a block is flashed.
+fn fill_at_once(head: &[u64; 8], e: &[u64], a: &[u64], s: &mut [u64], out: &mut [u64]) -> bool
+    requires { ⌜ Fits (now head) (now e) (now a) (now s) × (isLinked (now a) (aperturesUsed (now head)) ≡ true) × (aperturesUsed (now head) < length (now out) / rowWidth) × (now out ≡ replicate (length (now out)) 0) ⌝ }
+    ensures { λ t. ⌜ ((t ≡ true → now (out .exit) ≡ summaryWords (sheetItems (now (head .entry)) (now (e .entry)) (now (a .entry))) (now (a .entry)) (aperturesUsed (now (head .entry))) (length (now (out .entry)))))
+        × ((t ≡ false → now (out .exit) ≡ now (out .entry))) ⌝ }
 {
     let n = sheet::index(head[3]);
-    let mut i: usize = 0;
-    while i < m {
-        let b = sheet::index(base::word_at(s, n * KEPT_WORDS + i));
-        keep_block(e, a, q, b, s);
-        i += 1;
+    let last = summary_by_aperture::regions_row(head, e, a, s);
+    base::clear(s);
+    if add_top(e, a, n, sheet::top_of(head), s) {
+        put_rows(s, n, out);
+        summary_by_aperture::put_row(out, n * summary_by_aperture::ROW_WORDS, last);
+        return true;
     }
+    false
 }
 
-// The row of what is asked for, of all items of a sheet whose m blocks are listed.
-fn row_of(head: &[u64; 8], e: &[u64], a: &[u64], q: Asked, m: usize, s: &mut [u64]) -> Row
-    requires { ⌜ Ready (now head) (now e) (now a) (now s) m ⌝ }
-    ensures { λ r. ⌜ (r ≡ rowOf q (sheetItems (now (head .entry)) (now (e .entry)) (now (a .entry)))) × Ready (now (head .entry)) (now (e .entry)) (now (a .entry)) (now (s .exit)) m ⌝ }
+// The same, where the links lead to every record; false, and the words as they were, elsewhere too.
+fn fill_linked(head: &[u64; 8], e: &[u64], a: &[u64], s: &mut [u64], out: &mut [u64]) -> bool
+    requires { ⌜ Fits (now head) (now e) (now a) (now s) × (aperturesUsed (now head) < length (now out) / rowWidth) × (now out ≡ replicate (length (now out)) 0) ⌝ }
+    ensures { λ t. ⌜ ((t ≡ true → now (out .exit) ≡ summaryWords (sheetItems (now (head .entry)) (now (e .entry)) (now (a .entry))) (now (a .entry)) (aperturesUsed (now (head .entry))) (length (now (out .entry)))))
+        × ((t ≡ false → now (out .exit) ≡ now (out .entry))) ⌝ }
 {
-    keep_blocks(head, e, a, q, m, s);
-    top_row(e, s, q, sheet::top_of(head))
-}
-
-// The row of a sheet's regions.
-pub fn regions_row(head: &[u64; 8], e: &[u64], a: &[u64], s: &mut [u64]) -> Row
-    requires { ⌜ Fits (now head) (now e) (now a) (now s) ⌝ }
-    ensures { λ r. ⌜ r ≡ rowOf Regions (sheetItems (now (head .entry)) (now (e .entry)) (now (a .entry))) ⌝ }
-{
-    let m = list_blocks(a, sheet::index(head[3]), s);
-    row_of(head, e, a, Asked::Regions, m, s)
+    let n = sheet::index(head[3]);
+    if is_linked(a, n) {
+        return fill_at_once(head, e, a, s, out);
+    }
+    false
 }
 
 // The rows of a sheet, into words that are all 0.
-pub fn fill(head: &[u64; 8], e: &[u64], a: &[u64], s: &mut [u64], out: &mut [u64])
-    requires { ⌜ Fits (now head) (now e) (now a) (now s) × (aperturesUsed (now head) < length (now out) / 5) × (now out ≡ replicate (length (now out)) 0) ⌝ }
+fn fill(head: &[u64; 8], e: &[u64], a: &[u64], s: &mut [u64], out: &mut [u64])
+    requires { ⌜ Fits (now head) (now e) (now a) (now s) × (aperturesUsed (now head) < length (now out) / rowWidth) × (now out ≡ replicate (length (now out)) 0) ⌝ }
     ensures { λ _. ⌜ now (out .exit) ≡ summaryWords (sheetItems (now (head .entry)) (now (e .entry)) (now (a .entry))) (now (a .entry)) (aperturesUsed (now (head .entry))) (length (now (out .entry))) ⌝ }
 {
-    let n = sheet::index(head[3]);
-    let m = list_blocks(a, n, s);
-    let mut b: usize = 0;
-    while b < n {
-        let number = sheet::aperture_at(a, b).number;
-        let r = row_of(head, e, a, Asked::Aperture(number), m, s);
-        put_row(out, b * ROW_WORDS, r);
-        b += 1;
+    if fill_linked(head, e, a, s, out) {
+        return;
     }
-    let r = row_of(head, e, a, Asked::Regions, m, s);
-    put_row(out, n * ROW_WORDS, r);
+    summary_by_aperture::fill(head, e, a, s, out);
+}
+
+// The summary of a sheet: five words for each aperture record, in store order, and for the regions; what is after them is 0. `scratch`
+// has eight words for each aperture record.
+pub fn summary(
+    head: &[u64; 8],
+    e: &[u64],
+    a: &[u64],
+    scratch: &mut [u64],
+    rows: &mut [u64],
+) -> Outcome
+    ensures { λ r. ⌜ (r ≡ outcomeOf (now (head .entry)) (now (e .entry)) (now (a .entry)) (length (now (rows .entry))) (length (now (scratch .entry))))
+        × (now (rows .exit) ≡ summed (now (head .entry)) (now (e .entry)) (now (a .entry)) (length (now (rows .entry))) (length (now (scratch .entry)))) ⌝ }
+{
+    base::clear(rows);
+    if inspect::is_sheet(head, e, a) {
+        let n = sheet::index(head[3]);
+        if base::both(
+            n < rows.len() / summary_by_aperture::ROW_WORDS,
+            n <= scratch.len() / summary_by_aperture::SCRATCH_WORDS,
+        ) {
+            fill(head, e, a, scratch, rows);
+            return Outcome::Done;
+        }
+        return Outcome::Short;
+    }
+    Outcome::NotSheet
 }

@@ -6,7 +6,7 @@ use lib.ListN.{length, take, drop}
 use borrow.Author.Needs.{needs}
 use borrow.Fn.Kinds.{In}
 use borrow.Fn.PlainCycle.{Measures, is, falls, and}
-use Rattle.addresses.specs.Sought.{further, sought}
+use Rattle.law_addresses.specs.Sought.{further, sought}
 use Rattle.address.specs.Looking.{lookOf, Down}
 use Rattle.address.specs.declared.Look.the-variants.{Below}
 use Rattle.address.proofs.Looks.{On, down, look-on, part-words, part-sought}

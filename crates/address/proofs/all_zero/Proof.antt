@@ -1,6 +1,6 @@
 -- `address::all_zero` meets its contract. The loop's invariant: the words from here on decide.
 use Rattle.address.proofs.Zeros.{zeros-end, zeros-on, zeros-not}
-use Rattle.addresses.specs.Sought.{allZero}
+use Rattle.law_addresses.specs.Sought.{allZero}
 use lib.ListN.{length, drop}
 use native.Mathlib.Omega.{arith}
 use mathlib.Core.Path.{_≡_, refl, sym, _∙_}

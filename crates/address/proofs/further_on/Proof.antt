@@ -1,5 +1,5 @@
 -- `address::further_on` meets its contract, case by case.
-use Rattle.addresses.specs.Sought.{further}
+use Rattle.law_addresses.specs.Sought.{further}
 use native.Mathlib.Omega.{arith}
 use borrow.Author.Needs.{needs}
 use Rattle.address.proofs.further_on.Statement.{statement}

@@ -1,5 +1,5 @@
 -- `address::item_of` meets its contract: in a sheet the search finds the place of the address among the addresses.
-use Rattle.addresses.specs.declared.Named.the-variants.{At, Nothing}
+use Rattle.law_addresses.specs.declared.Named.the-variants.{At, Nothing}
 use Rattle.address.specs.Answers.{replyAs}
 use Rattle.address.proofs.Tops.{reply-is, reply-not}
 use mathlib.Core.Path.{sym, _∙_}

@@ -3,8 +3,8 @@ use Rattle.address.specs.Looking.{lookAt, lookOf}
 use Rattle.address.proofs.Looks.{look-spans, look-inside, uses-known, Meets, meets}
 use native.Mathlib.Omega.{arith}
 use mathlib.Core.Path.{_≡_, sym, ap, _∙_}
-use Rattle.addresses.specs.Positions.{spanAt, spot}
-use Rattle.addresses.specs.Sought.{misses}
+use Rattle.law_addresses.specs.Positions.{spanAt, spot}
+use Rattle.law_addresses.specs.Sought.{misses}
 use borrow.Author.Needs.{needs}
 use Rattle.address.proofs.look_at.Statement.{statement}
 use Rattle.address.proofs.look_at.Tie as tie

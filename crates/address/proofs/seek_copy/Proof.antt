@@ -1,5 +1,5 @@
 -- `address::seek_copy` meets its contract: the tests pick the case, and the items of a copy are few enough.
-use Rattle.addresses.specs.Sought.{further}
+use Rattle.law_addresses.specs.Sought.{further}
 use Rattle.address.proofs.Tops.{copied-few, copied-fits, copy-in, copy-none, copy-past}
 use native.Mathlib.Omega.{arith}
 use mathlib.Core.Path.{sym, ap, _∙_}

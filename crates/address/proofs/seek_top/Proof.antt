@@ -1,9 +1,9 @@
 -- `address::seek_top` meets its contract: the entry that holds the position is searched, where there is one.
 use Rattle.sheet.specs.Containers.{topOf}
 use Rattle.base.proofs.Lists.{rest-whole}
-use Rattle.addresses.specs.Positions.{spanAt, spot}
-use Rattle.addresses.specs.Sought.{misses}
-use Rattle.addresses.proofs.Fitting.{spans-top}
+use Rattle.law_addresses.specs.Positions.{spanAt, spot}
+use Rattle.law_addresses.specs.Sought.{misses}
+use Rattle.law_addresses.proofs.Fitting.{spans-top}
 use Rattle.address.proofs.Looks.{Meets, meets}
 use Rattle.address.proofs.Tops.{at-top, top-none, top-some, top-rest}
 use lib.ListN.{getD}

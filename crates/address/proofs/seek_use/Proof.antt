@@ -1,5 +1,5 @@
 -- `address::seek_use` meets its contract: what lies below is asked for with a word less.
-use Rattle.addresses.specs.Sought.{further}
+use Rattle.law_addresses.specs.Sought.{further}
 use Rattle.address.proofs.Looks.{part-words, part-sought}
 use lib.ListN.{length, take, drop}
 use Prim.Native.Nat.{_-_}

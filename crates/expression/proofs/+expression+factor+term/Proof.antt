@@ -7,8 +7,8 @@ use mathlib.Core.Path.{sym, ap, _∙_}
 use native.Mathlib.Omega.{arith}
 use lib.ListN.{length, drop}
 use borrow.Author.Needs.{needs}
-use Rattle.tokens.specs.Tokens.{tokens}
-use Rattle.tokens.proofs.Tokens.{lexed-further}
+use Rattle.macro_tokens.specs.Tokens.{tokens}
+use Rattle.macro_tokens.proofs.Tokens.{lexed-further}
 use Rattle.expression.specs.Grammar.{plusMinus, timesOver, sumBy, productBy, leafOf, factorAt, termAt, expressionAt}
 use Rattle.expression.specs.Grammar as grammar
 use Rattle.expression.proofs.Chain.{Chained, chain-starts, chain-again, chain-ends, chain-falls}
@@ -32,7 +32,7 @@ use Rattle.expression.proofs.sign_after.Reads as sign-after-reads
 use Rattle.expression.proofs.sign_at.Reads as sign-at-reads
 use Rattle.expression.proofs.summed.Reads as summed-reads
 use Rattle.expression.proofs.times_after.Reads as times-after-reads
-use Rattle.tokens.proofs.token_at.Reads as token-at-reads
+use Rattle.macro_tokens.proofs.token_at.Reads as token-at-reads
 use Rattle.expression.proofs.+expression+factor+term.{statement}
 use Rattle.expression.proofs.+expression+factor+term.Tie.{close}
 

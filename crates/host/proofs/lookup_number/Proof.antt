@@ -1,6 +1,6 @@
 -- `host::lookup_number` meets its contract, case by case.
 -- Assumes nothing.
-use Rattle.lookup.specs.Shapes.{lookupNumber}
+use Rattle.shapes.specs.Shapes.{lookupNumber}
 use borrow.Author.Needs.{needs}
 use Rattle.host.proofs.lookup_number.Statement.{statement}
 use Rattle.host.proofs.lookup_number.Tie as tie

@@ -1,6 +1,6 @@
 -- `host::primitives_number` meets its contract, case by case.
 -- Assumes nothing.
-use Rattle.figures.specs.Runs.{fetchNumber}
+use Rattle.shapes.specs.Runs.{fetchNumber}
 use borrow.Author.Needs.{needs}
 use Rattle.host.proofs.primitives_number.Statement.{statement}
 use Rattle.host.proofs.primitives_number.Tie as tie

@@ -1,6 +1,6 @@
 -- `host::shape_words` meets its contract, case by case.
 -- Assumes nothing.
-use Rattle.lookup.specs.Shapes.{lookupShape, zeroShape}
+use Rattle.shapes.specs.Shapes.{lookupShape, zeroShape}
 use Rattle.host.specs.Shapes.{shapeWords}
 use borrow.Author.Needs.{needs}
 use Rattle.host.proofs.shape_words.Statement.{statement}

@@ -1,7 +1,7 @@
 -- `host::sheet_primitive_words` meets its contract, by counting.
 -- Assumes nothing.
 use mathlib.Core.Path.{refl}
-use Rattle.figures.specs.Runs.{primitiveWords}
+use Rattle.shapes.specs.Runs.{primitiveWords}
 use Rattle.host.proofs.sheet_primitive_words.Statement.{statement}
 use Rattle.host.proofs.sheet_primitive_words.Tie as tie
 

@@ -1,7 +1,7 @@
 -- `host::sheet_primitives` meets its contract.
 -- Assumes nothing.
 use mathlib.Core.Path.{_∙_, ap}
-use Rattle.figures.specs.Runs.{fetchNumber}
+use Rattle.shapes.specs.Runs.{fetchNumber}
 use borrow.Author.Needs.{needs}
 use Rattle.host.proofs.sheet_primitives.Statement.{statement}
 use Rattle.host.proofs.sheet_primitives.Tie as tie

@@ -8,8 +8,8 @@ use Rattle.host.proofs.sheet_read.Tie as tie
 read-requires : tie.Need-read-requires
 read-requires c κs = search needs
 
-told-requires : tie.Need-told-requires
-told-requires c κs = search needs
+answered-requires : tie.Need-answered-requires
+answered-requires c κs = search needs
 
 same-length : tie.Need-same-length
 same-length c = search needs
@@ -24,14 +24,14 @@ same-length-4 : tie.Need-same-length-4
 same-length-4 c = search needs
 
 returns : tie.Need-returns
-returns c = reads-into _ (c .before .before .before .before .before .before .before .before .before .before .before .read .ensures) (c .told .ensures)
+returns c = reads-into _ (c .before .before .before .before .before .before .before .before .before .before .before .read .ensures) (c .answered .ensures)
 
 pub sheet-read-spec : {M : Type 1} → statement M
 sheet-read-spec =
     tie.close
     (tie.spec
     read-requires
-    told-requires
+    answered-requires
     same-length
     same-length-2
     same-length-3

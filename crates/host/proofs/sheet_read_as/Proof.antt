@@ -8,8 +8,8 @@ use Rattle.host.proofs.sheet_read_as.Tie as tie
 read-as-requires : tie.Need-read-as-requires
 read-as-requires c κs = search needs
 
-told-requires : tie.Need-told-requires
-told-requires c κs = search needs
+answered-requires : tie.Need-answered-requires
+answered-requires c κs = search needs
 
 same-length : tie.Need-same-length
 same-length c = search needs
@@ -24,14 +24,14 @@ same-length-4 : tie.Need-same-length-4
 same-length-4 c = search needs
 
 returns : tie.Need-returns
-returns c = reads-into _ (c .before .before .before .before .before .before .before .before .before .before .before .read-as .ensures) (c .told .ensures)
+returns c = reads-into _ (c .before .before .before .before .before .before .before .before .before .before .before .read-as .ensures) (c .answered .ensures)
 
 pub sheet-read-as-spec : {M : Type 1} → statement M
 sheet-read-as-spec =
     tie.close
     (tie.spec
     read-as-requires
-    told-requires
+    answered-requires
     same-length
     same-length-2
     same-length-3

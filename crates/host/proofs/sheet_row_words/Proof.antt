@@ -2,8 +2,8 @@
 use mathlib.Core.Path.{refl}
 use borrow.Author.Tests.{ltb-true}
 use Rattle.base.proofs.And.{and-l}
-use Rattle.summary.specs.Kept.{rowWords}
-use Rattle.summary.specs.Answers.{roomy}
+use Rattle.summary_by_aperture.specs.Kept.{rowWords}
+use Rattle.summary_by_aperture.specs.Answers.{roomy}
 use Rattle.host.proofs.sheet_row_words.Statement.{statement}
 use Rattle.host.proofs.sheet_row_words.Tie as tie
 

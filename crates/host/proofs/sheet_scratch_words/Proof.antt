@@ -1,7 +1,7 @@
 -- `host::sheet_scratch_words` meets its contract, by the rule for scratch.
 use borrow.Author.Tests.{leb-true}
 use Rattle.base.proofs.And.{and-r}
-use Rattle.summary.specs.Answers.{roomy}
+use Rattle.summary_by_aperture.specs.Answers.{roomy}
 use Rattle.host.proofs.sheet_scratch_words.Statement.{statement}
 use Rattle.host.proofs.sheet_scratch_words.Tie as tie
 

@@ -1,7 +1,7 @@
 -- `host::sheet_summary` meets its contract: it is the call's, with its outcome as a number.
 use mathlib.Core.Path.{ap, _∙_}
 use borrow.Author.Needs.{needs}
-use Rattle.summary.specs.Answers.{outcomeNumber}
+use Rattle.summary_by_aperture.specs.Answers.{outcomeNumber}
 use Rattle.host.proofs.sheet_summary.Statement.{statement}
 use Rattle.host.proofs.sheet_summary.Tie as tie
 

@@ -1,5 +1,5 @@
 -- `host::summary_number` meets its contract, case by case.
-use Rattle.summary.specs.Answers.{outcomeNumber}
+use Rattle.summary_by_aperture.specs.Answers.{outcomeNumber}
 use borrow.Author.Needs.{needs}
 use Rattle.host.proofs.summary_number.Statement.{statement}
 use Rattle.host.proofs.summary_number.Tie as tie

@@ -1,8 +1,8 @@
--- `intake::tell` meets its contract: the stage picks the case of `told`.
+-- `intake::tell` meets its contract: the stage picks the case of `answered`.
 -- Assumes nothing.
 use mathlib.Core.Path.{sym}
 use borrow.Author.Needs.{needs}
-use Rattle.intake.specs.Runs.{told}
+use Rattle.intake.specs.Runs.{answered}
 use Rattle.intake.proofs.tell.Statement.{statement}
 use Rattle.intake.proofs.tell.Tie as tie
 
@@ -28,7 +28,7 @@ judge-requires-2 : tie.Need-judge-requires-2
 judge-requires-2 c κs = search needs
 
 returns : tie.Need-returns
-unfolding told
+unfolding answered
 returns c =
     let k2 = c .before .before .before .stage .given .1 in
     let e4 = sym (c .before .way-ended .ensures) in
@@ -36,14 +36,14 @@ returns c =
     simp (k2, e4, e5)
 
 returns-2 : tie.Need-returns-2
-unfolding told
+unfolding answered
 returns-2 c =
     let k2 = c .before .before .before .enum-told .given .1 in
     let e5 = sym (c .judge .ensures) in
     simp (k2, e5)
 
 returns-3 : tie.Need-returns-3
-unfolding told
+unfolding answered
 returns-3 c =
     let k2 = c .before .before .before .enum-told2 .given .1 in
     let e5 = sym (c .judge2 .ensures) in

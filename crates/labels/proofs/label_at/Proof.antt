@@ -1,6 +1,6 @@
 -- `labels::label_at` meets its contract: a file that is too long lists no command and is 1, any other is passed over once.
 -- Assumes nothing.
-use Rattle.commands.specs.Commands.{commandsOf}
+use Rattle.sequence.specs.Commands.{commandsOf}
 use Rattle.base.specs.Choose.{pick}
 use Rattle.labels.proofs.Asked.{answer-nth}
 use Rattle.labels.specs.Labels.{judged, answerIn, labelAt}

@@ -16,15 +16,15 @@ enum-told c = search needs
 enum-told-2 : tie.Need-enum-told-2
 enum-told-2 c = search needs
 
-enum-known-told : tie.Need-enum-known-told
-enum-known-told c = search needs
+enum-known-label : tie.Need-enum-known-label
+enum-known-label c = search needs
 
 wants-requires : tie.Need-wants-requires
 wants-requires c κs = search needs
 
 returns : tie.Need-returns
 unfolding met
-returns c = rw (c .before .before .before .before .before .enum-told .given .1, c .before .before .before .told .given .1) (row-holds _ (sym (c .before .wants .ensures) ∙ c .if1 .taken) refl)
+returns c = rw (c .before .before .before .before .before .enum-told .given .1, c .before .before .before .label .given .1) (row-holds _ (sym (c .before .wants .ensures) ∙ c .if1 .taken) refl)
 
 returns-2 : tie.Need-returns-2
 unfolding met
@@ -36,7 +36,7 @@ returns-3 c = rw (c .before .before .enum-told .given .1, c .enum-told2 .given .
 
 returns-4 : tie.Need-returns-4
 unfolding met
-returns-4 c = rw (c .before .before .before .before .before .enum-told .given .1, c .before .before .before .told .given .1) (row-fails _ (sym (c .before .wants .ensures) ∙ c .if1 .left) refl)
+returns-4 c = rw (c .before .before .before .before .before .enum-told .given .1, c .before .before .before .label .given .1) (row-fails _ (sym (c .before .wants .ensures) ∙ c .if1 .left) refl)
 
 pub met-spec : {M : Type 1} → statement M
 met-spec =
@@ -45,7 +45,7 @@ met-spec =
     enum-known-found
     enum-told
     enum-told-2
-    enum-known-told
+    enum-known-label
     wants-requires
     returns
     returns-2

@@ -5,7 +5,7 @@ use Rattle.labels.proofs.Left.{outcome, pass-starts, pass-more, pass-st
 use Rattle.labels.specs.Pass.{firstWanted}
 use Rattle.labels.specs.Labels.{answerIn}
 use Rattle.formats.specs.Format.{noFormat}
-use Rattle.commands.proofs.Walk.{walk, walk-fault, walk-last, walk-more, more-onward}
+use Rattle.sequence.proofs.Walk.{walk, walk-fault, walk-last, walk-more, more-onward}
 use native.Mathlib.Omega.{arith}
 use lib.ListN.{length}
 use mathlib.Core.Path.{_≡_, sym, _∙_, ap}
@@ -44,8 +44,8 @@ enum-known-t-2 c = search needs
 tail-fault-requires : tie.Need-tail-fault-requires Inv-loop μ-loop
 tail-fault-requires c κs = search needs
 
-told-of-requires : tie.Need-told-of-requires Inv-loop μ-loop
-told-of-requires c κs = let l = c .before .before .before .before .before .loop in last-lies _ (l .format) _ (l .at) (l .inv .0) (sym (c .before .before .before .before .turn-at .ensures) ∙ c .before .before .t2 .given .1)
+label-set-by-requires : tie.Need-label-set-by-requires Inv-loop μ-loop
+label-set-by-requires c κs = let l = c .before .before .before .before .before .loop in last-lies _ (l .format) _ (l .at) (l .inv .0) (sym (c .before .before .before .before .turn-at .ensures) ∙ c .before .before .t2 .given .1)
 
 met-requires : tie.Need-met-requires Inv-loop μ-loop
 met-requires c κs = search needs
@@ -54,13 +54,13 @@ judged-requires-2 : tie.Need-judged-requires-2 Inv-loop μ-loop
 judged-requires-2 c κs = search needs
 
 returns-2 : tie.Need-returns-2 Inv-loop μ-loop
-returns-2 c = let l = c .before .before .before .before .before .before .before .before .loop in let e = sym (c .before .before .before .before .before .before .before .turn-at .ensures) ∙ c .before .before .before .before .before .t2 .given .1 in simp (c .judged2 .ensures, c .before .met .ensures, c .before .before .told-of .ensures, c .before .before .before .tail-fault .ensures) (sym (pass-stops _ _ _ _ _ _) ∙ sym (pass-more _ _ _ (l .left) (l .found) _ _) ∙ sym (ap (outcome _ _ _ (l .left) (l .found)) (walk-last _ (l .format) _ (l .at) e)) ∙ l .inv .1)
+returns-2 c = let l = c .before .before .before .before .before .before .before .before .loop in let e = sym (c .before .before .before .before .before .before .before .turn-at .ensures) ∙ c .before .before .before .before .before .t2 .given .1 in simp (c .judged2 .ensures, c .before .met .ensures, c .before .before .label-set-by .ensures, c .before .before .before .tail-fault .ensures) (sym (pass-stops _ _ _ _ _ _) ∙ sym (pass-more _ _ _ (l .left) (l .found) _ _) ∙ sym (ap (outcome _ _ _ (l .left) (l .found)) (walk-last _ (l .format) _ (l .at) e)) ∙ l .inv .1)
 
 enum-known-t-3 : tie.Need-enum-known-t-3 Inv-loop μ-loop
 enum-known-t-3 c = search needs
 
-told-of-requires-2 : tie.Need-told-of-requires-2 Inv-loop μ-loop
-told-of-requires-2 c κs = let l = c .before .before .before .before .loop in more-lies _ (l .format) _ (l .at) (l .inv .0) (sym (c .before .before .before .turn-at .ensures) ∙ c .before .t3 .given .1)
+label-set-by-requires-2 : tie.Need-label-set-by-requires-2 Inv-loop μ-loop
+label-set-by-requires-2 c κs = let l = c .before .before .before .before .loop in more-lies _ (l .format) _ (l .at) (l .inv .0) (sym (c .before .before .before .turn-at .ensures) ∙ c .before .t3 .given .1)
 
 met-requires-2 : tie.Need-met-requires-2 Inv-loop μ-loop
 met-requires-2 c κs = search needs
@@ -88,12 +88,12 @@ pass-spec =
     returns
     enum-known-t-2
     tail-fault-requires
-    told-of-requires
+    label-set-by-requires
     met-requires
     judged-requires-2
     returns-2
     enum-known-t-3
-    told-of-requires-2
+    label-set-by-requires-2
     met-requires-2
     left-after-requires
     loop-less

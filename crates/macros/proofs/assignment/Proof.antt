@@ -1,6 +1,6 @@
 -- `macros::assignment` meets its contract: its two parts are those of `assignmentDone`.
 -- Assumes nothing.
-use Rattle.tokens.specs.Tokens.{variableNumber}
+use Rattle.macro_tokens.specs.Tokens.{variableNumber}
 use Rattle.macros.proofs.Working.{assign-fine, assign-refused, assignment-is}
 use lib.ListN.{drop}
 use mathlib.Core.Path.{refl, sym, ap, _∙_}

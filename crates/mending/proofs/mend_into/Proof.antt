@@ -7,8 +7,8 @@ use native.Mathlib.Omega.{arith}
 use lib.ListN.{length}
 use lib.Seq.{slice}
 use borrow.Author.Needs.{needs}
-use Rattle.extents.specs.Extents.{closing}
-use Rattle.extents.proofs.Found.{Cuts, command-cut}
+use Rattle.mending.specs.Extents.{closing}
+use Rattle.mending.proofs.Found.{Cuts, command-cut}
 use Rattle.mending.specs.Changes.{repeats}
 use Rattle.mending.proofs.Laying.{laid-long}
 use Rattle.mending.proofs.Running.{Running, running-starts, ends-tail, ends-there, closes-followed, closes-clean, drops, drops-fit, drops-short, keeps, keeps-fit, keeps-short}

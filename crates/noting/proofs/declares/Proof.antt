@@ -1,7 +1,7 @@
 -- `noting::declares` meets its contract: case by case; the first field ends at the first comma.
 -- Assumes nothing.
 use Rattle.layer.specs.Attributes.{declaresAs}
-use Rattle.components.proofs.Fields.{field-first}
+use Rattle.law_components.proofs.Fields.{field-first}
 use Rattle.text.specs.First.{beforeByte}
 use Rattle.text.specs.Text.{text}
 use Rattle.base.specs.Bytes.{sameBytes}

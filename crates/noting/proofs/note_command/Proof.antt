@@ -2,8 +2,8 @@
 -- Assumes nothing.
 use Rattle.noting.proofs.Known.{set-few, apertures-few}
 use Rattle.noting.proofs.Hearing.{command-noted}
-use Rattle.sayings.specs.declared.Kind.the-variants as kind
-use Rattle.sayings.specs.Sayings.{sayingOf}
+use Rattle.attribute_call.specs.declared.Kind.the-variants as kind
+use Rattle.attribute_call.specs.Sayings.{sayingOf}
 use Rattle.text.specs.Text.{text}
 use native.Mathlib.Omega.{arith}
 use Prim.Native.Nat.{_≤_}

@@ -6,11 +6,11 @@ use Rattle.numbered.proofs.Places.{places-by, places-none}
 use borrow.Author.Needs.{needs}
 use Rattle.numbered.proofs.placement.Statement.{statement}
 use Rattle.numbered.proofs.placement.Tie as tie
-use Rattle.assembly.proofs.placement.Reads as placement-reads
+use Rattle.placement_call.proofs.placement.Reads as placement-reads
 use Rattle.mending.proofs.clear_bytes.Reads as clear-bytes-reads
 use Rattle.numbered.proofs.choice_of.Reads as choice-of-reads
 use Rattle.reader.proofs.clear.Reads as clear-reads
-use Rattle.roster.proofs.refused.Reads as refused-reads
+use Rattle.placement_list.proofs.refused.Reads as refused-reads
 
 choice-of-requires : tie.Need-choice-of-requires
 choice-of-requires c κs = search needs

@@ -1,4 +1,4 @@
--- `operations::flashed` meets its contract: it is judged as `plain` says.
+-- `operations::flashed` meets its contract: it is judged as `withoutOffset` says.
 -- Assumes nothing.
 use Rattle.operations.specs.Operations.{flash}
 use borrow.Author.Needs.{needs}

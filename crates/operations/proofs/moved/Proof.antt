@@ -1,4 +1,4 @@
--- `operations::moved` meets its contract: it is judged as `plain` says.
+-- `operations::moved` meets its contract: it is judged as `withoutOffset` says.
 -- Assumes nothing.
 use Rattle.operations.specs.Operations.{move}
 use borrow.Author.Needs.{needs}

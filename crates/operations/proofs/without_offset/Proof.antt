@@ -1,6 +1,6 @@
--- `operations::without_offset` meets its contract: each part is that of `plain`.
+-- `operations::without_offset` meets its contract: each part is that of `withoutOffset`.
 -- Assumes nothing.
-use Rattle.operations.specs.Operations.{plain}
+use Rattle.operations.specs.Operations.{withoutOffset}
 use borrow.Author.Needs.{needs}
 use Rattle.operations.proofs.without_offset.Statement.{statement}
 use Rattle.operations.proofs.without_offset.Tie as tie
@@ -18,7 +18,7 @@ is-too-long-requires : tie.Need-is-too-long-requires
 is-too-long-requires c κs = search needs
 
 returns : tie.Need-returns
-unfolding plain
+unfolding withoutOffset
 returns c = cc
 
 pub without-offset-spec : {M : Type 1} → statement M

@@ -6,7 +6,7 @@ use lib.IntN.{pos}
 use lib.ListN.{length, length-set}
 use native.Mathlib.Omega.{arith}
 use native.Mathlib.Nat.{sub-zero}
-use Rattle.close.proofs.Clearing.{cleared, cleared-none, cleared-more, cleared-all}
+use Rattle.build.proofs.Clearing.{cleared, cleared-none, cleared-more, cleared-all}
 use Rattle.reader.proofs.clear_numbers.Statement.{statement}
 use Rattle.reader.proofs.clear_numbers.Tie as tie
 

@@ -5,9 +5,9 @@ use Prim.Native.Nat.{_-_}
 use mathlib.Core.Path.{_≡_, refl, sym, _∙_}
 use native.Mathlib.Omega.{arith}
 use lib.ListN.{length}
-use Rattle.commands.specs.Turns.{turnOf}
-use Rattle.commands.specs.declared.Turn.the-variants as turn
-use Rattle.commands.proofs.Walk.{more-onward}
+use Rattle.sequence.specs.Turns.{turnOf}
+use Rattle.sequence.specs.declared.Turn.the-variants as turn
+use Rattle.sequence.proofs.Walk.{more-onward}
 use Rattle.progress.specs.Lent.{lentOf, withEntries}
 use Rattle.steps.specs.Coded.{heldIn}
 use Rattle.steps.specs.declared.Held.the-variants.{Nothing}

@@ -1,7 +1,7 @@
 -- `scan::does_stop` meets its contract: `either` joins the two tests of `stops`.
 -- Assumes nothing.
 use borrow.Author.Needs.{needs}
-use Rattle.scan.specs.Plain.{stops}
+use Rattle.scan.specs.Printable.{stops}
 use Rattle.scan.proofs.does_stop.Statement.{statement}
 use Rattle.scan.proofs.does_stop.Tie as tie
 

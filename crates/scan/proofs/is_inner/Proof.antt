@@ -1,6 +1,6 @@
 -- `scan::is_inner` meets its contract: `both` joins the two tests of `inner`.
 -- Assumes nothing.
-use Rattle.scan.specs.Plain.{inner}
+use Rattle.scan.specs.Printable.{inner}
 use borrow.Author.Needs.{needs}
 use Rattle.scan.proofs.is_inner.Statement.{statement}
 use Rattle.scan.proofs.is_inner.Tie as tie

@@ -5,9 +5,9 @@ use mathlib.Core.Bool.{true}
 use native.Mathlib.Omega.{arith}
 use Rattle.base.specs.And.{_and_}
 use Rattle.base.proofs.And.{and-l, and-r}
-use Rattle.fields.proofs.Macros.{only-plain}
+use Rattle.fields.proofs.Macros.{only-over}
 use Rattle.scan.proofs.Leaps.{leap-same, leap-inside}
-use Rattle.scan.proofs.Plain.{end-low}
+use Rattle.scan.proofs.Printable.{end-low}
 use borrow.Author.Needs.{needs}
 use Rattle.scan.proofs.leap.Statement.{statement}
 use Rattle.scan.proofs.leap.Tie as tie
@@ -15,8 +15,8 @@ use Rattle.scan.proofs.leap.Tie as tie
 is-whole-requires : tie.Need-is-whole-requires
 is-whole-requires c κs = search needs
 
-is-plain-requires : tie.Need-is-plain-requires
-is-plain-requires c κs = search needs
+is-over-requires : tie.Need-is-over-requires
+is-over-requires c κs = search needs
 
 both-requires : tie.Need-both-requires
 both-requires c κs = search needs
@@ -24,8 +24,8 @@ both-requires c κs = search needs
 end-of-requires : tie.Need-end-of-requires
 end-of-requires c κs = search needs
 
-plain-to-requires : tie.Need-plain-to-requires
-plain-to-requires c κs = rw (c .end-of .ensures) (end-low _)
+printable-to-requires : tie.Need-printable-to-requires
+printable-to-requires c κs = rw (c .end-of .ensures) (end-low _)
 
 sub-to-stand : tie.Need-sub-to-stand
 sub-to-stand c = search needs
@@ -33,7 +33,7 @@ sub-to-stand c = search needs
 shared-slice-read-to-stand : tie.Need-shared-slice-read-to-stand
 shared-slice-read-to-stand c =
     let b = c .before .before in
-    omega (arith, leap-inside _ _ _ _ (sym (b .plain-to .ensures)) (c .before .if2 .taken), c .before .if2 .taken)
+    omega (arith, leap-inside _ _ _ _ (sym (b .printable-to .ensures)) (c .before .if2 .taken), c .before .if2 .taken)
 
 to-stand-requires : tie.Need-to-stand-requires
 to-stand-requires c κs = search needs
@@ -51,9 +51,9 @@ returns c =
           rw (c .to-stand .ensures)
           (leap-same book _ place _
           (sym (d .before .before .is-whole .ensures) ∙ and-l _ _ both)
-          (only-plain _ (sym (d .before .is-plain .ensures) ∙ and-r _ _ both))
+          (only-over _ (sym (d .before .is-over .ensures) ∙ and-r _ _ both))
           _ _
-          (rw (b .before .end-of .ensures) at (sym (b .plain-to .ensures)))
+          (rw (b .before .end-of .ensures) at (sym (b .printable-to .ensures)))
           h);
     }
 
@@ -68,10 +68,10 @@ leap-spec =
     tie.close
     (tie.spec
     is-whole-requires
-    is-plain-requires
+    is-over-requires
     both-requires
     end-of-requires
-    plain-to-requires
+    printable-to-requires
     sub-to-stand
     shared-slice-read-to-stand
     to-stand-requires

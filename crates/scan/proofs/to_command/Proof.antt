@@ -2,7 +2,7 @@
 -- Assumes nothing.
 use native.Mathlib.Omega.{arith}
 use borrow.Author.Needs.{needs}
-use Rattle.scan.proofs.Plain.{text-near}
+use Rattle.scan.proofs.Printable.{text-near}
 use Rattle.scan.proofs.to_command.Statement.{statement}
 use Rattle.scan.proofs.to_command.Tie as tie
 

@@ -1,6 +1,6 @@
 -- `seeing::is_drawn` meets its contract: the three kinds are those of a line and of two arcs.
 -- Assumes nothing.
-use Rattle.components.specs.Parts.{isDrawn}
+use Rattle.law_components.specs.Parts.{isDrawn}
 use borrow.Author.Needs.{needs}
 use Rattle.seeing.proofs.is_drawn.Statement.{statement}
 use Rattle.seeing.proofs.is_drawn.Tie as tie

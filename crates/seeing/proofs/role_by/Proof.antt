@@ -4,7 +4,7 @@ use mathlib.Core.Bool.{true, false}
 use mathlib.Core.Path.{_≡_}
 use lib.Dec.{eqb}
 use Rattle.base.specs.And.{_and_}
-use Rattle.components.specs.Parts.{isDrawn}
+use Rattle.law_components.specs.Parts.{isDrawn}
 use Rattle.seeing.specs.Roles.{roleBy}
 use borrow.Author.Needs.{needs}
 use Rattle.seeing.proofs.role_by.Statement.{statement}

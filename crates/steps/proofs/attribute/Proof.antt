@@ -2,8 +2,8 @@
 -- Assumes nothing.
 use mathlib.Core.Path.{ap}
 use Rattle.command.specs.declared.Command.the-variants.{Attribute}
-use Rattle.reading.specs.Steps.{deedStep, stepOf}
-use Rattle.plain.specs.Plain.{isPlain, isPlainDeed}
+use Rattle.law_reading.specs.Steps.{deedStep, stepOf}
+use Rattle.state_steps.specs.KeepsRooms.{keepsRooms, deedKeepsRooms}
 use Rattle.steps.specs.Steps.{AgainBy}
 use borrow.Author.Needs.{needs}
 use Rattle.steps.proofs.attribute.Statement.{statement}
@@ -19,29 +19,29 @@ enum-told-2 : tie.Need-enum-told-2
 enum-told-2 c = search needs
 
 set-requires : tie.Need-set-requires
-unfolding isPlain isPlainDeed
-set-requires c κs = ap (λ d. isPlain (Attribute d)) (c .enum-told2 .given .1)
+unfolding keepsRooms deedKeepsRooms
+set-requires c κs = ap (λ d. keepsRooms (Attribute d)) (c .enum-told2 .given .1)
 
 enum-told-3 : tie.Need-enum-told-3
 enum-told-3 c = search needs
 
 set-requires-2 : tie.Need-set-requires-2
-unfolding isPlain isPlainDeed
-set-requires-2 c κs = ap (λ d. isPlain (Attribute d)) (c .enum-told3 .given .1)
+unfolding keepsRooms deedKeepsRooms
+set-requires-2 c κs = ap (λ d. keepsRooms (Attribute d)) (c .enum-told3 .given .1)
 
 enum-told-4 : tie.Need-enum-told-4
 enum-told-4 c = search needs
 
 set-requires-3 : tie.Need-set-requires-3
-unfolding isPlain isPlainDeed
-set-requires-3 c κs = ap (λ d. isPlain (Attribute d)) (c .enum-told4 .given .1)
+unfolding keepsRooms deedKeepsRooms
+set-requires-3 c κs = ap (λ d. keepsRooms (Attribute d)) (c .enum-told4 .given .1)
 
 enum-told-5 : tie.Need-enum-told-5
 enum-told-5 c = search needs
 
 set-requires-4 : tie.Need-set-requires-4
-unfolding isPlain isPlainDeed
-set-requires-4 c κs = ap (λ d. isPlain (Attribute d)) (c .enum-told5 .given .1)
+unfolding keepsRooms deedKeepsRooms
+set-requires-4 c κs = ap (λ d. keepsRooms (Attribute d)) (c .enum-told5 .given .1)
 
 returns : tie.Need-returns
 unfolding deedStep AgainBy

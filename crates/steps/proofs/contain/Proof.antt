@@ -1,8 +1,8 @@
 -- `steps::contain` meets its contract: each case by its function's promise; SR leaves the apertures as they are.
 -- Assumes nothing.
 use mathlib.Core.Path.{_≡_, refl, subst}
-use Rattle.bounds.specs.Bounded.{BracketBounded}
-use Rattle.reading.specs.Steps.{bracketStep}
+use Rattle.law_bounds.specs.Bounded.{BracketBounded}
+use Rattle.law_reading.specs.Steps.{bracketStep}
 use Rattle.steps.proofs.Arms.{known-of, keeps-apertures}
 use borrow.Author.Needs.{needs}
 use Rattle.steps.proofs.contain.Statement.{statement}

@@ -1,9 +1,9 @@
 -- `steps::define` meets its contract: AD leaves the macros as they are, AM all but them.
 -- Assumes nothing.
 use mathlib.Core.Path.{_≡_, refl, subst}
-use Rattle.bounds.specs.Bounded.{DefinitionBounded}
-use Rattle.reading.specs.Steps.{definitionStep}
-use Rattle.definitions.specs.Lends.{Lends}
+use Rattle.law_bounds.specs.Bounded.{DefinitionBounded}
+use Rattle.law_reading.specs.Steps.{definitionStep}
+use Rattle.definition_steps.specs.Lends.{Lends}
 use Rattle.steps.proofs.Arms.{known-of, keeps-macros, keeps-others}
 use borrow.Author.Needs.{needs}
 use Rattle.steps.proofs.define.Statement.{statement}

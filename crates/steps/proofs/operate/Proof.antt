@@ -1,7 +1,7 @@
 -- `steps::operate` meets its contract: each operation by its function's promise; D02 leaves the entries.
 -- Assumes nothing.
 use mathlib.Core.Path.{refl, sym}
-use Rattle.reading.specs.Steps.{operationStep}
+use Rattle.law_reading.specs.Steps.{operationStep}
 use Rattle.steps.proofs.Arms.{same-entries}
 use borrow.Author.Needs.{needs}
 use Rattle.steps.proofs.operate.Statement.{statement}

@@ -1,11 +1,11 @@
 -- `steps::step` meets its contract: each role by its function's promise.
 -- Assumes nothing.
 use mathlib.Core.Path.{_≡_, refl, sym, ap, subst, _∙_}
-use Rattle.bounds.specs.Bounded.{Bounded}
-use Rattle.reading.specs.Steps.{stepOf}
+use Rattle.law_bounds.specs.Bounded.{Bounded}
+use Rattle.law_reading.specs.Steps.{stepOf}
 use Rattle.progress.specs.Lent.{Lent, lentOf, withEntries, withApertures, withMacros, withNumbers}
-use Rattle.definitions.specs.Lends.{Lends}
-use Rattle.plain.specs.Plain.{isPlain}
+use Rattle.definition_steps.specs.Lends.{Lends}
+use Rattle.state_steps.specs.KeepsRooms.{keepsRooms}
 use Rattle.steps.specs.Steps.{Again}
 use Rattle.steps.specs.Coded.{heldIn}
 use Rattle.steps.proofs.Arms.{known-of}
@@ -56,29 +56,29 @@ enum-told : tie.Need-enum-told
 enum-told c = search needs
 
 set-requires : tie.Need-set-requires
-unfolding isPlain
-set-requires c κs = ap isPlain (c .enum-told .given .1)
+unfolding keepsRooms
+set-requires c κs = ap keepsRooms (c .enum-told .given .1)
 
 enum-told-2 : tie.Need-enum-told-2
 enum-told-2 c = search needs
 
 set-requires-2 : tie.Need-set-requires-2
-unfolding isPlain
-set-requires-2 c κs = ap isPlain (c .enum-told2 .given .1)
+unfolding keepsRooms
+set-requires-2 c κs = ap keepsRooms (c .enum-told2 .given .1)
 
 enum-told-3 : tie.Need-enum-told-3
 enum-told-3 c = search needs
 
 set-requires-3 : tie.Need-set-requires-3
-unfolding isPlain
-set-requires-3 c κs = ap isPlain (c .enum-told3 .given .1)
+unfolding keepsRooms
+set-requires-3 c κs = ap keepsRooms (c .enum-told3 .given .1)
 
 enum-told-4 : tie.Need-enum-told-4
 enum-told-4 c = search needs
 
 set-requires-4 : tie.Need-set-requires-4
-unfolding isPlain
-set-requires-4 c κs = ap isPlain (c .enum-told4 .given .1)
+unfolding keepsRooms
+set-requires-4 c κs = ap keepsRooms (c .enum-told4 .given .1)
 
 enum-told-5 : tie.Need-enum-told-5
 enum-told-5 c = search needs

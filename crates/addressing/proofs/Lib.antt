@@ -1,4 +1,0 @@
-pub mod Words
-pub mod Begins
-pub mod Written
-pub mod Answers

@@ -1,2 +1,0 @@
-pub mod Attribute
-pub mod Pass

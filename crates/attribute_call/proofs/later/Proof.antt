@@ -1,0 +1,30 @@
+-- `attribute_call::later` meets its contract, case by case.
+-- Assumes nothing.
+use Rattle.attribute_call.specs.Attribute.{later}
+use borrow.Author.Needs.{needs}
+use Rattle.attribute_call.proofs.later.Statement.{statement}
+use Rattle.attribute_call.proofs.later.Tie as tie
+
+enum-told : tie.Need-enum-told
+enum-told c = search needs
+
+enum-told-2 : tie.Need-enum-told-2
+enum-told-2 c = search needs
+
+enum-known-t : tie.Need-enum-known-t
+enum-known-t c = search needs
+
+returns : tie.Need-returns
+unfolding later
+returns c = rw (c .enum-told .given .1)
+
+returns-2 : tie.Need-returns-2
+unfolding later
+returns-2 c = rw (c .enum-told2 .given .1)
+
+returns-3 : tie.Need-returns-3
+unfolding later
+returns-3 c = rw (c .before .t .given .1)
+
+pub later-spec : {M : Type 1} → statement M
+later-spec = tie.close (tie.spec enum-told enum-told-2 enum-known-t returns returns-2 returns-3)

@@ -1,0 +1,3 @@
+pub mod Sayings
+pub mod Attribute
+pub mod Pass

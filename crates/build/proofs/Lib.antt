@@ -1,0 +1,4 @@
+pub mod Turning
+pub mod Counting
+pub mod Clearing
+pub mod Settling

@@ -1,4 +1,0 @@
-pub mod Answers
-pub mod Slots
-pub mod Sound
-pub mod Wholes

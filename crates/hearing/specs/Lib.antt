@@ -1,4 +1,0 @@
-pub mod Spans
-pub mod Designators
-pub mod Functions
-pub mod Means

@@ -1,4 +1,0 @@
-pub mod Cutting
-pub mod Leading
-pub mod Stores
-pub mod Tests

@@ -1,3 +1,0 @@
-pub mod Links
-pub mod Primitives
-pub mod Shapes

@@ -1,0 +1,4 @@
+pub mod Links
+pub mod Primitives
+pub mod Shapes
+pub mod Runs

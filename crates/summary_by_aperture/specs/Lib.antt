@@ -1,0 +1,5 @@
+pub mod Kept
+pub mod Walk
+pub mod Listed
+pub mod Blocks
+pub mod Answers
