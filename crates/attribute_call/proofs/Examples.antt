@@ -21,7 +21,7 @@ use Rattle.letters.specs.Table as letters-Table
 use Rattle.command.specs.Flaws.{flawNumber}
 use Rattle.command.specs.Numbers.{judged}
 use Rattle.operations.specs.Coordinates.{given, missing, fieldAt, fieldsIn}
-use Rattle.operations.specs.Operations.{broken, tooLong, alone, axisOf, offsetOf, draw, plain, move, operationIn, operates, uncoded, operationCode, operationOf}
+use Rattle.operations.specs.Operations.{broken, tooLong, alone, axisOf, offsetOf, draw, withoutOffset, move, operationIn, operates, uncoded, operationCode, operationOf}
 use Rattle.words.specs.Newer.{codeOf, newerWord}
 use Rattle.words.specs.Words.{wordOf}
 use Rattle.apertures.specs.Blocks.{blockOf}
@@ -66,5 +66,5 @@ abbrev poured : List (ℕ × ℕ × ℕ × ℕ)
 poured = (12, 0, 5, 1) ∷ (16, 23, 0, 0) ∷ (32, 0, 5, 1) ∷ (46, 23, 0, 0) ∷ (54, 23, 0, 0) ∷ []
 
 pour-answered : map (λ row. attributeOf ascii pour Aperture (row .0) (text "a")) poured ≡ map (λ row. record { number = row .1; place = row .2; length = row .3 }) poured
-unfolding attributeOf answerIn answerFor answerAt held heardWith heardIn later kept before fromOn takenAt outlineOf newerOutline regionAfter beginsContour sayingOf spoken saying asksTA valueIn commandsOf commandsFrom turnOf turned led leadOf leadOfSetting leadOfFlaw tailFault tailOf fits cutBy commandIn nextCommand inField letterHere letters-Table.letterIn letters-Table.wholeOf letters-Table.leadOf letters-Table.leadIn letters-Table.table letters-Table.follows letters-Table.within kindOf textFrom endOf badIn permitted printable mayBreak breaksAfter commandOf wordOf newerWord codeOf operationOf operationCode uncoded operationIn operates draw move plain judged fieldsIn fieldAt given missing broken tooLong alone axisOf offsetOf isOld isOldEdition noFormat extendedOf dataIn isUnread dataOf oneBlock blockOf recognised valueOf deletionOf isName nameStart nameByte nameBytes letter flawNumber pick firstIn among sameBytes _and_ _or_
+unfolding attributeOf answerIn answerFor answerAt held heardWith heardIn later kept before fromOn takenAt outlineOf newerOutline regionAfter beginsContour sayingOf spoken saying asksTA valueIn commandsOf commandsFrom turnOf turned led leadOf leadOfSetting leadOfFlaw tailFault tailOf fits cutBy commandIn nextCommand inField letterHere letters-Table.letterIn letters-Table.wholeOf letters-Table.leadOf letters-Table.leadIn letters-Table.table letters-Table.follows letters-Table.within kindOf textFrom endOf badIn permitted printable mayBreak breaksAfter commandOf wordOf newerWord codeOf operationOf operationCode uncoded operationIn operates draw move withoutOffset judged fieldsIn fieldAt given missing broken tooLong alone axisOf offsetOf isOld isOldEdition noFormat extendedOf dataIn isUnread dataOf oneBlock blockOf recognised valueOf deletionOf isName nameStart nameByte nameBytes letter flawNumber pick firstIn among sameBytes _and_ _or_
 pour-answered = refl

@@ -29,7 +29,7 @@ use Rattle.scan.specs.Fields.{inField}
 use Rattle.command.specs.Flaws.{flawNumber}
 use Rattle.command.specs.Numbers.{judged}
 use Rattle.operations.specs.Coordinates.{given, missing, fieldAt, fieldsIn}
-use Rattle.operations.specs.Operations.{broken, tooLong, alone, axisOf, offsetOf, draw, plain, move, operationIn, operates, coded, uncoded, operationCode, operationOf}
+use Rattle.operations.specs.Operations.{broken, tooLong, alone, axisOf, offsetOf, draw, withoutOffset, move, operationIn, operates, coded, uncoded, operationCode, operationOf}
 use Rattle.words.specs.Newer.{newerWord}
 use Rattle.words.specs.Old.{settingOf, operated, said, oldWord}
 use Rattle.words.specs.Words.{wordOf}
@@ -53,7 +53,7 @@ abbrev poured : List (ℕ × ℕ × ℕ × ℕ)
 poured = (19, 0, 5, 1) ∷ (39, 0, 5, 1) ∷ (61, 0, 58, 1) ∷ (71, 23, 0, 0) ∷ (80, 23, 0, 0) ∷ []
 
 pour-answered : map (λ row. attributeOf film pour Aperture (row .0) (text "a")) poured ≡ map (λ row. record { number = row .1; place = row .2; length = row .3 }) poured
-unfolding attributeOf answerIn answerFor answerAt held heardWith heardIn later kept before fromOn takenAt outlineOf wordOutline regionAfter beginsContour sayingOf spoken saying asksTA valueIn commandsOf commandsFrom turnOf turned led leadOf leadOfSetting leadOfFlaw tailFault tailOf fits cutBy commandIn nextCommand inField letterHere kindOf textFrom endOf badIn permitted printable mayBreak breaksAfter commandOf wordOf oldWord said operated settingOf coded operationIn operates draw move plain judged fieldsIn fieldAt given missing broken tooLong alone axisOf offsetOf takenIn coordinateIn wholeIn worth filled inForce isFormat placesOf newer noFormat coordinateEnd isDigit allDigits isNumber valueOf hasMinus afterSign pastSign signed dropLeading film-words.wordOf film-words.generalOf film-words.miscellaneousOf film-words.otherOf film-words.codedOf film-words.operateOf film-words.commentOf film-codes.codeOf film-codes.laterCodes film-codes.operationIn film-codes.operationLength film-codes.endsInOne film-codes.isEnd isOld isOldEdition extendedOf dataIn isUnread isRefused dataOf oneBlock recognised fieldOf deletionOf isName nameStart nameByte nameBytes letter flawNumber pick firstIn among sameBytes _and_ _or_
+unfolding attributeOf answerIn answerFor answerAt held heardWith heardIn later kept before fromOn takenAt outlineOf wordOutline regionAfter beginsContour sayingOf spoken saying asksTA valueIn commandsOf commandsFrom turnOf turned led leadOf leadOfSetting leadOfFlaw tailFault tailOf fits cutBy commandIn nextCommand inField letterHere kindOf textFrom endOf badIn permitted printable mayBreak breaksAfter commandOf wordOf oldWord said operated settingOf coded operationIn operates draw move withoutOffset judged fieldsIn fieldAt given missing broken tooLong alone axisOf offsetOf takenIn coordinateIn wholeIn worth filled inForce isFormat placesOf newer noFormat coordinateEnd isDigit allDigits isNumber valueOf hasMinus afterSign pastSign signed dropLeading film-words.wordOf film-words.generalOf film-words.miscellaneousOf film-words.otherOf film-words.codedOf film-words.operateOf film-words.commentOf film-codes.codeOf film-codes.laterCodes film-codes.operationIn film-codes.operationLength film-codes.endsInOne film-codes.isEnd isOld isOldEdition extendedOf dataIn isUnread isRefused dataOf oneBlock recognised fieldOf deletionOf isName nameStart nameByte nameBytes letter flawNumber pick firstIn among sameBytes _and_ _or_
 pour-answered = refl
 
 -- 30 is given as 4 is, and in the newer edition a code before an operation is 4
@@ -61,9 +61,9 @@ abbrev refused : List (String × ℕ)
 refused = ("%LNx*%M2*", 30) ∷ ("G40*M2*", 4) ∷ ("G4%*M2*", 4) ∷ ("M2*x", 18) ∷ ("M2", 3) ∷ []
 
 refused-answered : map (λ row. attributeOf film (text (row .0)) Aperture 0 (text "a") .number) refused ≡ map (λ row. row .1) refused
-unfolding attributeOf answerIn answerFor answerAt held heardWith heardIn later kept before fromOn takenAt outlineOf wordOutline regionAfter beginsContour sayingOf spoken saying asksTA valueIn commandsOf commandsFrom turnOf turned led leadOf leadOfSetting leadOfFlaw tailFault tailOf fits cutBy commandIn nextCommand inField letterHere kindOf textFrom endOf badIn permitted printable mayBreak breaksAfter commandOf wordOf oldWord said operated settingOf coded operationIn operates draw move plain judged fieldsIn fieldAt given missing broken tooLong alone axisOf offsetOf takenIn coordinateIn wholeIn worth filled inForce isFormat placesOf newer noFormat coordinateEnd isDigit allDigits isNumber valueOf hasMinus afterSign pastSign signed dropLeading film-words.wordOf film-words.generalOf film-words.miscellaneousOf film-words.otherOf film-words.codedOf film-words.operateOf film-words.commentOf film-codes.codeOf film-codes.laterCodes film-codes.operationIn film-codes.operationLength film-codes.endsInOne film-codes.isEnd isOld isOldEdition extendedOf dataIn isUnread isRefused dataOf oneBlock recognised fieldOf deletionOf isName nameStart nameByte nameBytes letter flawNumber pick firstIn among sameBytes _and_ _or_
+unfolding attributeOf answerIn answerFor answerAt held heardWith heardIn later kept before fromOn takenAt outlineOf wordOutline regionAfter beginsContour sayingOf spoken saying asksTA valueIn commandsOf commandsFrom turnOf turned led leadOf leadOfSetting leadOfFlaw tailFault tailOf fits cutBy commandIn nextCommand inField letterHere kindOf textFrom endOf badIn permitted printable mayBreak breaksAfter commandOf wordOf oldWord said operated settingOf coded operationIn operates draw move withoutOffset judged fieldsIn fieldAt given missing broken tooLong alone axisOf offsetOf takenIn coordinateIn wholeIn worth filled inForce isFormat placesOf newer noFormat coordinateEnd isDigit allDigits isNumber valueOf hasMinus afterSign pastSign signed dropLeading film-words.wordOf film-words.generalOf film-words.miscellaneousOf film-words.otherOf film-words.codedOf film-words.operateOf film-words.commentOf film-codes.codeOf film-codes.laterCodes film-codes.operationIn film-codes.operationLength film-codes.endsInOne film-codes.isEnd isOld isOldEdition extendedOf dataIn isUnread isRefused dataOf oneBlock recognised fieldOf deletionOf isName nameStart nameByte nameBytes letter flawNumber pick firstIn among sameBytes _and_ _or_
 refused-answered = refl
 
 newer-refused : attributeOf ascii (text "G36X0Y0D02*M02*") Aperture 0 (text "a") .number ≡ 4
-unfolding attributeOf answerIn answerFor answerAt held heardWith heardIn later kept before fromOn takenAt outlineOf wordOutline regionAfter beginsContour sayingOf spoken saying asksTA valueIn commandsOf commandsFrom turnOf turned led leadOf leadOfSetting leadOfFlaw tailFault tailOf fits cutBy commandIn nextCommand inField letterHere kindOf textFrom endOf badIn permitted printable mayBreak breaksAfter commandOf wordOf newerWord operationOf operationCode uncoded operationIn operates draw move plain judged fieldsIn fieldAt given missing broken tooLong alone axisOf offsetOf takenIn coordinateIn wholeIn worth filled inForce isFormat placesOf newer noFormat coordinateEnd isDigit allDigits isNumber valueOf hasMinus afterSign pastSign signed dropLeading isOld isOldEdition extendedOf dataIn isUnread isRefused dataOf oneBlock recognised fieldOf deletionOf isName nameStart nameByte nameBytes letter flawNumber pick firstIn among sameBytes _and_ _or_
+unfolding attributeOf answerIn answerFor answerAt held heardWith heardIn later kept before fromOn takenAt outlineOf wordOutline regionAfter beginsContour sayingOf spoken saying asksTA valueIn commandsOf commandsFrom turnOf turned led leadOf leadOfSetting leadOfFlaw tailFault tailOf fits cutBy commandIn nextCommand inField letterHere kindOf textFrom endOf badIn permitted printable mayBreak breaksAfter commandOf wordOf newerWord operationOf operationCode uncoded operationIn operates draw move withoutOffset judged fieldsIn fieldAt given missing broken tooLong alone axisOf offsetOf takenIn coordinateIn wholeIn worth filled inForce isFormat placesOf newer noFormat coordinateEnd isDigit allDigits isNumber valueOf hasMinus afterSign pastSign signed dropLeading isOld isOldEdition extendedOf dataIn isUnread isRefused dataOf oneBlock recognised fieldOf deletionOf isName nameStart nameByte nameBytes letter flawNumber pick firstIn among sameBytes _and_ _or_
 newer-refused = refl

@@ -18,7 +18,7 @@ use Rattle.formats.specs.declared.Format.{Format}
 use Rattle.formats.proofs.Laws.{coordinate-small}
 use Rattle.command.specs.declared.Axis.the-variants as axis
 use Rattle.operations.specs.Coordinates.{given, missing, fieldAt, fieldsIn}
-use Rattle.operations.specs.Operations.{axisOf, offsetOf as offsetIn, draw, plain, move, flash, operationIn}
+use Rattle.operations.specs.Operations.{axisOf, offsetOf as offsetIn, draw, withoutOffset, move, flash, operationIn}
 use Rattle.operations.specs.declared.Field.{Field}
 use Rattle.operations.specs.declared.Fields.{Fields}
 use Rattle.operations.specs.declared.TakenField.{TakenField}
@@ -83,7 +83,7 @@ offset-within f h = go (f .i .given) refl
 
 -- whatever its number
 pub written-bounded : (number : ℕ) (f : Format) (s : List ℕ) → OperationBounded (operationIn number f s .operation)
-unfolding operationIn draw move flash plain OperationBounded
+unfolding operationIn draw move flash withoutOffset OperationBounded
 written-bounded number f s = go (eqb number 1) (eqb number 2)
   where
     c : Fields

@@ -199,7 +199,7 @@ setting-steady g =
 module _ (f : Format) (u : List ℕ) where
   -- an operation of these coordinates, of good form
   written : (number : ℕ) → op.operationIn number f u .formless ≡ false → op.operationIn number f u .long ≡ false → SpeltAs f u (op.operationIn number f u .operation)
-  unfolding op.operationIn op.draw op.move op.flash op.plain
+  unfolding op.operationIn op.draw op.move op.flash op.withoutOffset
   written number = go (eqb number 1) (eqb number 2)
     where
       given-by : (t v : Bool) → Written

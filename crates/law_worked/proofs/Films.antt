@@ -129,7 +129,7 @@ unfolding drawnFilms refusedFilms drawn circle ofCircle steps ofSteps area ofAre
     flawNumber judged inRange anySize sizedAs command-Rounded.counted
     given missing fieldAt fieldsIn
     broken tooLong alone axisOf draw move flash operationIn operates coded
-    operations-Operations.offsetOf operations-Operations.plain
+    operations-Operations.offsetOf operations-Operations.withoutOffset
     wordOf
     formatted formatOf unitOf
     isFormat noFormat inForce placesOf filled valueIn wholeIn coordinateIn takenIn isOldEdition isOld

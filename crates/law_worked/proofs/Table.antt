@@ -132,7 +132,7 @@ unfolding answer answers said saidOf numbers table worth reading readingAt recko
     flawNumber judged inRange anySize sizedAs command-Rounded.counted
     given missing fieldAt fieldsIn
     broken tooLong alone axisOf draw move flash operationIn operates coded uncoded operationCode operationOf
-    operations-Operations.offsetOf operations-Operations.plain
+    operations-Operations.offsetOf operations-Operations.withoutOffset
     commentOf selectOf newerWord wordOf
     words-Newer.codeOf
     formatted formatOf unitOf

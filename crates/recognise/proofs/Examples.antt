@@ -45,7 +45,7 @@ use Rattle.command.specs.declared.Deed.the-variants.{SetObject, DeleteAll}
 use Rattle.command.specs.Flaws as flaws
 use Rattle.command.specs.Rounded.{counted}
 use Rattle.operations.specs.Coordinates.{given, missing, fieldAt, fieldsIn}
-use Rattle.operations.specs.Operations.{broken, tooLong, alone, axisOf, offsetOf, draw, plain, move, operationIn, operates, coded, uncoded, operationOf}
+use Rattle.operations.specs.Operations.{broken, tooLong, alone, axisOf, offsetOf, draw, withoutOffset, move, operationIn, operates, coded, uncoded, operationOf}
 use Rattle.words.specs.Newer.{commentOf, selectOf, codeOf, newerWord}
 use Rattle.words.specs.Old.{settingOf, operated, said, oldWord}
 use Rattle.words.specs.Words.{wordOf}
@@ -128,7 +128,7 @@ films =
     ∷ []
 
 films-recognised : map (λ row. commandOf film trailing (row .0) (text (row .1))) films ≡ map (λ row. row .2) films
-unfolding commandOf wordOf oldWord said operated settingOf coded move plain film-words.wordOf film-words.generalOf film-words.miscellaneousOf film-words.otherOf film-words.codedOf film-words.operateOf film-words.commentOf film-codes.codeOf film-codes.laterCodes film-codes.operationIn film-codes.operationLength film-codes.endsInOne film-codes.isEnd isOld isOldEdition selectOf fieldsIn fieldAt given missing operationOf operationIn operates uncoded draw broken alone tooLong axisOf offsetOf takenIn coordinateIn wholeIn valueIn filled inForce isFormat placesOf newer coordinateEnd isDigit allDigits isNumber digitsValue hasMinus afterSign pastSign signed naturalOf inRange judged extendedOf dataIn isUnread isRefused dataOf oneBlock formatOf formatted oldFormat ofForm pick firstIn among sameBytes _and_ _or_
+unfolding commandOf wordOf oldWord said operated settingOf coded move withoutOffset film-words.wordOf film-words.generalOf film-words.miscellaneousOf film-words.otherOf film-words.codedOf film-words.operateOf film-words.commentOf film-codes.codeOf film-codes.laterCodes film-codes.operationIn film-codes.operationLength film-codes.endsInOne film-codes.isEnd isOld isOldEdition selectOf fieldsIn fieldAt given missing operationOf operationIn operates uncoded draw broken alone tooLong axisOf offsetOf takenIn coordinateIn wholeIn valueIn filled inForce isFormat placesOf newer coordinateEnd isDigit allDigits isNumber digitsValue hasMinus afterSign pastSign signed naturalOf inRange judged extendedOf dataIn isUnread isRefused dataOf oneBlock formatOf formatted oldFormat ofForm pick firstIn among sameBytes _and_ _or_
 films-recognised = refl
 
 -- of the old edition alone: 4 in the newer

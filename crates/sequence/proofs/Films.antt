@@ -41,7 +41,7 @@ use Rattle.command.specs.declared.Command.the-variants.{Note, End, Set, Operate
 use Rattle.command.specs.declared.Setting.the-variants.{Linear, Counterclockwise, Halt, Format}
 use Rattle.command.specs.declared.Operation.the-variants.{Draw, Move}
 use Rattle.operations.specs.Coordinates.{given, missing, fieldAt, fieldsIn}
-use Rattle.operations.specs.Operations.{broken, tooLong, alone, axisOf, offsetOf, draw, plain, move, operationIn, operates, coded}
+use Rattle.operations.specs.Operations.{broken, tooLong, alone, axisOf, offsetOf, draw, withoutOffset, move, operationIn, operates, coded}
 use Rattle.words.specs.Newer.{selectOf}
 use Rattle.words.specs.Old.{settingOf, operated, said, oldWord}
 use Rattle.words.specs.Words.{wordOf}
@@ -84,5 +84,5 @@ films =
     ∷ []
 
 films-read : map (λ row. commandsOf film (text (row .0))) films ≡ map (λ row. record { commands = row .1; fault = refusal (row .2) (row .3) }) films
-unfolding commandsOf commandsFrom turnOf turned led leadOf leadOfFlaw leadOfSetting tailFault tailOf fits cutBy commandIn nextCommand inField letterHere letters-Table.letterIn letters-Table.wholeOf letters-Table.leadOf letters-Table.leadIn letters-Table.table letters-Table.follows letters-Table.within kindOf textFrom endOf badIn permitted printable mayBreak breaksAfter commandOf wordOf oldWord said operated settingOf selectOf operationIn operates coded draw move plain broken alone tooLong axisOf offsetOf fieldsIn fieldAt given missing takenIn coordinateIn wholeIn valueIn filled inForce isFormat placesOf coordinateEnd isDigit allDigits isNumber valueOf hasMinus afterSign pastSign signed naturalOf dropLeading inRange judged film-words.wordOf film-words.generalOf film-words.miscellaneousOf film-words.otherOf film-words.codedOf film-words.operateOf film-words.commentOf film-codes.codeOf film-codes.laterCodes film-codes.operationIn film-codes.operationLength film-codes.endsInOne film-codes.isEnd isOld isOldEdition extendedOf dataIn isUnread isRefused dataOf oneBlock formatOf formatted oldFormat ofForm noFormat flawNumber pick firstIn among sameBytes _and_ _or_
+unfolding commandsOf commandsFrom turnOf turned led leadOf leadOfFlaw leadOfSetting tailFault tailOf fits cutBy commandIn nextCommand inField letterHere letters-Table.letterIn letters-Table.wholeOf letters-Table.leadOf letters-Table.leadIn letters-Table.table letters-Table.follows letters-Table.within kindOf textFrom endOf badIn permitted printable mayBreak breaksAfter commandOf wordOf oldWord said operated settingOf selectOf operationIn operates coded draw move withoutOffset broken alone tooLong axisOf offsetOf fieldsIn fieldAt given missing takenIn coordinateIn wholeIn valueIn filled inForce isFormat placesOf coordinateEnd isDigit allDigits isNumber valueOf hasMinus afterSign pastSign signed naturalOf dropLeading inRange judged film-words.wordOf film-words.generalOf film-words.miscellaneousOf film-words.otherOf film-words.codedOf film-words.operateOf film-words.commentOf film-codes.codeOf film-codes.laterCodes film-codes.operationIn film-codes.operationLength film-codes.endsInOne film-codes.isEnd isOld isOldEdition extendedOf dataIn isUnread isRefused dataOf oneBlock formatOf formatted oldFormat ofForm noFormat flawNumber pick firstIn among sameBytes _and_ _or_
 films-read = refl
