@@ -26,7 +26,8 @@ use Rattle.sheet.specs.declared.Container.{Container}
 use Rattle.sheet.specs.declared.Role.{Role}
 use Rattle.sheet.specs.declared.Role.the-variants.{Draws, Uses, Repeats, Defines, Unknown}
 use Rattle.sheet.proofs.Conditions.{entry-words, entry-repeat, drawn-within, flash-within, RepeatOk}
-use Rattle.sheet.proofs.Sound.{Sound, Under, use-under, repeat-under}
+use Rattle.sheet.proofs.Sound.{Under, use-under, repeat-under}
+use Rattle.sheet.specs.Sound.{Sound}
 use Rattle.sheet.proofs.Expand.{length-items, nth-at, ends}
 use Rattle.descend.specs.Search.{Found, Held, Split, copyOf, spread, HereIs, BelowIs, Descends}
 

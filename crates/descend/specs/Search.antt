@@ -17,7 +17,7 @@ use Rattle.sheet.specs.Meaning.{repeatOf, items}
 use Rattle.sheet.specs.Valid.{most, far, valid}
 use Rattle.sheet.specs.declared.Entry.{Entry}
 use Rattle.sheet.specs.declared.Container.{Container}
-use Rattle.sheet.proofs.Sound.{Sound}
+use Rattle.sheet.specs.Sound.{Sound}
 use Rattle.descend.specs.declared.Step.{Step}
 use Rattle.descend.specs.declared.Step.the-variants.{Here, Copied, Flashed}
 

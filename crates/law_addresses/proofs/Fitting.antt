@@ -17,7 +17,8 @@ use Rattle.sheet.specs.declared.Container.{Container}
 use Rattle.sheet.specs.declared.Role.{Role}
 use Rattle.sheet.specs.declared.Role.the-variants.{Draws, Uses, Repeats, Defines, Unknown}
 use Rattle.sheet.proofs.Conditions.{container-ok, entry-repeat, repeat-kind}
-use Rattle.sheet.proofs.Sound.{Sound, rooms, top-sound}
+use Rattle.sheet.proofs.Sound.{rooms, top-sound}
+use Rattle.sheet.specs.Sound.{Sound}
 use Rattle.law_addresses.specs.Positions.{spanAs, spanOf, spanAt, Spans}
 use Rattle.law_addresses.proofs.Spots.{standing-few}
 

@@ -16,7 +16,8 @@ use Rattle.sheet.specs.declared.Container.{Container}
 use Rattle.sheet.specs.declared.Role.{Role}
 use Rattle.sheet.specs.declared.Role.the-variants.{Draws, Uses, Repeats, Defines, Unknown}
 use Rattle.sheet.proofs.Conditions.{entry-use}
-use Rattle.sheet.proofs.Sound.{Sound, Under, top-sound, block-sound, use-under, repeat-under}
+use Rattle.sheet.proofs.Sound.{Under, top-sound, block-sound, use-under, repeat-under}
+use Rattle.sheet.specs.Sound.{Sound}
 use Rattle.law_addresses.specs.Positions.{spanAt}
 use Rattle.law_addresses.proofs.Fitting.{no-repeat}
 use Rattle.law_addresses.specs.Chains.{chainsAs, entryChains, before, chains}

@@ -11,8 +11,7 @@ use lib.Dec.{lit≤}
 use lib.ListN.{replicate}
 use Rattle.base.specs.Run.{run, sums}
 use Rattle.base.proofs.Run.{run-cong, sums-cong}
-use Rattle.place.specs.Parts.{Parts, none, item, flashed, repeated, _then_}
-use Rattle.place.proofs.Parts.{pieces}
+use Rattle.place.specs.Parts.{Parts, none, item, flashed, repeated, _then_, pieces}
 use Rattle.sheet.specs.Records.{entryOf, roleOf}
 use Rattle.sheet.specs.Containers.{blockOf, bodyOf, topOf}
 use Rattle.sheet.specs.Meaning.{repeatOf}
@@ -21,8 +20,8 @@ use Rattle.sheet.specs.declared.Entry.{Entry}
 use Rattle.sheet.specs.declared.Container.{Container}
 use Rattle.sheet.specs.declared.Role.{Role}
 use Rattle.sheet.specs.declared.Role.the-variants.{Draws, Uses, Repeats, Defines, Unknown}
-use Rattle.sheet.proofs.Sound.{Sound}
-use Rattle.sheet.proofs.Parts.{partAs, partOf, parts, sheetParts}
+use Rattle.sheet.specs.Sound.{Sound}
+use Rattle.sheet.specs.Parts.{partAs, partOf, parts, sheetParts}
 use Rattle.law_addresses.specs.Positions.{stands, standsAt, spanAs, spanOf, spanAt}
 use Rattle.law_addresses.specs.Chains.{chainsAs, entryChains, before, chains}
 use Rattle.law_addresses.specs.Addresses.{raised, addressesAs, entryAddresses, sheetAddresses}

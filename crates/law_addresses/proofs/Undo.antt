@@ -17,7 +17,7 @@ use Rattle.sheet.specs.declared.Entry.{Entry}
 use Rattle.sheet.specs.declared.Container.{Container}
 use Rattle.sheet.specs.declared.Role.{Role}
 use Rattle.sheet.specs.declared.Role.the-variants.{Draws, Uses, Repeats, Defines, Unknown}
-use Rattle.sheet.proofs.Sound.{Sound}
+use Rattle.sheet.specs.Sound.{Sound}
 use Rattle.sheet.proofs.Every.{sums-grow}
 use Rattle.law_addresses.specs.Positions.{spanAs, spanOf, spanAt, spot}
 use Rattle.law_addresses.specs.declared.Spot.{Spot}

@@ -6,15 +6,16 @@ use mathlib.Core.Bool.{true}
 use mathlib.Core.List.{List, []}
 use native.Mathlib.Omega.{arith}
 use Rattle.base.specs.Run.{sums}
-use Rattle.place.specs.Parts.{Parts, itemsIn}
+use Rattle.place.specs.Parts.{Parts, itemsIn, pieces}
 use Rattle.place.specs.Mark.{Mark, finish, Around, top, within, block, repeat, Sheet, closed, marked, written, partsFrom, plain}
-use Rattle.place.proofs.Parts.{pieces}
 use Rattle.sheet.specs.Records.{entryWidth, entryRoom, apertureRoom}
 use Rattle.sheet.specs.Meaning.{sheetItems}
 use Rattle.sheet.specs.Valid.{most, valid}
 use Rattle.sheet.specs.declared.Aperture.{Aperture}
-use Rattle.sheet.proofs.Build.{ok-none, openParts, stacked}
-use Rattle.sheet.proofs.Parts.{sheetParts, sheet-items}
+use Rattle.sheet.proofs.Build.{ok-none}
+use Rattle.sheet.specs.Open.{openParts, stacked}
+use Rattle.sheet.proofs.Parts.{sheet-items}
+use Rattle.sheet.specs.Parts.{sheetParts}
 use Rattle.law_open_store.specs.Open.{opener, Opened}
 use Rattle.law_open_store.proofs.Close.{close-block, close-repeat}
 use Rattle.law_open_store.proofs.Finish.{Headed, finish-valid, finish-parts}

@@ -24,7 +24,7 @@ use Rattle.sheet.specs.declared.Container.{Container}
 use Rattle.sheet.specs.declared.Entry.{Entry}
 use Rattle.sheet.specs.declared.Role.the-variants.{Defines, Repeats}
 use Rattle.sheet.proofs.Conditions.{counts-ok}
-use Rattle.sheet.proofs.Parts.{partAs, partOf, parts}
+use Rattle.sheet.specs.Parts.{partAs, partOf, parts}
 use Rattle.law_open_store.specs.Open.{Level, opener, Opened, Built}
 use Rattle.law_open_store.specs.Closing.{Settled, defines, repeats}
 use Rattle.law_open_store.proofs.Frame.{Agrees}

@@ -20,7 +20,7 @@ use Rattle.sheet.specs.Valid.{sheetMark, most, okContainer, okBlock, isRepeat, 
 use Rattle.sheet.specs.declared.Container.{Container}
 use Rattle.sheet.proofs.Build.{sums-from}
 use Rattle.sheet.proofs.Every.{every-all}
-use Rattle.sheet.proofs.Parts.{sheetParts}
+use Rattle.sheet.specs.Parts.{sheetParts}
 use Rattle.law_open_store.specs.Open.{Opened, Built}
 use Rattle.law_open_store.proofs.Frame.{Agrees, kept-parts, container-same}
 use Rattle.law_open_store.proofs.Same.{body-kept}

@@ -20,8 +20,9 @@ use Rattle.sheet.specs.declared.Container.{Container}
 use Rattle.sheet.specs.declared.Role.{Role}
 use Rattle.sheet.specs.declared.Role.the-variants.{Draws, Uses, Repeats, Defines, Unknown}
 use Rattle.sheet.proofs.Conditions.{use-ok, repeat-ok, entry-use, entry-repeat, container-ok}
-use Rattle.sheet.proofs.Build.{OpenOk, ok-same, ok-run, sums-from, parts-frame, parts-fuel}
-use Rattle.sheet.proofs.Parts.{parts}
+use Rattle.sheet.proofs.Build.{ok-same, ok-run, sums-from, parts-frame, parts-fuel}
+use Rattle.sheet.specs.Open.{OpenOk}
+use Rattle.sheet.specs.Parts.{parts}
 
 -- the second store has the closed entries, the stack and the blocks of the first, and the apertures below `limit`
 pub record Agrees (room closed high n limit : ℕ) (e a e′ a′ : List ℕ) : Type 0 where

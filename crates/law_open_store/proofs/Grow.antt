@@ -17,8 +17,9 @@ use Rattle.sheet.specs.Containers.{bodyOf}
 use Rattle.sheet.specs.Valid.{okEntry, sizeOf, okContainer, isRepeat, bodyLength}
 use Rattle.sheet.specs.declared.Entry.{Entry}
 use Rattle.sheet.specs.declared.Role.the-variants.{Repeats}
-use Rattle.sheet.proofs.Build.{stacked, ok-snoc, open-push}
-use Rattle.sheet.proofs.Parts.{partOf, parts}
+use Rattle.sheet.proofs.Build.{ok-snoc, open-push}
+use Rattle.sheet.specs.Open.{stacked}
+use Rattle.sheet.specs.Parts.{partOf, parts}
 use Rattle.law_open_store.specs.Open.{Level, AtTop, Opened}
 use Rattle.law_open_store.proofs.Frame.{open-ok}
 

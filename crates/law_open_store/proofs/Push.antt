@@ -9,18 +9,18 @@ use native.Mathlib.Omega.{arith}
 use lib.Dec.{lit≤}
 use Rattle.base.specs.Run.{sums}
 use Rattle.base.proofs.Run.{sums-cong, sums-snoc}
-use Rattle.place.specs.Parts.{none, item, flashed}
+use Rattle.place.specs.Parts.{none, item, flashed, pieces}
 use Rattle.place.specs.declared.Repeat.{Repeat}
 use Rattle.place.specs.Mark.{begin, block, repeat, Sheet, partsOf, put, marked}
-use Rattle.place.proofs.Parts.{pieces}
 use Rattle.sheet.specs.Records.{entryOf, apertureOf, roleOf, entryRoom}
 use Rattle.sheet.specs.Containers.{blockOf}
 use Rattle.sheet.specs.Meaning.{drawn, poseOf, repeatOf}
 use Rattle.sheet.specs.Valid.{most, isBlock, okCounts, okEntry, sizeAs, sizeOf, blockLength}
 use Rattle.sheet.specs.declared.Entry.{Entry}
 use Rattle.sheet.specs.declared.Role.the-variants.{Draws, Uses, Repeats}
-use Rattle.sheet.proofs.Build.{stacked, ok-none, openParts}
-use Rattle.sheet.proofs.Parts.{partAs, partOf, parts}
+use Rattle.sheet.proofs.Build.{ok-none}
+use Rattle.sheet.specs.Open.{stacked, openParts}
+use Rattle.sheet.specs.Parts.{partAs, partOf, parts}
 use Rattle.law_open_store.specs.Open.{Level, Opened, Built}
 use Rattle.law_open_store.proofs.Frame.{Agrees, block-kept, fuel}
 use Rattle.law_open_store.proofs.Same.{opened-same}

@@ -17,8 +17,9 @@ use Rattle.sheet.specs.declared.Aperture.{Aperture}
 use Rattle.sheet.specs.declared.Entry.{Entry}
 use Rattle.sheet.specs.declared.Role.the-variants.{Uses, Repeats}
 use Rattle.sheet.proofs.Conditions.{entry-use, entry-repeat}
-use Rattle.sheet.proofs.Build.{stacked, ok-same, open-same}
-use Rattle.sheet.proofs.Parts.{parts}
+use Rattle.sheet.proofs.Build.{ok-same, open-same}
+use Rattle.sheet.specs.Open.{stacked}
+use Rattle.sheet.specs.Parts.{parts}
 use Rattle.law_open_store.specs.Open.{Level, opener, AtTop, Opened}
 use Rattle.law_open_store.proofs.Frame.{Agrees, Kept, open-ok, block-kept, kept-parts, container-same}
 

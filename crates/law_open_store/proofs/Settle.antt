@@ -16,8 +16,9 @@ use Rattle.sheet.specs.Valid.{most, okContainer, okBlock}
 use Rattle.sheet.specs.declared.Container.{Container}
 use Rattle.sheet.specs.declared.Role.the-variants.{Uses, Repeats}
 use Rattle.sheet.proofs.Conditions.{entry-use, entry-repeat}
-use Rattle.sheet.proofs.Build.{stacked, ok-same, open-same, open-close}
-use Rattle.sheet.proofs.Parts.{parts}
+use Rattle.sheet.proofs.Build.{ok-same, open-same, open-close}
+use Rattle.sheet.specs.Open.{stacked}
+use Rattle.sheet.specs.Parts.{parts}
 use Rattle.law_open_store.specs.Open.{Level}
 use Rattle.law_open_store.proofs.Frame.{Agrees, open-ok, open-container, block-kept, fuel, kept-parts}
 use Rattle.law_open_store.proofs.Steps.{same-block}

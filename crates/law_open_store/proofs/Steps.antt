@@ -19,7 +19,7 @@ use Rattle.sheet.specs.Valid.{isBlock, okEntry, sizeAs, sizeOf, okContainer, ok
 use Rattle.sheet.specs.declared.Aperture.{Aperture}
 use Rattle.sheet.specs.declared.Entry.{Entry}
 use Rattle.sheet.specs.declared.Role.the-variants.{Draws, Repeats}
-use Rattle.sheet.proofs.Parts.{partAs, partOf, parts}
+use Rattle.sheet.specs.Parts.{partAs, partOf, parts}
 use Rattle.law_open_store.specs.Open.{Built}
 use Rattle.law_open_store.proofs.Frame.{Agrees, block-kept, kept-parts, container-same}
 use Rattle.law_open_store.proofs.Same.{opened-same}

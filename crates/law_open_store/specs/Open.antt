@@ -15,8 +15,8 @@ use Rattle.sheet.specs.Meaning.{repeatOf}
 use Rattle.sheet.specs.Valid.{most, isBlock, okCounts, okContainer, okBlock, blockLength, bodyLength}
 use Rattle.sheet.specs.declared.Entry.{Entry}
 use Rattle.sheet.specs.declared.Role.the-variants.{Repeats}
-use Rattle.sheet.proofs.Build.{OpenOk, openParts, stacked}
-use Rattle.sheet.proofs.Parts.{parts}
+use Rattle.sheet.specs.Open.{OpenOk, openParts, stacked}
+use Rattle.sheet.specs.Parts.{parts}
 
 -- the entries of one open container, from `start` on, are its parts so far
 pub record Level (e a : List ℕ) (room n start len h t : ℕ) (ps : Parts) : Type 0 where

@@ -25,6 +25,7 @@ use Rattle.law_components.specs.Values as values
 use Rattle.law_components.specs.Values.{Value}
 use Rattle.law_components.specs.Parts.{Texts}
 use Rattle.layer.specs.Attributes.{valueOf, objectAt, textsAt}
+use Rattle.layer.specs.Said.{saidIn, saidBy, valueSaid, textsBy, saidObject}
 
 -- all of these commands begin before a place
 pub data Below (p : ℕ) : List Placed → Type 0 where
@@ -50,15 +51,6 @@ module _ (c : Placed) (post : List Placed) where
   from-is none = rw (eq-eqb (c .place) (c .place) refl, fromOn)
   from-is (one {c = d} {cs = cs} l b) = rw (ne-eqb (d .place) (c .place) (λ (e : d .place ≡ c .place). omega arith), fromOn) (from-is b)
 
--- what is said of a name, with these commands more
-unfoldable pub saidIn : List ℕ → Kind → List ℕ → Saying → List Placed → Saying
-saidIn file kind name s [] = s
-saidIn file kind name s (c ∷ cs) = saidIn file kind name (later s (sayingOf file kind name c)) cs
-
--- by these commands
-abbrev pub saidBy : List ℕ → Kind → List ℕ → List Placed → Saying
-saidBy file kind name cs = saidIn file kind name Silent cs
-
 heard-said : (book : Book) (file : List ℕ) (kind : Kind) (name : List ℕ) (h : Heard) (cs : List Placed) → heardIn book file kind name h cs .said ≡ saidIn file kind name (h .said) cs
 unfolding heardIn heardWith saidIn
 heard-said book file kind name h [] = refl
@@ -75,32 +67,11 @@ pub said-more : (file : List ℕ) (kind : Kind) (name : List ℕ) (cs : List Pla
 unfolding saidIn
 said-more file kind name cs c = said-append file kind name Silent cs (c ∷ [])
 
--- the value that is said
-unfoldable pub valueSaid : List ℕ → Saying → Value
-valueSaid file Silent = values.none
-valueSaid file Deletes = values.none
-valueSaid file (Sets place length) = values.held (take length (drop place file))
-
 pub said-value : (file : List ℕ) (s : Saying) → valueOf file (held s) ≡ valueSaid file s
 unfolding valueOf held valueSaid
 said-value file Silent = refl
 said-value file Deletes = refl
 said-value file (Sets place length) = refl
-
--- the six texts, as these commands say them
-abbrev pub saidObject : List ℕ → List Placed → String → Value
-saidObject file cs name = valueSaid file (saidBy file kind.Object (text name) cs)
-
-unfoldable pub textsBy : List ℕ → List Placed → Texts
-textsBy file cs =
-    record {
-      component = saidObject file cs ".C";
-      rotation = saidObject file cs ".CRot";
-      value = saidObject file cs ".CVal";
-      footprint = saidObject file cs ".CFtp";
-      mount = saidObject file cs ".CMnt";
-      pin = saidObject file cs ".P";
-    }
 
 -- a command of a file without fault, behind these commands
 module _ (book : Book) (file : List ℕ) (pre : List Placed) (c : Placed) (post : List Placed) (order : commandsOf book file .commands ≡ pre ++ (c ∷ post))

@@ -28,7 +28,7 @@ use Rattle.attribute_call.specs.Attribute.{later}
 use Rattle.law_components.specs.Values as values
 use Rattle.law_components.specs.Values.{Value, field}
 use Rattle.layer.specs.Work.{setBy}
-use Rattle.layer.proofs.Held.{valueSaid}
+use Rattle.layer.specs.Said.{valueSaid}
 use Rattle.notes.specs.Spans.{SpanIs}
 use Rattle.notes.specs.Designators.{Denotes, nothing, one, Designators, Grown, Kept, Hears}
 use Rattle.notes.specs.declared.Designated.{Designated}

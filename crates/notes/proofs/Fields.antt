@@ -23,7 +23,7 @@ use Rattle.law_components.specs.Values as values
 use Rattle.law_components.specs.Values.{bytesOf, field}
 use Rattle.law_components.proofs.Fields.{field-first, field-second}
 use Rattle.text.specs.Pieces.{parted}
-use Rattle.layer.proofs.Held.{valueSaid}
+use Rattle.layer.specs.Said.{valueSaid}
 use Rattle.notes.specs.Spans.{SpanIs, Follows}
 use Rattle.notes.specs.Functions.{functionIs, functionNumber, FunctionFollows}
 

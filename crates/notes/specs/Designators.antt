@@ -14,7 +14,7 @@ use Rattle.tables.specs.Macros.{macroOf}
 use Rattle.law_components.specs.Values as values
 use Rattle.law_components.specs.Values.{Value, field}
 use Rattle.layer.specs.Work.{setBy}
-use Rattle.layer.proofs.Held.{valueSaid}
+use Rattle.layer.specs.Said.{valueSaid}
 use Rattle.notes.specs.Spans.{SpanIs}
 use Rattle.notes.specs.declared.Designated.{Designated}
 

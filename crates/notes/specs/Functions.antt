@@ -7,7 +7,7 @@ use Rattle.text.specs.Text.{_is_}
 use Rattle.attribute_call.specs.declared.Saying.{Saying}
 use Rattle.attribute_call.specs.Attribute.{later}
 use Rattle.law_components.specs.Values.{Value, field}
-use Rattle.layer.proofs.Held.{valueSaid}
+use Rattle.layer.specs.Said.{valueSaid}
 
 unfoldable pub functionIs : List ℕ → ℕ
 functionIs s = cond (s is "ComponentMain") 1 (cond (s is "ComponentPin") 2 (cond (s is "ComponentOutline") 3 0))

@@ -8,7 +8,7 @@ use Rattle.command.specs.declared.Span.{Span}
 use Rattle.attribute_call.specs.declared.Saying.{Saying}
 use Rattle.attribute_call.specs.Attribute.{later}
 use Rattle.law_components.specs.Values.{field}
-use Rattle.layer.proofs.Held.{valueSaid}
+use Rattle.layer.specs.Said.{valueSaid}
 
 pub record SpanIs (file : List ℕ) (p : Span) (s : List ℕ) : Type 0 where
   pub ordered : p .from ≤ p .to

@@ -24,7 +24,7 @@ use Rattle.law_components.specs.Values.{bytesOf, field}
 use Rattle.layer.specs.Attributes.{functionIn, functionOf, isComponentIn, isComponent}
 use Rattle.layer.specs.Work.{operationsIn, aperturesIn, designatorsIn}
 use Rattle.layer.proofs.Held as held
-use Rattle.layer.proofs.Held.{saidIn, valueSaid, textsBy}
+use Rattle.layer.specs.Said.{saidIn, valueSaid, textsBy}
 use Rattle.notes.specs.Designators as designators
 use Rattle.notes.specs.Functions.{functionIs, functionNumber}
 use Rattle.notes.proofs.Fields.{nowhere-is}

@@ -15,7 +15,8 @@ use Rattle.law_components.specs.Values as values
 use Rattle.law_components.specs.Values.{Value}
 use Rattle.layer.specs.Made.{madeOf}
 use Rattle.layer.specs.Attributes.{valueOf, isApertureAs, functionIn}
-use Rattle.layer.proofs.Held.{saidIn, valueSaid, said-value}
+use Rattle.layer.proofs.Held.{said-value}
+use Rattle.layer.specs.Said.{saidIn, valueSaid}
 
 -- one of these commands is an AD with this number
 unfoldable pub hasAperture : ℕ → List Placed → Bool

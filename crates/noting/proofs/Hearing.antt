@@ -23,7 +23,8 @@ use Rattle.layer.specs.Made.{madeOf}
 use Rattle.layer.specs.Attributes.{declaresAs}
 use Rattle.layer.specs.Work.{itemsBy, aperturesBy, setBy, setsOf}
 use Rattle.layer.specs.declared.Made.{Made}
-use Rattle.layer.proofs.Held.{valueSaid, saidBy, said-more, saidObject, textsBy}
+use Rattle.layer.proofs.Held.{said-more}
+use Rattle.layer.specs.Said.{saidObject, valueSaid, saidBy, textsBy}
 use Rattle.notes.specs.Spans.{SpanIs, Follows}
 use Rattle.notes.specs.Designators.{Denotes, Grown, Hears}
 use Rattle.notes.specs.Functions.{FunctionFollows}

@@ -21,7 +21,6 @@ use Rattle.attribute_call.specs.Sayings.{textOf, sayingOf}
 use Rattle.attribute_call.specs.declared.Kind.the-variants as kind
 use Rattle.attribute_call.specs.declared.Saying.{Saying}
 use Rattle.attribute_call.specs.declared.Saying.the-variants.{Silent, Deletes, Sets}
-use Rattle.attribute_call.specs.declared.Saying.the-variants.{Silent}
 use Rattle.index.specs.Tree.{recordWidth}
 use Rattle.index.specs.Names.{nameOf}
 use Rattle.index.specs.Numbers.{numberOf, Numbered}
@@ -34,7 +33,8 @@ use Rattle.layer.specs.Attributes.{textsAt, isApertureAs, functionIn, declaresA
 use Rattle.layer.specs.Work.{itemsBy, aperturesBy, setBy, setsOf, operationsIn, aperturesIn, designatorsIn}
 use Rattle.layer.specs.declared.Made.{Made}
 use Rattle.layer.specs.declared.Made.the-variants.{Item, Aperture, File, Nothing}
-use Rattle.layer.proofs.Held.{Below, below-more, below-snoc, saidBy, textsBy, texts-at}
+use Rattle.layer.proofs.Held.{Below, below-more, below-snoc, texts-at}
+use Rattle.layer.specs.Said.{saidBy, textsBy}
 use Rattle.layer.proofs.Counts.{operations-append, apertures-append, designators-append, operations-one, apertures-one, designators-one}
 use Rattle.notes.specs.Spans.{SpanIs}
 use Rattle.notes.specs.Designators.{Designators, Grown}

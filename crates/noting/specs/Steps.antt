@@ -21,7 +21,7 @@ use Rattle.layer.specs.Attributes.{declaresAs}
 use Rattle.layer.specs.Work.{itemsBy, aperturesBy, setsOf}
 use Rattle.layer.specs.declared.Made.{Made}
 use Rattle.layer.specs.declared.Made.the-variants.{Item, Aperture, File, Nothing}
-use Rattle.layer.proofs.Held.{valueSaid, saidBy, textsBy}
+use Rattle.layer.specs.Said.{valueSaid, saidBy, textsBy}
 use Rattle.notes.specs.Spans.{SpanIs}
 use Rattle.notes.specs.Designators.{Denotes, Grown}
 use Rattle.notes.specs.Functions.{functionNumber}

@@ -8,18 +8,13 @@ use native.Mathlib.Omega.{arith}
 use Rattle.base.specs.Run.{run}
 use Rattle.place.specs.Outer.{flashedBy}
 use Rattle.place.specs.Copies.{copies}
-use Rattle.place.specs.Parts.{Parts, none, item, flashed, repeated, _then_, itemsIn}
+use Rattle.place.specs.Parts.{Parts, none, item, flashed, repeated, _then_, itemsIn, pieces}
 use Rattle.place.specs.declared.Item.{Item}
 
 -- items one behind the other
 unfoldable pub inRow : List Item → Parts
 inRow [] = none
 inRow (t ∷ ts) = item t (inRow ts)
-
--- f p, then f (p + 1), and so on: n pieces
-unfoldable pub pieces : (ℕ → Parts) → ℕ → ℕ → Parts
-pieces f p zero = none
-pieces f p (suc n) = f p then pieces f (suc p) n
 
 pub then-none : (ps : Parts) → ps then none ≡ ps
 unfolding _then_

@@ -1,5 +1,5 @@
 -- What stands on a sheet, part by part, and the items that it puts out (01, Items; decisions 102 to 105, 440).
-use Prim.Native.Nat.{ℕ}
+use Prim.Native.Nat.{ℕ, zero, suc, _+_}
 use mathlib.Core.List.{List, [], _∷_, _++_, map}
 use Rattle.place.specs.Outer.{flashedBy}
 use Rattle.place.specs.Copies.{copies}
@@ -28,3 +28,8 @@ itemsIn none = []
 itemsIn (item t ps) = t ∷ itemsIn ps
 itemsIn (flashed place m b ps) = map (flashedBy place m) (itemsIn b) ++ itemsIn ps
 itemsIn (repeated r b ps) = copies r (itemsIn b) ++ itemsIn ps
+
+-- f p, then f (p + 1), and so on: n pieces
+unfoldable pub pieces : (ℕ → Parts) → ℕ → ℕ → Parts
+pieces f p zero = none
+pieces f p (suc n) = f p then pieces f (suc p) n

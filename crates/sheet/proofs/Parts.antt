@@ -7,8 +7,8 @@ use Rattle.base.proofs.Run.{run-cong}
 use Rattle.place.specs.declared.Item.{Item}
 use Rattle.place.specs.Outer.{flashedBy}
 use Rattle.place.specs.Copies.{copies}
-use Rattle.place.specs.Parts.{Parts, none, item, flashed, repeated, itemsIn}
-use Rattle.place.proofs.Parts.{pieces, items-pieces}
+use Rattle.place.specs.Parts.{Parts, none, item, flashed, repeated, itemsIn, pieces}
+use Rattle.place.proofs.Parts.{items-pieces}
 use Rattle.sheet.specs.Records.{entryOf, roleOf}
 use Rattle.sheet.specs.Containers.{blockOf, bodyOf, topOf}
 use Rattle.sheet.specs.Meaning.{drawn, poseOf, repeatOf, puts, entryItems, items, sheetItems}
@@ -16,25 +16,7 @@ use Rattle.sheet.specs.declared.Entry.{Entry}
 use Rattle.sheet.specs.declared.Container.{Container}
 use Rattle.sheet.specs.declared.Role.{Role}
 use Rattle.sheet.specs.declared.Role.the-variants.{Draws, Uses, Repeats, Defines, Unknown}
-
--- the part that an entry is, where `below k` are those of the container k
-unfoldable pub partAs : Role → List ℕ → (Container → Parts) → Entry → Parts
-partAs Draws a below r = item (drawn r) none
-partAs Uses a below r = flashed (r .place) (poseOf r) (below (blockOf a (r .who))) none
-partAs Repeats a below r = repeated (repeatOf r) (below (bodyOf r)) none
-partAs Defines a below r = none
-partAs Unknown a below r = none
-
-unfoldable pub partOf : List ℕ → (Container → Parts) → Entry → Parts
-partOf a below r = partAs (roleOf (r .kind)) a below r
-
--- the parts of a container, whose blocks nest below h deep
-unfoldable pub parts : List ℕ → List ℕ → ℕ → Container → Parts
-parts e a zero k = none
-parts e a (suc h) k = pieces (λ i. partOf a (parts e a h) (entryOf e i)) (k .first) (k .len)
-
-unfoldable pub sheetParts : List ℕ → List ℕ → List ℕ → Parts
-sheetParts head e a = parts e a 10 (topOf head)
+use Rattle.sheet.specs.Parts.{partAs, partOf, parts, sheetParts}
 
 part-items : (a : List ℕ) (below : Container → List Item) (under : Container → Parts) (r : Entry) → ((k : Container) → itemsIn (under k) ≡ below k) →
     itemsIn (partOf a under r) ≡ entryItems a below r

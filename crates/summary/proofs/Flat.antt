@@ -17,7 +17,8 @@ use Rattle.sheet.specs.declared.Container.{Container}
 use Rattle.sheet.specs.declared.Role.{Role}
 use Rattle.sheet.specs.declared.Role.the-variants.{Draws, Uses, Repeats, Defines, Unknown}
 use Rattle.sheet.proofs.Conditions.{entry-repeat, repeat-kind}
-use Rattle.sheet.proofs.Sound.{Sound, top-sound, repeat-under}
+use Rattle.sheet.proofs.Sound.{top-sound, repeat-under}
+use Rattle.sheet.specs.Sound.{Sound}
 use Rattle.summary_rows.specs.Rows.{copiedRow}
 use Rattle.summary_rows.specs.Summed.{rowOf}
 use Rattle.summary_rows.specs.declared.Asked.{Asked}

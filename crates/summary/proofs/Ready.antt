@@ -20,7 +20,8 @@ use Rattle.sheet.specs.declared.Container.{Container}
 use Rattle.sheet.specs.declared.Role.{Role}
 use Rattle.sheet.specs.declared.Role.the-variants.{Draws, Uses, Repeats, Defines, Unknown}
 use Rattle.sheet.proofs.Conditions.{WordsOk, entry-words, entry-repeat, drawn-within, RepeatOk, repeat-kind}
-use Rattle.sheet.proofs.Sound.{Sound, rooms, top-sound, repeat-under}
+use Rattle.sheet.proofs.Sound.{rooms, top-sound, repeat-under}
+use Rattle.sheet.specs.Sound.{Sound}
 use Rattle.summary_rows.specs.Rows.{noRow, merged, movedRow, copiedRow, ExtentWithin, nothing-in}
 use Rattle.summary_rows.specs.Summed.{itemRow}
 use Rattle.summary_rows.specs.declared.Row.{Row}

@@ -23,7 +23,8 @@ use Rattle.sheet.specs.declared.Role.{Role}
 use Rattle.sheet.specs.declared.Role.the-variants.{Draws, Uses, Repeats, Defines, Unknown}
 use Rattle.sheet.proofs.Every.{sums-grow}
 use Rattle.sheet.proofs.Conditions.{entry-words, entry-use, entry-repeat, drawn-within, flash-within, RepeatOk, repeat-kind}
-use Rattle.sheet.proofs.Sound.{Sound, Under, rooms, top-sound, use-under, repeat-under}
+use Rattle.sheet.proofs.Sound.{Under, rooms, top-sound, use-under, repeat-under}
+use Rattle.sheet.specs.Sound.{Sound}
 use Rattle.sheet.proofs.Expand.{length-items}
 use Rattle.summary_rows.specs.Rows.{noRow, merged, movedRow, copiedRow, ExtentWithin, Steps}
 use Rattle.summary_rows.specs.Summed.{rowOf}
