@@ -1,6 +1,6 @@
 #!/usr/bin/env bash
-# The items that the program `gate_lists` takes in lists, by two runs of eight slots, are those of the listing of tests/runs.gbr, which draws the
-# same panel: all fields but the two places, since the store of `gate_lists` is written by hand.
+# The items that the program `gate_lists` takes in lists, by two runs of eight slots, are those of the listing of tests/runs.gbr, which draws
+# the same panel: all fields but the two places, since the store of `gate_lists` is written by hand.
 set -u
 cd "$(dirname "$0")/.." || exit 2
 mapfile -t listing < <(./run --say listing)
