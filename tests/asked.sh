@@ -1,5 +1,5 @@
 #!/usr/bin/env bash
-# The stored answers of the program `asked` are the second reader's, at every place of its file.
+# The stored answers of the program `gate_attribute` are the second reader's, at every place of its file.
 set -eu
 cd "$(dirname "$0")/.."
 made=$PWD/target/second

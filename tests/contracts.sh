@@ -24,9 +24,10 @@ for source in crates/*/src/*.rt; do
 done
 
 # The calls: all that these crates make public, of descend those for a sheet, and of lines the line of an item.
-for crate in reader mender descend lists addressing address attribute labels lookup figures signature intake digest hex lent lines assembly numbered host; do
+for crate in reader mend_call descend lists address summary attribute_call labels shapes signature intake digest hex state_call lines placement_call numbered host; do
+    [ -f "crates/$crate/src/lib.rt" ] || { fault "there is no crate $crate, which is said to make calls"; continue; }
     for name in $(lacking "crates/$crate/src/lib.rt" requires 1); do
-        case $crate:$name in descend:find | descend:item_at | lookup:primitive_at | lines:add | lines:add_signed) ;; *) fault "$crate: $name is a call, and requires something" ;; esac
+        case $crate:$name in descend:find | descend:item_at | lines:add | lines:add_signed) ;; *) fault "$crate: $name is a call, and requires something" ;; esac
     done
 done
 
@@ -37,7 +38,7 @@ while IFS= read -r line; do
     [ -f "crates/$name/src/lib.rt" ] || continue
     grep -q '^ *pub fn\|^ *fn\|extern "C" fn' "crates/$name/src/lib.rt" || continue
     edits=$(find "crates/$name/must-fail" "wrong/$name" -name '*.edit' 2>/dev/null | wc -l)
-    case " attribute labels lookup figures signature digest descend reader mender lists lent address addressing assembly host " in *" $name "*) least=2 ;; *) least=1 ;; esac
+    case " attribute_call labels shapes signature digest descend reader summary mend_call lists state_call address placement_call host " in *" $name "*) least=2 ;; *) least=1 ;; esac
     [ "$edits" -ge "$least" ] || fault "$name has $edits must-fail edits, and $least at least are asked"
 done <crates.txt
 

@@ -29,8 +29,8 @@ done < <(awk -F'|' '/^\|/ && NF >= 4 {
     n = split($3, parts, ";")
     for (i = 1; i <= n; i++) {
         part = parts[i]
-        gsub(/[a-z]+\/proofs\/[A-Za-z.]+/, "", part)
-        if (match(part, /[a-z0-9]+\/[A-Z][A-Za-z]+/)) {
+        gsub(/[a-z0-9_]+\/proofs\/[A-Za-z.]+/, "", part)
+        if (match(part, /[a-z0-9_]+\/[A-Z][A-Za-z]+/)) {
             split(substr(part, RSTART, RLENGTH), at, "/"); crate = at[1]; file = at[2]
             part = substr(part, RSTART + RLENGTH)
             print crate, file, "-"
@@ -51,7 +51,7 @@ done < <(awk -F'|' '/^\|/ && NF >= 4 {
 while IFS=/ read -r crate name; do
     [ -d "crates/$crate" ] || continue
     [ -e "crates/$crate/must-fail/$name.edit" ] || [ -e "wrong/$crate/$name.edit" ] || fault "docs/CONTRACTS.md names the wrong program $crate/$name, which is not there"
-done < <(grep -oE '(^|[ ,(])[a-z0-9]+/[a-z0-9]+(_[a-z0-9]+)+' docs/CONTRACTS.md | tr -d ' ,(' | sort -u)
+done < <(grep -oE '(^|[ ,(])[a-z0-9_]+/[a-z0-9]+(_[a-z0-9]+)+' docs/CONTRACTS.md | tr -d ' ,(' | sort -u)
 
 while IFS= read -r number; do
     grep -q "^| $number[ *]" docs/DECISIONS.md || fault "decision $number is cited, and is not there"
