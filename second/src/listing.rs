@@ -174,7 +174,7 @@ pub fn write_changes(out: &mut dyn Write, mended: &Mended) -> io::Result<()> {
         let (name, place) = change.name_and_place();
         writeln!(out, "{name}\t{place}")?;
     }
-    let digest = digest::hex(&digest::digest(&mended.file));
+    let digest = md5::hex(&md5::digest(&mended.file));
     writeln!(out, "bytes\t{}\t{digest}", mended.file.len())
 }
 

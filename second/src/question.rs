@@ -201,7 +201,7 @@ pub fn answer(asked: &Asked, file: &[u8], out: &mut dyn Write) -> io::Result<()>
             Err(refusal) => writeln!(out, "{}", listing::refusal_line(refusal)),
         },
         Question::Verify => match signature(file, terms) {
-            Ok(digest) => writeln!(out, "signed\t{}", digest::hex(&digest)),
+            Ok(digest) => writeln!(out, "signed\t{}", md5::hex(&digest)),
             Err(refusal) => writeln!(out, "{}", listing::refusal_line(refusal)),
         },
     }

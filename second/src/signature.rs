@@ -23,7 +23,7 @@ pub fn signature(file: &[u8], terms: Terms) -> Result<[u8; 16], Refusal> {
     }
     let (place, signed) = before.and_then(signed_digest).ok_or(Refusal::new(25, end))?;
     let digest = digest_before(file, place);
-    if digest::hex(&digest).as_bytes() == signed.to_ascii_lowercase() {
+    if md5::hex(&digest).as_bytes() == signed.to_ascii_lowercase() {
         Ok(digest)
     } else {
         Err(Refusal::new(24, end))
@@ -48,7 +48,7 @@ fn signed_digest(raw: Raw<'_>) -> Option<(usize, &[u8])> {
 pub fn digest_before(file: &[u8], place: usize) -> [u8; 16] {
     let bytes = file[..place].iter().copied();
     let message: Vec<u8> = bytes.filter(|byte| !is_line_end(*byte)).collect();
-    digest::digest(&message)
+    md5::digest(&message)
 }
 
 #[cfg(test)]
@@ -66,7 +66,7 @@ mod tests {
     #[test]
     fn line_ends_do_not_count() {
         let text = "G04 one*\r\n%MOMM*%\n";
-        let digest = digest::hex(&digest::digest(b"G04 one*%MOMM*%"));
+        let digest = md5::hex(&md5::digest(b"G04 one*%MOMM*%"));
         assert!(verified(&signed(text, &digest)).is_ok());
         assert!(verified(&signed(text, &digest.to_uppercase())).is_ok());
         let wrong = signed(text, &"0".repeat(32));

@@ -1,1 +1,1 @@
-// The store that `build` and `close` leave shows the marks that were put: proofs/ has a law for each mark, and the theorem of the end. No code.
+// The store that `build` leaves shows the marks that were put: proofs/ has a law for each mark, and the theorem of the end. No code.

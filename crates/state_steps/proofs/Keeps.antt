@@ -59,7 +59,7 @@ module _ (w : Lent) (p : Progress) (s : State) (k : Knows w p s) where
     contour = λ e. k .contour (c .contour e);
   }
 
--- each plain command keeps what is known of the graphics state
+-- each command that keeps the rooms keeps what is known of the graphics state
 module _ (g : Graphics) (k : Keeps g g) where
   header-keeps : (h : Header) → Keeps g (withHeader h g)
   unfolding withHeader
@@ -141,16 +141,16 @@ module _ (g : Graphics) (k : Keeps g g) where
   after-keeps (Define d) q l e = absurd (false≢true q)
   after-keeps (Contain b) q l e = absurd (false≢true q)
 
--- a plain command goes nowhere
-pub plain-reached : (g : Graphics) (l : Level) (c : Command) → keepsRooms c ≡ true → faultOf g l c ≡ 0 → Reached c g
+-- a command that keeps the rooms goes nowhere
+pub state-reached : (g : Graphics) (l : Level) (c : Command) → keepsRooms c ≡ true → faultOf g l c ≡ 0 → Reached c g
 unfolding keepsRooms faultOf Reached
-plain-reached g l (Broken flaw) q e = tt
-plain-reached g l Note q e = tt
-plain-reached g l End q e = tt
-plain-reached g l (Set s) q e = tt
-plain-reached g l (Operate o) q e = absurd (false≢true q)
-plain-reached g l (Coded code o) q e = absurd (false≢true q)
-plain-reached g l (Attribute d) q e = tt
-plain-reached g l (Select n) q e = tt
-plain-reached g l (Define d) q e = tt
-plain-reached g l (Contain b) q e = tt
+state-reached g l (Broken flaw) q e = tt
+state-reached g l Note q e = tt
+state-reached g l End q e = tt
+state-reached g l (Set s) q e = tt
+state-reached g l (Operate o) q e = absurd (false≢true q)
+state-reached g l (Coded code o) q e = absurd (false≢true q)
+state-reached g l (Attribute d) q e = tt
+state-reached g l (Select n) q e = tt
+state-reached g l (Define d) q e = tt
+state-reached g l (Contain b) q e = tt

@@ -1,4 +1,4 @@
--- What a plain command comes to, whatever is known.
+-- What a command that keeps the rooms comes to, whatever is known.
 -- Assumes nothing.
 use Prim.Native.Nat.{ℕ}
 use mathlib.Core.Path.{_≡_, sym, ap, subst, _∙_}
@@ -27,12 +27,12 @@ use Rattle.progress.specs.declared.Stepped.the-variants.{Next, Fault}
 use Rattle.progress.specs.declared.Struck.the-variants as struck
 use Rattle.state_steps.specs.KeepsRooms.{keepsRooms, faultOf}
 use Rattle.state_steps.proofs.Keeps.{Keeps, keeps-itself, still-known, move-keeps, after-keeps}
-use Rattle.state_steps.proofs.Steps.{plain-step}
+use Rattle.state_steps.proofs.Steps.{state-step}
 
 module _ (p : Progress) (c : Command) (text : List ℕ) (place : ℕ) (q : keepsRooms c ≡ true) (l : Level) (at : l ≡ levelOf p) where
   fault-is : (w : Lent) (s : State) → Knows w p s → stepOf (roomOf w) text place c s .fault ≡ faultOf (p .graphics) l c
   fault-is w s k =
-      ap (λ t. t .fault) (plain-step (roomOf w) text place s c q) ∙ sym (λ i. faultOf (k .graphics i) ((at ∙ k .level) i) c)
+      ap (λ t. t .fault) (state-step (roomOf w) text place s c q) ∙ sym (λ i. faultOf (k .graphics i) ((at ∙ k .level) i) c)
 
   pub set-refuses :
       (n : ℕ)
@@ -55,7 +55,7 @@ module _ (p : Progress) (c : Command) (text : List ℕ) (place : ℕ) (q : keeps
       let known : Knows w (withGraphics (after c (s .graphics)) p) (state.withGraphics (after c (s .graphics)) s) = still-known w p s k _ now in
       let same : after c (s .graphics) ≡ g = sym (a ∙ ap (after c) (k .graphics)) in (
         fault-is w s k ∙ e,
-        subst (λ t. Knows w r (t .next)) (sym (plain-step (roomOf w) text place s c q))
+        subst (λ t. Knows w r (t .next)) (sym (state-step (roomOf w) text place s c q))
             (rw r-is (subst (λ h. Knows w (withGraphics h p) (state.withGraphics (after c (s .graphics)) s)) same known)),
       )
 

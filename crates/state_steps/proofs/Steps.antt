@@ -1,4 +1,4 @@
--- A plain command's step: its fault, and the graphics state behind it.
+-- The step of a command that keeps the rooms: its fault, and the graphics state after it.
 -- Assumes nothing.
 use Prim.Native.Nat.{ℕ}
 use mathlib.Core.Path.{_≡_, refl}
@@ -22,18 +22,18 @@ module _ (room : Room) (text : List ℕ) (place : ℕ) (s : State) where
   deed-step (deed.Delete name) q = refl
   deed-step deed.DeleteAll q = refl
 
-  pub plain-step :
+  pub state-step :
       (c : Command)
       → keepsRooms c ≡ true
       → stepOf room text place c s ≡ does (faultOf (s .graphics) (s .level) c) (withGraphics (after c (s .graphics)) s)
   unfolding keepsRooms stepOf settingStep faultOf after withGraphics
-  plain-step (Broken flaw) q = refl
-  plain-step Note q = refl
-  plain-step End q = refl
-  plain-step (Set x) q = refl
-  plain-step (Operate o) q = absurd (false≢true q)
-  plain-step (Coded code o) q = absurd (false≢true q)
-  plain-step (Attribute d) q = deed-step d q
-  plain-step (Select n) q = absurd (false≢true q)
-  plain-step (Define d) q = absurd (false≢true q)
-  plain-step (Contain b) q = absurd (false≢true q)
+  state-step (Broken flaw) q = refl
+  state-step Note q = refl
+  state-step End q = refl
+  state-step (Set x) q = refl
+  state-step (Operate o) q = absurd (false≢true q)
+  state-step (Coded code o) q = absurd (false≢true q)
+  state-step (Attribute d) q = deed-step d q
+  state-step (Select n) q = absurd (false≢true q)
+  state-step (Define d) q = absurd (false≢true q)
+  state-step (Contain b) q = absurd (false≢true q)

@@ -1,4 +1,4 @@
--- The plain commands: those that read and write none of the lent rooms, but D02. They set the graphics state, or nothing (01, State).
+-- The commands that keep the rooms: those that read and write none of the lent rooms, but D02. They set the graphics state, or nothing (01, State).
 use Prim.Native.Nat.{ℕ}
 use mathlib.Core.Bool.{Bool, true, false}
 use Rattle.command.specs.Flaws.{flawNumber}
@@ -31,7 +31,7 @@ keepsRooms (Select n) = false
 keepsRooms (Define d) = false
 keepsRooms (Contain b) = false
 
--- the fault of a plain command, 0 for none; of the others nothing is asked here
+-- the fault of a command that keeps the rooms, 0 for none; of the others nothing is asked here
 unfoldable pub deedFault : Graphics → Deed → ℕ
 deedFault g (deed.SetFile name value) = 0
 deedFault g (deed.SetAperture name value) = regionFault g

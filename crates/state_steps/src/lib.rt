@@ -32,7 +32,7 @@ fn deed_fault(g: Graphics, d: Deed) -> u64
     }
 }
 
-// The number of the first rule that a plain command breaks, 0 where it keeps all.
+// The number of the first rule that a command that keeps the rooms breaks, 0 where it keeps all.
 pub fn fault_of(g: Graphics, l: Level, c: Command) -> u64
     ensures { λ r. ⌜ r ≡ faultOf g l c ⌝ }
 {
@@ -50,7 +50,7 @@ pub fn fault_of(g: Graphics, l: Level, c: Command) -> u64
     }
 }
 
-// A plain command: its fault, or the graphics state after it.
+// A command that keeps the rooms: its fault, or the graphics state after it.
 pub fn set(p: Progress, c: Command) -> Stepped
     requires { ⌜ keepsRooms c ≡ true ⌝ }
     ensures { λ r. ⌜ ((text : List ℕ) (place : ℕ) → StepsTo (λ room s. stepOf room text place c s) (λ w. Unit) (λ w. w) p r) ⌝ }

@@ -32,7 +32,7 @@ pub fn broken(seed: u64, index: u64, terms: Terms) -> Vec<u8> {
         _ => {}
     }
     if random.percent(10) {
-        gate_damage::damage(&mut random, &mut file);
+        damage::damage(&mut random, &mut file);
     }
     file
 }

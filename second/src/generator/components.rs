@@ -10,7 +10,7 @@ pub fn components(seed: u64, index: u64, terms: Terms) -> Vec<u8> {
     layer.write();
     let mut file = layer.text.into_bytes();
     if layer.random.percent(5) {
-        gate_damage::damage(&mut layer.random, &mut file);
+        damage::damage(&mut layer.random, &mut file);
     }
     file
 }

@@ -20,7 +20,7 @@ use std::path::Path;
 use crate::scan::LONGEST_FILE;
 use crate::terms::{Letters, Terms};
 pub use broken::broken;
-pub use law_components::components;
+pub use components::components;
 pub use questions::questions;
 use random::Random;
 use writer::Writer;
@@ -66,7 +66,7 @@ pub fn file(seed: u64, index: u64, terms: Terms) -> Vec<u8> {
     let mut file = match random.below(100) {
         0..=24 => Writer::whole(random, terms),
         25..=37 => Writer::panel(random, terms),
-        38..=51 => gate_damage::whole(random, terms),
+        38..=51 => damage::whole(random, terms),
         52..=79 => aimed::whole(random, terms),
         80..=92 => wild::whole(random, terms),
         _ => soup::whole(random, terms),

@@ -1,6 +1,6 @@
 -- `state_steps::set` meets its contract: by the fault that is found, or the graphics state behind the command.
 use Rattle.state_steps.proofs.Sets.{set-refuses, set-goes-on}
-use Rattle.state_steps.proofs.Keeps.{plain-reached}
+use Rattle.state_steps.proofs.Keeps.{state-reached}
 use mathlib.Core.Path.{sym, _∙_}
 use borrow.Author.Needs.{needs}
 use Rattle.state_steps.proofs.set.Statement.{statement}
@@ -17,7 +17,7 @@ returns c = λ text place. set-refuses (c .before .before .before .before .args 
 
 after-requires : tie.Need-after-requires
 after-requires c κs =
-    plain-reached _ _ (c .before .before .before .before .args .c) (c .before .before .before .before .pre) (sym (c .before .fault-of .ensures) ∙ c .if1 .left)
+    state-reached _ _ (c .before .before .before .before .args .c) (c .before .before .before .before .pre) (sym (c .before .fault-of .ensures) ∙ c .if1 .left)
 
 with-graphics-requires : tie.Need-with-graphics-requires
 with-graphics-requires c κs = search needs

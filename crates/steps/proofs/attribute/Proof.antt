@@ -1,4 +1,4 @@
--- `steps::attribute` meets its contract: TF by its function's promise, the others because they are plain commands.
+-- `steps::attribute` meets its contract: TF by its function's promise, the others because they are commands that keep the rooms.
 -- Assumes nothing.
 use mathlib.Core.Path.{ap}
 use Rattle.command.specs.declared.Command.the-variants.{Attribute}

@@ -31,8 +31,8 @@ pub fn whole(random: Random, terms: Terms) -> Vec<u8> {
     writer.steps(steps);
     writer.header();
     match number {
-        4 => macro_form::malformed(&mut writer),
-        5 => macro_form::too_long(&mut writer),
+        4 => form::malformed(&mut writer),
+        5 => form::too_long(&mut writer),
         7 => places::not_here(&mut writer),
         8 => places::names(&mut writer),
         9 => apertures::expressions(&mut writer),

@@ -209,7 +209,7 @@ impl Writer {
 
     /// A signature, now and then a wrong one.
     fn sign(&mut self) {
-        let mut digest = digest::hex(&digest_before(&self.file, self.file.len()));
+        let mut digest = md5::hex(&digest_before(&self.file, self.file.len()));
         match self.random.below(5) {
             0 => digest = digest.to_uppercase(),
             1 => digest.replace_range(31.., "0"),
