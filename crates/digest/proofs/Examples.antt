@@ -1,4 +1,4 @@
--- Three of RFC 1321's seven test strings (section A.5), from the definitions alone; the program `vectors` runs all seven.
+-- Three of RFC 1321's seven test strings (section A.5), from the definitions alone; the program `gate_digest` runs all seven.
 -- Assumes nothing.
 use mathlib.Core.Path.{_≡_, refl}
 use mathlib.Core.List.{[], _∷_}

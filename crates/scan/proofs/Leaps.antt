@@ -26,10 +26,10 @@ use Rattle.scan.proofs.Printable.{not-stopped, printable-may}
 use Rattle.scan.proofs.Run.{at-inside}
 
 -- one byte
-plain-step : (book : Book) (s : Stand) (b at : ℕ) → isWhole (s .follow) ≡ true → s .part ≡ Over → stops (endOf (s .kind)) b ≡ false →
+printable-step : (book : Book) (s : Stand) (b at : ℕ) → isWhole (s .follow) ≡ true → s .part ≡ Over → stops (endOf (s .kind)) b ≡ false →
     step book (Inside s) b at ≡ Inside (idle (s .kind) Over b)
 unfolding step inside within moved idle kindAfter opensMacro partAfter
-plain-step book s b at w p e =
+printable-step book s b at w p e =
     let n = not-stopped (endOf (s .kind)) b e in
     rw (w, n .0, printable-may (s .kind) (s .last) b (n .1), p, n .1)
 
@@ -56,7 +56,7 @@ module _ (book : Book) (file : List ℕ) (place : ℕ) where
 
   one : (s : Stand) → isWhole (s .follow) ≡ true → s .part ≡ Over → (i : ℕ) → (i < length file) × (stops (endOf (s .kind)) (getD file i 0) ≡ false) →
       behind (s .kind) i ≡ walked book file place s i
-  one s w p i g = sym (at-inside book file place (Inside s) i (g .0) (plain-step book s (getD file i 0) i w p (g .1)))
+  one s w p i g = sym (at-inside book file place (Inside s) i (g .0) (printable-step book s (getD file i 0) i w p (g .1)))
 
   more : (kind : Kind) (n i to : ℕ) → i + 1 + n ≡ to → printableTo (endOf kind) file (i + 1) ≡ to → behind kind (to - 1) ≡ behind kind i
   unfolding idle
