@@ -177,6 +177,8 @@ fn steps(book: Book, first: Graphics, text: &[u8], letters: &[u8]) -> Graphics {
     let mut at: usize = 0;
     let mut k: usize = 0;
     while k < letters.len() {
+        let letter = letters[k];
+        k += 1;
         let s = scan::next_command(book, text, at);
         match s {
             Scan::Command {
@@ -186,7 +188,7 @@ fn steps(book: Book, first: Graphics, text: &[u8], letters: &[u8]) -> Graphics {
                 next,
                 ..
             } => {
-                g = take(book, g, kind, base::part(text, from, end), letters[k]);
+                g = take(book, g, kind, base::part(text, from, end), letter);
                 at = next;
             }
             Scan::BadByte { .. } => {
@@ -196,7 +198,6 @@ fn steps(book: Book, first: Graphics, text: &[u8], letters: &[u8]) -> Graphics {
                 return g;
             }
         }
-        k += 1;
     }
     g
 }
