@@ -42,6 +42,22 @@ while IFS= read -r line; do
     [ "$edits" -ge "$least" ] || fault "$name has $edits must-fail edits, and $least at least are asked"
 done <crates.txt
 
+# What specs/ says rests on specs/ alone; and a crate's name says whether it has code: law_ for definitions and laws alone, gate_ for a
+# program that only the gate runs.
+while IFS= read -r file; do
+    fault "$file cites proofs"
+done < <(grep -lE '^use Rattle·[a-z0-9_]+(\.|·proofs\.)proofs\.' crates/*/specs/*.antt)
+for source in crates/*/src/lib.rt; do
+    crate=${source#crates/}
+    crate=${crate%%/*}
+    if grep -qE '^ *(pub )?(extern "C" )?fn ' "$source"; then code=1; else code=; fi
+    case $crate in law_*) [ -z "$code" ] || fault "$crate has code, and is named as laws" ;; *) [ -n "$code" ] || fault "$crate has no code, and is not named law_" ;; esac
+done
+for source in crates/*/src/main.rt; do
+    crate=${source#crates/}
+    case ${crate%%/*} in listing | verify | placement | gate_*) ;; *) fault "${crate%%/*} is a program of the gate, and is not named gate_" ;; esac
+done
+
 while IFS= read -r file; do
     fault "$file names a path of a machine"
 done < <(git ls-files -z | xargs -0 grep -lE '(^|[^A-Za-z0-9_.])/(work|opt|home|root|tmp)/[A-Za-z]' 2>/dev/null)
