@@ -7,9 +7,12 @@ pub mod Tables
 pub mod Entries
 pub mod Sizes
 pub mod Found
+pub mod Account
 pub mod Counted
 pub mod Rooms
 pub mod Cut
+pub mod Spelt
+pub mod Carried
 pub mod Coordinates
 pub mod Stands
 pub mod Macros

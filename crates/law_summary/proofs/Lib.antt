@@ -1,5 +1,6 @@
 pub mod Tools
 pub mod Knowing
+pub mod Drawing
 pub mod Steps
 pub mod Plain
 pub mod Records

@@ -33,7 +33,9 @@ use Rattle.noting.specs.Holds.{wordAt, roleNumber, Roomy, Noted, Makes, 
 use Rattle.noting.specs.declared.Noting.{Noting}
 use Rattle.noting.proofs.Roles.{number-found}
 use Rattle.noting.proofs.Functions.{hasAperture, function-none}
-use Rattle.noting.proofs.Known.{NotesKnown, RolesKnown, Known}
+use Rattle.noting.proofs.Known.{Known}
+use Rattle.noting.proofs.RolesKnown.{RolesKnown}
+use Rattle.noting.proofs.NotesKnown.{NotesKnown}
 
 no-command : {place : ℕ} {A : Type 0} → Makes place [] → A
 no-command = elim [ ]

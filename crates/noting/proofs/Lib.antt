@@ -2,6 +2,8 @@ pub mod Hearing
 pub mod Roles
 pub mod Functions
 pub mod Turns
+pub mod NotesKnown
+pub mod RolesKnown
 pub mod Known
 pub mod Ends
 pub mod Going
