@@ -72,7 +72,7 @@ loop-less : tie.Need-loop-less Inv-loop μ-loop
 loop-less c = let l = c .before .before .before .before .before .before .before .loop in let e = sym (c .before .before .before .before .before .before .turn-at .ensures) ∙ c .before .before .before .before .t3 .given .1 in omega (arith, more-onward _ (l .format) _ (l .at) (l .inv .0) e .0, more-onward _ (l .format) _ (l .at) (l .inv .0) e .1)
 
 loop-again : tie.Need-loop-again Inv-loop μ-loop
-loop-again c = let l = c .before .before .before .before .before .before .before .loop in let e = sym (c .before .before .before .before .before .before .turn-at .ensures) ∙ c .before .before .before .before .t3 .given .1 in (more-onward _ (l .format) _ (l .at) (l .inv .0) e .1, simp (c .left-after .ensures, c .before .met2 .ensures, c .before .before .told-of2 .ensures) (sym (pass-more _ _ _ (l .left) (l .found) _ _) ∙ sym (ap (outcome _ _ _ (l .left) (l .found)) (walk-more _ (l .format) _ (l .at) (l .inv .0) e)) ∙ l .inv .1))
+loop-again c = let l = c .before .before .before .before .before .before .before .loop in let e = sym (c .before .before .before .before .before .before .turn-at .ensures) ∙ c .before .before .before .before .t3 .given .1 in (more-onward _ (l .format) _ (l .at) (l .inv .0) e .1, simp (c .left-after .ensures, c .before .met2 .ensures, c .before .before .label-set-by2 .ensures) (sym (pass-more _ _ _ (l .left) (l .found) _ _) ∙ sym (ap (outcome _ _ _ (l .left) (l .found)) (walk-more _ (l .format) _ (l .at) (l .inv .0) e)) ∙ l .inv .1))
 
 pub pass-spec : {M : Type 1} → statement M
 pass-spec =

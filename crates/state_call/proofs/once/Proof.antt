@@ -60,9 +60,9 @@ use Rattle.state_call.proofs.Stepped as S
 use Rattle.state_call.proofs.Stepped.Laws as S′
 use Rattle.state_call.proofs.step as step
 use Rattle.state_call.proofs.step.Symbol as step-def
-use Rattle.state_call.proofs.step.Symbol.{name as #lent·step}
+use Rattle.state_call.proofs.step.Symbol.{name as #state_call·step}
 use Rattle.state_call.proofs.step.Met as step-thm
-use Rattle.state_call.proofs.once.Key.{name as #lent·once}
+use Rattle.state_call.proofs.once.Key.{name as #state_call·once}
 use Rattle.state_call.proofs.once as once
 use Rattle.state_call.proofs.once.Statement as stated
 use Rattle.state_call.proofs.once.Code as code
@@ -145,7 +145,7 @@ module _ {M : Type 1} (𝓤 : URA M) (H : Heap 𝓤) (A : Atoms 𝓤) (W : Given
       qed W (‵ (flft (ν ∷ []) fullShare) ∷ ‵ (MutRef (named 0) (ν ∷ []) R .own (x b γ) (vptr b 0 ∷ [])) ∷ []) ∵ nothing ! $ owned ! K.the-row (Is K.the-row) (LL.makes K.the-type K′.the-plain 𝓤 H A) k _ gk $ fjoin ! $ owned ! E.the-row (Is E.the-row) (EL.makes E.the-type E′.the-plain 𝓤 H A) c _ gc $ fjoin ! $ owned ! Lv.the-row (Is Lv.the-row) (LL.makes Lv.the-type Lv′.the-plain 𝓤 H A) l _ gl $ fjoin ! $
       move ! (2 ∷ 0 ∷ []) $ fjoin ! $ nothing ! $ move ! (2 ∷ 0 ∷ []) $ join ! $ join ! $ frame ! $ done !
 
-  module _ (C : Calls 𝓤 H) (Λ : Loops 𝓤 H) (fm : FmC 𝓤 H (W .laws) C) (known : Triple 𝓤 (C #lent·step) (Step 𝓤 H A at-mem run)) where
+  module _ (C : Calls 𝓤 H) (Λ : Loops 𝓤 H) (fm : FmC 𝓤 H (W .laws) C) (known : Triple 𝓤 (C #state_call·step) (Step 𝓤 H A at-mem run)) where
     walk : ent 𝓤 (onEntry 𝓤 H A once.signature tt tt a at) (WpFn 𝓤 H C Λ code.function (mach h ∷ lev l ∷ cmd c ∷ fac k ∷ []) Post)
     walk =
         qed W (‵ ftrue ∷ ‵ (owns (R ∷ Lv.the-row ∷ E.the-row ∷ K.the-row ∷ []) a at) ∷ []) ∵ keep ! [] $ enter ! C Λ code.function (mach h ∷ lev l ∷ cmd c ∷ fac k ∷ []) _ $
@@ -180,14 +180,14 @@ module _ {M : Type 1} (𝓤 : URA M) (H : Heap 𝓤) (A : Atoms 𝓤) (W : Given
         keep ! [] $ by ! (exits n (ws .0) made e))))))))))))))))))
 
 module _ {M : Type 1} (𝓤 : URA M) (H : Heap 𝓤) (A : Atoms 𝓤) (W : Given 𝓤 H A) (at-mem : Memory → SProp 𝓤) (run : Routine → Fun 𝓤) where
-  once-walks : (C : Calls 𝓤 H) (Λ : Loops 𝓤 H) → FmC 𝓤 H (W .laws) C → Triple 𝓤 (C #lent·step) (Step 𝓤 H A at-mem run) → Walks 𝓤 H A once.ended stayed (WpFn 𝓤 H C Λ code.function) (once.clauses 𝓤 H A at-mem run)
+  once-walks : (C : Calls 𝓤 H) (Λ : Loops 𝓤 H) → FmC 𝓤 H (W .laws) C → Triple 𝓤 (C #state_call·step) (Step 𝓤 H A at-mem run) → Walks 𝓤 H A once.ended stayed (WpFn 𝓤 H C Λ code.function) (once.clauses 𝓤 H A at-mem run)
   once-walks C Λ fm known = walked 𝓤 H A once.ended stayed (once.clauses 𝓤 H A at-mem run) (WpFn 𝓤 H C Λ code.function) (λ κs. (LL.vals T.the-type T′.the-laws, (LL.vals Lv.the-type Lv′.the-laws, (EL.vals E.the-type E′.the-laws, (LL.vals K.the-type K′.the-laws, tt))))) (λ κs. (LL.tells T.the-type T′.the-laws, (LL.tells Lv.the-type Lv′.the-laws, (EL.tells E.the-type E′.the-laws, (LL.tells K.the-type K′.the-laws, tt)))))
       (λ κs qs bounds a g are. via 𝓤 _ (fst∗ 𝓤 _ (emp 𝓤)) (walk 𝓤 H A W at-mem run (a .0) (a .1 .0) (a .1 .1 .0) (are .0) (are .1 .0) (are .1 .1 .0) (a .1 .1 .1 .0) (are .1 .1 .1 .0) C Λ fm known))
 
   goes : AllGo 𝓤 H A W 0 (once.signature .params) (once.ended .kept) stayed
   goes = (goes-none 𝓤 H A W 0 (λ _. R) yes (λ κs x f. refl), (goes-none 𝓤 H A W 0 (λ _. Lv.the-row) yes (λ κs x f. refl), (goes-none 𝓤 H A W 0 (λ _. E.the-row) yes (λ κs x f. refl), (goes-none 𝓤 H A W 0 (λ _. K.the-row) yes (λ κs x f. refl), tt))))
 
-once-meets : {M : Type 1} (𝓤 : URA M) (H : Heap 𝓤) (A : Atoms 𝓤) → Given 𝓤 H A → (at-mem : Memory → SProp 𝓤) (run : Routine → Fun 𝓤) (𝓣 : Tables 𝓤 H) → Triple 𝓤 (𝓣 .C #lent·step) (Step 𝓤 H A at-mem run)
+once-meets : {M : Type 1} (𝓤 : URA M) (H : Heap 𝓤) (A : Atoms 𝓤) → Given 𝓤 H A → (at-mem : Memory → SProp 𝓤) (run : Routine → Fun 𝓤) (𝓣 : Tables 𝓤 H) → Triple 𝓤 (𝓣 .C #state_call·step) (Step 𝓤 H A at-mem run)
     → Meets 𝓤 H A once.signature (WpFn 𝓤 H (𝓣 .C) (𝓣 .Λ) code.function) (once.spec 𝓤 H A at-mem run)
 once-meets 𝓤 H A W at-mem run 𝓣 known = walk-meets 𝓤 H A once.ended stayed W (goes 𝓤 H A W at-mem run) (once.clauses 𝓤 H A at-mem run) (WpFn 𝓤 H (𝓣 .C) (𝓣 .Λ) code.function) (WpFn-mono 𝓤 H (W .laws) 𝓣 code.function) (once-walks 𝓤 H A W at-mem run (𝓣 .C) (𝓣 .Λ) (fmOf 𝓤 H (W .laws) 𝓣) known)
 
@@ -195,6 +195,6 @@ pub once-spec : {M : Type 1} → stated.statement M
 unfolding code.routine tablesOf
 once-spec 𝓤 H 𝓜 𝓖 𝓡 =
     entered 𝓤 H (tripleOf 𝓤 H (𝓖 .A) once.signature (once.spec 𝓤 H (𝓖 .A) (𝓜 .mem) (𝓡 .run)))
-    (tables 𝓤 H 𝓜 𝓡 code.env .C) (tables 𝓤 H 𝓜 𝓡 code.env .Λ) #lent·once code.function (code.unfolded 𝓤 H 𝓜 𝓡)
+    (tables 𝓤 H 𝓜 𝓡 code.env .C) (tables 𝓤 H 𝓜 𝓡 code.env .Λ) #state_call·once code.function (code.unfolded 𝓤 H 𝓜 𝓡)
     (once-meets 𝓤 H (𝓖 .A) (givenOf 𝓤 H 𝓜 𝓖) (𝓜 .mem) (𝓡 .run) (tablesOf 𝓤 H 𝓜 (tables 𝓤 H 𝓜 𝓡 code.env))
-    (cited 𝓤 H (Step 𝓤 H (𝓖 .A) (𝓜 .mem) (𝓡 .run)) 𝓜 𝓡 code.env #lent·step step-def.routine code.calls-lent·step (step-thm.met 𝓤 H 𝓜 𝓖 𝓡)))
+    (cited 𝓤 H (Step 𝓤 H (𝓖 .A) (𝓜 .mem) (𝓡 .run)) 𝓜 𝓡 code.env #state_call·step step-def.routine code.calls-state-call·step (step-thm.met 𝓤 H 𝓜 𝓖 𝓡)))

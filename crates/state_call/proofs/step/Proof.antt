@@ -59,9 +59,9 @@ use Rattle.state_call.proofs.Stepped as S
 use Rattle.state_call.proofs.Stepped.Laws as S′
 use Rattle.state_call.proofs.next as next
 use Rattle.state_call.proofs.next.Symbol as next-def
-use Rattle.state_call.proofs.next.Symbol.{name as #lent·next}
+use Rattle.state_call.proofs.next.Symbol.{name as #state_call·next}
 use Rattle.state_call.proofs.next.Met as next-thm
-use Rattle.state_call.proofs.step.Key.{name as #lent·step}
+use Rattle.state_call.proofs.step.Key.{name as #state_call·step}
 use Rattle.state_call.proofs.step as step
 use Rattle.state_call.proofs.step.Statement as stated
 use Rattle.state_call.proofs.step.Code as code
@@ -137,7 +137,7 @@ module _ {M : Type 1} (𝓤 : URA M) (H : Heap 𝓤) (A : Atoms 𝓤) (W : Given
   goes-next g =
       qed W [] ∵ nothing ! $ owned ! K.the-row (Is K.the-row) (LL.makes K.the-type K′.the-plain 𝓤 H A) k _ gk $ fjoin ! $ owned ! E.the-row (Is E.the-row) (EL.makes E.the-type E′.the-plain 𝓤 H A) c _ gc $ fjoin ! $ owned ! Lv.the-row (Is Lv.the-row) (LL.makes Lv.the-type Lv′.the-plain 𝓤 H A) l _ gl $ fjoin ! $ owned ! T.the-row (Is T.the-row) (LL.makes T.the-type T′.the-plain 𝓤 H A) h _ g $ fjoin ! $ nothing ! $ join ! $ frame ! $ done !
 
-  module _ (C : Calls 𝓤 H) (Λ : Loops 𝓤 H) (fm : FmC 𝓤 H (W .laws) C) (known : Triple 𝓤 (C #lent·next) (Next 𝓤 H A at-mem run)) where
+  module _ (C : Calls 𝓤 H) (Λ : Loops 𝓤 H) (fm : FmC 𝓤 H (W .laws) C) (known : Triple 𝓤 (C #state_call·next) (Next 𝓤 H A at-mem run)) where
     walk : ent 𝓤 (onEntry 𝓤 H A step.signature (κ, tt) (q, tt) x at) (WpFn 𝓤 H C Λ code.function (vptr b o ∷ lev l ∷ cmd c ∷ fac k ∷ []) Post)
     walk =
         qed W ((‵ (flft κ q) ⊛ ‵ ftrue) ∷ ‵ (owns (MutRef (named 0) κ (T.the-row) ∷ Lv.the-row ∷ E.the-row ∷ K.the-row ∷ []) x at) ∷ []) ∵ split ! $ move ! (2 ∷ []) $ fsplit ! $ fsplit3 ! $ drop ! $ keep ! (0 ∷ 1 ∷ 3 ∷ []) $
@@ -166,14 +166,14 @@ module _ {M : Type 1} (𝓤 : URA M) (H : Heap 𝓤) (A : Atoms 𝓤) (W : Given
         keep ! (0 ∷ 1 ∷ 2 ∷ []) $ by ! (exits r e (parts r w is .0)))))))))))))))
 
 module _ {M : Type 1} (𝓤 : URA M) (H : Heap 𝓤) (A : Atoms 𝓤) (W : Given 𝓤 H A) (at-mem : Memory → SProp 𝓤) (run : Routine → Fun 𝓤) where
-  step-walks : (C : Calls 𝓤 H) (Λ : Loops 𝓤 H) → FmC 𝓤 H (W .laws) C → Triple 𝓤 (C #lent·next) (Next 𝓤 H A at-mem run) → Walks 𝓤 H A step.ended stayed (WpFn 𝓤 H C Λ code.function) (step.clauses 𝓤 H A at-mem run)
+  step-walks : (C : Calls 𝓤 H) (Λ : Loops 𝓤 H) → FmC 𝓤 H (W .laws) C → Triple 𝓤 (C #state_call·next) (Next 𝓤 H A at-mem run) → Walks 𝓤 H A step.ended stayed (WpFn 𝓤 H C Λ code.function) (step.clauses 𝓤 H A at-mem run)
   step-walks C Λ fm known = walked 𝓤 H A step.ended stayed (step.clauses 𝓤 H A at-mem run) (WpFn 𝓤 H C Λ code.function) (λ κs. (ptr-vals, (LL.vals Lv.the-type Lv′.the-laws, (EL.vals E.the-type E′.the-laws, (LL.vals K.the-type K′.the-laws, tt))))) (λ κs. (mut-tells (named 0) (κs .0) (T.the-row), (LL.tells Lv.the-type Lv′.the-laws, (EL.tells E.the-type E′.the-laws, (LL.tells K.the-type K′.the-laws, tt)))))
       (λ κs qs bounds a g are. via 𝓤 _ (fst∗ 𝓤 _ (emp 𝓤)) (walk 𝓤 H A W at-mem run (κs .0) (qs .0) (a .0 .ptr .0) (a .0 .ptr .1) (a .0 .name) (a .0 .now) (a .1 .0) (are .1 .0) (a .1 .1 .0) (are .1 .1 .0) (a .1 .1 .1 .0) (are .1 .1 .1 .0) C Λ fm known))
 
   goes : AllGo 𝓤 H A W 1 (step.signature .params) (step.ended .kept) stayed
   goes = (goes-ref 𝓤 H A W 1 0 tt (plain (λ _. T.the-row)), (goes-none 𝓤 H A W 1 (λ _. Lv.the-row) yes (λ κs x f. refl), (goes-none 𝓤 H A W 1 (λ _. E.the-row) yes (λ κs x f. refl), (goes-none 𝓤 H A W 1 (λ _. K.the-row) yes (λ κs x f. refl), tt))))
 
-step-meets : {M : Type 1} (𝓤 : URA M) (H : Heap 𝓤) (A : Atoms 𝓤) → Given 𝓤 H A → (at-mem : Memory → SProp 𝓤) (run : Routine → Fun 𝓤) (𝓣 : Tables 𝓤 H) → Triple 𝓤 (𝓣 .C #lent·next) (Next 𝓤 H A at-mem run)
+step-meets : {M : Type 1} (𝓤 : URA M) (H : Heap 𝓤) (A : Atoms 𝓤) → Given 𝓤 H A → (at-mem : Memory → SProp 𝓤) (run : Routine → Fun 𝓤) (𝓣 : Tables 𝓤 H) → Triple 𝓤 (𝓣 .C #state_call·next) (Next 𝓤 H A at-mem run)
     → Meets 𝓤 H A step.signature (WpFn 𝓤 H (𝓣 .C) (𝓣 .Λ) code.function) (step.spec 𝓤 H A at-mem run)
 step-meets 𝓤 H A W at-mem run 𝓣 known = walk-meets 𝓤 H A step.ended stayed W (goes 𝓤 H A W at-mem run) (step.clauses 𝓤 H A at-mem run) (WpFn 𝓤 H (𝓣 .C) (𝓣 .Λ) code.function) (WpFn-mono 𝓤 H (W .laws) 𝓣 code.function) (step-walks 𝓤 H A W at-mem run (𝓣 .C) (𝓣 .Λ) (fmOf 𝓤 H (W .laws) 𝓣) known)
 
@@ -181,6 +181,6 @@ pub step-spec : {M : Type 1} → stated.statement M
 unfolding code.routine tablesOf
 step-spec 𝓤 H 𝓜 𝓖 𝓡 =
     entered 𝓤 H (tripleOf 𝓤 H (𝓖 .A) step.signature (step.spec 𝓤 H (𝓖 .A) (𝓜 .mem) (𝓡 .run)))
-    (tables 𝓤 H 𝓜 𝓡 code.env .C) (tables 𝓤 H 𝓜 𝓡 code.env .Λ) #lent·step code.function (code.unfolded 𝓤 H 𝓜 𝓡)
+    (tables 𝓤 H 𝓜 𝓡 code.env .C) (tables 𝓤 H 𝓜 𝓡 code.env .Λ) #state_call·step code.function (code.unfolded 𝓤 H 𝓜 𝓡)
     (step-meets 𝓤 H (𝓖 .A) (givenOf 𝓤 H 𝓜 𝓖) (𝓜 .mem) (𝓡 .run) (tablesOf 𝓤 H 𝓜 (tables 𝓤 H 𝓜 𝓡 code.env))
-    (cited 𝓤 H (Next 𝓤 H (𝓖 .A) (𝓜 .mem) (𝓡 .run)) 𝓜 𝓡 code.env #lent·next next-def.routine code.calls-lent·next (next-thm.met 𝓤 H 𝓜 𝓖 𝓡)))
+    (cited 𝓤 H (Next 𝓤 H (𝓖 .A) (𝓜 .mem) (𝓡 .run)) 𝓜 𝓡 code.env #state_call·next next-def.routine code.calls-state-call·next (next-thm.met 𝓤 H 𝓜 𝓖 𝓡)))
