@@ -29,7 +29,10 @@ index-requires-2 : tie.Need-index-requires-2
 index-requires-2 c κs = search needs
 
 standing-requires : tie.Need-standing-requires
-standing-requires c κs = rw (c .index2 .ensures, c .before .index .ensures) (c .before .before .before .before .before .before .pre (as-role (c .before .before .before .before) (c .before .before .enum-told3 .given .1)))
+standing-requires c κs =
+    let enum-told3 = c .before .before in
+    let start = enum-told3 .before .before .before .before in
+    rw (c .index2 .ensures, c .before .index .ensures) (start .pre (as-role (enum-told3 .before .before) (enum-told3 .enum-told3 .given .1)))
 
 enum-told-4 : tie.Need-enum-told-4
 enum-told-4 c = search needs

@@ -30,15 +30,19 @@ role-of-requires c κs = search needs
 stands-as-requires : tie.Need-stands-as-requires Inv-loop μ-loop
 stands-as-requires c κs = search needs
 
+-- the places that facts are read at
+abbrev call : tie.At-loop Inv-loop μ-loop → tie.Start Inv-loop μ-loop
+call c = c .before .before
+
 -- the entry's positions are added
 added : (c : tie.After-stands-as Inv-loop μ-loop) →
-    let l = c .before .before .before .before .loop in let A = c .before .before .before .before .before .before .args in
+    let l = c .before .before .before .before .loop in let A = call (c .before .before .before .before) .args in
     l .so-far + c .stands-as .result ≡ sums (standsAt (A .e .now)) (A .p) (l .i + 1)
 added c = next-sum _ _ _ _ _ (c .before .before .before .before .loop .inv .1) (rw (c .stands-as .ensures, c .before .role-of .ensures, c .before .before .entry-at .ensures))
 
 add-so-far : tie.Need-add-so-far Inv-loop μ-loop
 add-so-far c =
-    let l = c .before .before .before .before .loop in let A = c .before .before .before .before .before .before .args in
+    let l = c .before .before .before .before .loop in let A = call (c .before .before .before .before) .args in
     omega (arith, added c, standing-few (A .e .now) (A .p) (l .i + 1))
 
 add-i : tie.Need-add-i Inv-loop μ-loop

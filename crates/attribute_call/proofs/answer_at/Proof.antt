@@ -39,8 +39,9 @@ held-requires-2 c κs = search needs
 returns-2 : tie.Need-returns-2
 unfolding answerAt
 returns-2 c =
-    let o = c .before .before .before .before .outline-of .ensures ∙ ap (outlineOf _) (c .before .before .before .before .before .before .before .part .ensures) in
-    row-fails _ (ap (takenAt _) (sym (c .before .before .before .before .before .before .before .part .ensures)) ∙ sym (c .before .before .before .before .before .before .taken-at .ensures) ∙ c .before .before .before .before .before .if1 .left)
+    let if1 = c .before .before .before .before .before in
+    let o = c .before .before .before .before .outline-of .ensures ∙ ap (outlineOf _) (if1 .before .before .part .ensures) in
+    row-fails _ (ap (takenAt _) (sym (if1 .before .before .part .ensures)) ∙ sym (if1 .before .taken-at .ensures) ∙ if1 .if1 .left)
     (row-holds _ (ap (beginsContour _) (sym o) ∙ sym (c .before .before .before .begins-contour .ensures) ∙ c .before .before .if2 .taken)
     (carried-at _ _ o (c .before .pick .ensures) (c .held2 .ensures)))
 
@@ -50,8 +51,9 @@ refused-requires c κs = search needs
 returns-3 : tie.Need-returns-3
 unfolding answerAt
 returns-3 c =
-    let o = c .before .before .before .outline-of .ensures ∙ ap (outlineOf _) (c .before .before .before .before .before .before .part .ensures) in
-    row-fails _ (ap (takenAt _) (sym (c .before .before .before .before .before .before .part .ensures)) ∙ sym (c .before .before .before .before .before .taken-at .ensures) ∙ c .before .before .before .before .if1 .left)
+    let taken-at = c .before .before .before .before .before in
+    let o = c .before .before .before .outline-of .ensures ∙ ap (outlineOf _) (taken-at .before .part .ensures) in
+    row-fails _ (ap (takenAt _) (sym (taken-at .before .part .ensures)) ∙ sym (taken-at .taken-at .ensures) ∙ c .before .before .before .before .if1 .left)
     (row-fails _ (ap (beginsContour _) (sym o) ∙ sym (c .before .before .begins-contour .ensures) ∙ c .before .if2 .left)
     (c .refused .ensures))
 

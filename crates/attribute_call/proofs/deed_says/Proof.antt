@@ -69,20 +69,23 @@ returns c = rw (c .enum-told .given .1)
 returns-2 : tie.Need-returns-2
 unfolding saying
 returns-2 c =
-    rw (c .before .before .before .before .before .before .d .given .1)
-    (simp (c .pick .ensures, c .before .both .ensures, c .before .before .is-named .ensures, c .before .before .before .value-in .ensures, c .before .before .before .before .up-to .ensures, c .before .before .before .before .before .before .before .before .asks-ta .ensures, c .before .before .before .before .before .before .before .before .before .part .ensures))
+    let up-to = c .before .before .before .before in
+    rw (up-to .before .before .d .given .1)
+    (simp (c .pick .ensures, c .before .both .ensures, c .before .before .is-named .ensures, c .before .before .before .value-in .ensures, up-to .up-to .ensures, up-to .before .before .before .before .asks-ta .ensures, up-to .before .before .before .before .before .part .ensures))
 
 returns-3 : tie.Need-returns-3
 unfolding saying
 returns-3 c =
-    rw (c .before .before .before .before .before .before .d2 .given .1)
-    (simp (c .pick2 .ensures, c .before .both2 .ensures, c .before .before .is-named2 .ensures, c .before .before .before .value-in2 .ensures, c .before .before .before .before .up-to2 .ensures, c .before .before .before .before .before .before .before .before .asks-ta .ensures, c .before .before .before .before .before .before .before .before .before .part .ensures))
+    let up-to2 = c .before .before .before .before in
+    rw (up-to2 .before .before .d2 .given .1)
+    (simp (c .pick2 .ensures, c .before .both2 .ensures, c .before .before .is-named2 .ensures, c .before .before .before .value-in2 .ensures, up-to2 .up-to2 .ensures, up-to2 .before .before .before .before .asks-ta .ensures, up-to2 .before .before .before .before .before .part .ensures))
 
 returns-4 : tie.Need-returns-4
 unfolding saying
 returns-4 c =
-    rw (c .before .before .before .d3 .given .1)
-    (simp (c .pick3 .ensures, c .before .is-named3 .ensures, c .before .before .before .before .before .before .part .ensures))
+    let d3 = c .before .before .before in
+    rw (d3 .d3 .given .1)
+    (simp (c .pick3 .ensures, c .before .is-named3 .ensures, d3 .before .before .before .part .ensures))
 
 returns-5 : tie.Need-returns-5
 unfolding saying

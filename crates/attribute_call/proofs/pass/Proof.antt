@@ -56,8 +56,9 @@ judged-requires-2 c κs = search needs
 
 returns-2 : tie.Need-returns-2 Inv-loop μ-loop
 returns-2 c =
-    let l = c .before .before .before .before .before .before .before .loop in
-    let e = sym (c .before .before .before .before .before .before .turn-at .ensures) ∙ c .before .before .before .before .t2 .given .1 in
+    let t2 = c .before .before .before .before in
+    let l = t2 .before .before .before .loop in
+    let e = sym (t2 .before .before .turn-at .ensures) ∙ t2 .t2 .given .1 in
     simp (c .judged2 .ensures, c .before .met .ensures, c .before .before .tail-fault .ensures)
     (sym (pass-stops _ _ _ _ _ _ _ _) ∙ sym (pass-more _ _ _ _ _ (l .found) (l .heard) _ _) ∙ sym (ap (outcome _ _ _ _ _ _ _) (walk-last _ (l .format) _ (l .at) e)) ∙ l .inv .1)
 
@@ -72,14 +73,16 @@ heard-with-requires c κs = search needs
 
 loop-less : tie.Need-loop-less Inv-loop μ-loop
 loop-less c =
-    let l = c .before .before .before .before .before .before .loop in
-    let e = sym (c .before .before .before .before .before .turn-at .ensures) ∙ c .before .before .before .t3 .given .1 in
+    let turn-at = c .before .before .before .before .before in
+    let l = turn-at .before .loop in
+    let e = sym (turn-at .turn-at .ensures) ∙ c .before .before .before .t3 .given .1 in
     omega (arith, more-onward _ (l .format) _ (l .at) (l .inv .0) e .0, more-onward _ (l .format) _ (l .at) (l .inv .0) e .1)
 
 loop-again : tie.Need-loop-again Inv-loop μ-loop
 loop-again c =
-    let l = c .before .before .before .before .before .before .loop in
-    let e = sym (c .before .before .before .before .before .turn-at .ensures) ∙ c .before .before .before .t3 .given .1 in (
+    let turn-at = c .before .before .before .before .before in
+    let l = turn-at .before .loop in
+    let e = sym (turn-at .turn-at .ensures) ∙ c .before .before .before .t3 .given .1 in (
       more-onward _ (l .format) _ (l .at) (l .inv .0) e .1,
       simp (c .heard-with .ensures, c .before .met2 .ensures)
           (sym (pass-more _ _ _ _ _ (l .found) (l .heard) _ _) ∙ sym (ap (outcome _ _ _ _ _ _ _) (walk-more _ (l .format) _ (l .at) (l .inv .0) e)) ∙ l .inv .1),

@@ -50,18 +50,19 @@ pick-requires-4 c κs = search needs
 returns : tie.Need-returns
 unfolding attributeOf
 returns c =
-    simp (
+    let begins3 = c .before .before .before .before in
+    let pick = begins3 .before .before .before .before .before in simp (
       c .pick4 .ensures,
       c .before .is-name .ensures,
       c .before .before .part .ensures,
       c .before .before .before .pick3 .ensures,
-      c .before .before .before .before .begins3 .ensures,
-      c .before .before .before .before .before .before .pick2 .ensures,
-      c .before .before .before .before .before .before .before .begins2 .ensures,
-      c .before .before .before .before .before .before .before .before .before .pick .ensures,
-      c .before .before .before .before .before .before .before .before .before .before .begins .ensures,
-      c .before .before .before .before .before .before .before .before .before .before .before .before .value-of .ensures,
-      c .before .before .before .before .before .before .before .before .before .before .before .before .before .find .ensures,
+      begins3 .begins3 .ensures,
+      begins3 .before .before .pick2 .ensures,
+      begins3 .before .before .before .begins2 .ensures,
+      pick .pick .ensures,
+      pick .before .begins .ensures,
+      pick .before .before .before .value-of .ensures,
+      pick .before .before .before .before .find .ensures,
     )
 
 pub attribute-of-spec : {M : Type 1} → statement M

@@ -38,8 +38,9 @@ pick-requires c κs = search needs
 returns-2 : tie.Need-returns-2
 unfolding deletionOf
 returns-2 c =
-    row-fails _ (sym (c .before .before .before .before .before .before .before .is .ensures) ∙ c .before .before .before .before .before .before .if1 .left)
-    (simp (c .pick .ensures, c .before .both .ensures, c .before .before .is-name .ensures, c .before .before .before .from-on .ensures, c .before .before .before .before .begins .ensures))
+    let begins = c .before .before .before .before in
+    row-fails _ (sym (begins .before .before .before .is .ensures) ∙ begins .before .before .if1 .left)
+    (simp (c .pick .ensures, c .before .both .ensures, c .before .before .is-name .ensures, c .before .before .before .from-on .ensures, begins .begins .ensures))
 
 pub deletion-of-spec : {M : Type 1} → statement M
 deletion-of-spec =

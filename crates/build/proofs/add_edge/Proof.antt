@@ -15,7 +15,9 @@ same-length c = search needs
 
 returns : tie.Need-returns
 unfolding edged
-returns c = rw (c .before .before .before .before .before .before .count-edge .ensures) at (c .before .before .add-item .ensures)
+returns c =
+    let add-item = c .before .before in
+    rw (add-item .before .before .before .before .count-edge .ensures) at (add-item .add-item .ensures)
 
 pub add-edge-spec : {M : Type 1} → statement M
 add-edge-spec = tie.close (tie.spec count-edge-requires add-item-requires same-length returns)

@@ -20,7 +20,11 @@ index-requires : tie.Need-index-requires
 index-requires c κs = search needs
 
 put-block-requires : tie.Need-put-block-requires
-put-block-requires c κs = rw (c .index .ensures, c .before .before .before .before .before .before .before .before .opener-of .ensures) (c .before .before .before .before .before .before .before .before .before .before .before .before .pre .1)
+put-block-requires c κs =
+    let settle = c .before .before .before .before in
+    let opener-of = settle .before .before .before .before in
+    let start = opener-of .before .before .before .before in
+    rw (c .index .ensures, opener-of .opener-of .ensures) (start .pre .1)
 
 add-t14 : tie.Need-add-t14
 add-t14 c = search needs
@@ -35,7 +39,10 @@ same-length-2 : tie.Need-same-length-2
 same-length-2 c = search needs
 
 returns : tie.Need-returns
-returns c = rw (c .index2 .ensures, c .before .before .before .before .before .before .before .before .before .before .before .before .before .opener-of .ensures) (record { leaves = rw (c .before .before .before .before .before .before .before .before .before .before .block-left .ensures, c .before .before .before .before .before .before .before .before .before .before .before .before .before .opener-of .ensures) at (c .before .before .before .before .before .before .before .before .before .settle .ensures); stores = rw (c .before .before .before .before .before .index .ensures, c .before .before .before .before .before .before .before .before .before .before .before .before .before .opener-of .ensures) at (c .before .before .before .before .put-block .ensures); next = refl })
+returns c =
+    let index = c .before .before .before .before .before in
+    let block-left = index .before .before .before .before .before in
+    rw (c .index2 .ensures, block-left .before .before .before .opener-of .ensures) (record { leaves = rw (block-left .block-left .ensures, block-left .before .before .before .opener-of .ensures) at (index .before .before .before .before .settle .ensures); stores = rw (index .index .ensures, block-left .before .before .before .opener-of .ensures) at (c .before .before .before .before .put-block .ensures); next = refl })
 
 pub close-block-spec : {M : Type 1} → statement M
 close-block-spec =

@@ -27,13 +27,21 @@ mul-t12 : tie.Need-mul-t12
 mul-t12 c = search needs
 
 add-t13 : tie.Need-add-t13
-add-t13 c = let o = c .before .before .before .before .before .before .before .before .before .before .opener-of .ensures in let p = c .before .before .before .before .before .before .before .before .before .before .before .before .before .pre .1 in rw o (omega arith)
+add-t13 c =
+    let index = c .before .before in
+    let settle = index .before .before .before .before in
+    let opener-of = settle .before .before .before .before in
+    let start = opener-of .before .before .before in
+    let o = opener-of .opener-of .ensures in let p = start .pre .1 in rw o (omega arith)
 
 same-length : tie.Need-same-length
 same-length c = search needs
 
 returns : tie.Need-returns
-returns c = rw (c .before .before .index .ensures, c .before .before .before .before .before .before .before .before .before .before .opener-of .ensures) (record { leaves = rw (c .before .before .before .before .before .before .before .repeat-left .ensures, c .before .before .before .before .before .before .before .before .before .before .opener-of .ensures) at (c .before .before .before .before .before .before .settle .ensures); next = refl })
+returns c =
+    let index = c .before .before in
+    let repeat-left = index .before .before .before .before .before in
+    rw (index .index .ensures, repeat-left .before .before .before .opener-of .ensures) (record { leaves = rw (repeat-left .repeat-left .ensures, repeat-left .before .before .before .opener-of .ensures) at (index .before .before .before .before .settle .ensures); next = refl })
 
 pub close-repeat-spec : {M : Type 1} → statement M
 close-repeat-spec =

@@ -20,7 +20,11 @@ same-length : tie.Need-same-length
 same-length c = search needs
 
 returns : tie.Need-returns
-returns c = ends _ _ _ _ (c .before .before .before .before .before .before .before .before .before .before .pre) (c .before .before .before .before .before .before .before .turn-over .ensures) (c .before .before .clear-from .ensures)
+returns c =
+    let clear-from = c .before .before in
+    let turn-over = clear-from .before .before .before .before .before in
+    let start = turn-over .before .before .before in
+    ends _ _ _ _ (start .pre) (turn-over .turn-over .ensures) (clear-from .clear-from .ensures)
 
 pub finish-spec : {M : Type 1} → statement M
 finish-spec =

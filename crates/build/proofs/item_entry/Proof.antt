@@ -30,7 +30,9 @@ y-word-requires-3 c κs = search needs
 
 returns : tie.Need-returns
 unfolding itemEntry
-returns c = rw (c .before .before .before .before .before .before .before .flag-word .ensures, c .before .before .before .before .before .before .flag-word2 .ensures, c .before .before .before .before .before .x-word .ensures, c .before .before .before .before .y-word .ensures, c .before .before .before .x-word2 .ensures, c .before .before .y-word2 .ensures, c .before .x-word3 .ensures, c .y-word3 .ensures)
+returns c =
+    let x-word = c .before .before .before .before .before in
+    rw (x-word .before .before .flag-word .ensures, x-word .before .flag-word2 .ensures, x-word .x-word .ensures, c .before .before .before .before .y-word .ensures, c .before .before .before .x-word2 .ensures, c .before .before .y-word2 .ensures, c .before .x-word3 .ensures, c .y-word3 .ensures)
 
 pub item-entry-spec : {M : Type 1} → statement M
 item-entry-spec =

@@ -20,7 +20,11 @@ same-length : tie.Need-same-length
 same-length c = search needs
 
 returns : tie.Need-returns
-returns c = settles _ _ _ _ _ (c .before .before .before .before .before .before .before .before .before .before .before .pre) (c .before .before .before .before .before .before .turn-over .ensures) (c .before .before .put-entry .ensures) (c .before .before .put-entry .kept .0)
+returns c =
+    let put-entry = c .before .before in
+    let turn-over = put-entry .before .before .before .before in
+    let start = turn-over .before .before .before .before .before in
+    settles _ _ _ _ _ (start .pre) (turn-over .turn-over .ensures) (put-entry .put-entry .ensures) (put-entry .put-entry .kept .0)
 
 pub settle-spec : {M : Type 1} → statement M
 settle-spec =

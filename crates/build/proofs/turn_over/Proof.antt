@@ -13,6 +13,16 @@ Inv-loop e₀ lo hi n i₀ e i = (i ≤ n) × Swapped e₀ e lo hi i × (lo + n 
 abbrev μ-loop : tie.MeasureT-loop
 μ-loop e₀ lo hi n i₀ e i = n - i
 
+-- the places that facts are read at
+abbrev at-loop : tie.After-whole-entry Inv-loop μ-loop → tie.At-loop Inv-loop μ-loop
+at-loop c = c .before .before .before .before
+
+abbrev at-whole-entry : tie.After-put-entry Inv-loop μ-loop → tie.After-whole-entry Inv-loop μ-loop
+at-whole-entry c = c .before .before .before .before
+
+abbrev at-put-entry : tie.After-put-entry2 Inv-loop μ-loop → tie.After-put-entry Inv-loop μ-loop
+at-put-entry c = c .before .before .before .before
+
 loop-holds : tie.Need-loop-holds Inv-loop μ-loop
 loop-holds c = let A = c .before .args in let p = c .before .pre in (omega arith, swapped-none (A .e .now) (A .lo) (A .hi) (omega arith), p .1, p .0)
 
@@ -41,28 +51,34 @@ whole-entry-requires-2 : tie.Need-whole-entry-requires-2 Inv-loop μ-loop
 whole-entry-requires-2 c κs = let v = c .before .before .before .before .before .loop .inv in omega (arith, v .1 .as-long, v .2, v .3)
 
 add-put-entry : tie.Need-add-put-entry Inv-loop μ-loop
-add-put-entry c = let v = c .before .before .before .before .before .before .before .loop .inv in omega (arith, v .1 .as-long, v .2, v .3)
+add-put-entry c = let v = at-loop (c .before .before .before) .loop .inv in omega (arith, v .1 .as-long, v .2, v .3)
 
 put-entry-requires : tie.Need-put-entry-requires Inv-loop μ-loop
-put-entry-requires c κs = let v = c .before .before .before .before .before .before .before .loop .inv in omega (arith, v .1 .as-long, v .2, v .3)
+put-entry-requires c κs = let v = at-loop (c .before .before .before) .loop .inv in omega (arith, v .1 .as-long, v .2, v .3)
 
 put-entry-requires-2 : tie.Need-put-entry-requires-2 Inv-loop μ-loop
-put-entry-requires-2 c κs = let v = c .before .before .before .before .before .before .before .before .before .before .before .loop .inv in omega (arith, v .1 .as-long, v .2, v .3, c .before .before .before .put-entry .kept .0)
+put-entry-requires-2 c κs =
+    let put-entry = c .before .before .before in
+    let v = at-loop (at-whole-entry put-entry) .loop .inv in omega (arith, v .1 .as-long, v .2, v .3, put-entry .put-entry .kept .0)
 
 add-i : tie.Need-add-i Inv-loop μ-loop
-add-i c = let v = c .before .before .before .before .before .before .before .before .before .before .before .before .before .before .loop .inv in omega (arith, v .1 .as-long, v .2, v .3)
+add-i c = let v = at-loop (at-whole-entry (at-put-entry (c .before .before))) .loop .inv in omega (arith, v .1 .as-long, v .2, v .3)
 
 loop-less : tie.Need-loop-less Inv-loop μ-loop
-loop-less c = let v = c .before .before .before .before .before .before .before .before .before .before .before .before .before .before .loop .inv in omega (arith, v .1 .as-long, v .2, v .3)
+loop-less c = let v = at-loop (at-whole-entry (at-put-entry (c .before .before))) .loop .inv in omega (arith, v .1 .as-long, v .2, v .3)
 
 loop-again : tie.Need-loop-again Inv-loop μ-loop
-loop-again c = let v = c .before .before .before .before .before .before .before .before .before .before .before .before .before .before .loop .inv in
-    let kept = c .before .before .before .before .before .before .put-entry .kept .0 in
-    let kept2 = c .before .before .put-entry2 .kept .0 in (
+loop-again c =
+    let put-entry2 = c .before .before in
+    let put-entry = put-entry2 .before .before .before .before in
+    let whole-entry = put-entry .before .before .before .before in
+    let v = whole-entry .before .before .before .before .loop .inv in
+    let kept = put-entry .put-entry .kept .0 in
+    let kept2 = put-entry2 .put-entry2 .kept .0 in (
       omega arith,
-      swapped-more _ _ _ _ _ _ _ _ _ (v .1) (omega arith) (omega (arith, c .before .before .before .before .before .before .before .before .before .before .before .before .if1 .left)) (v .3) (c .before .before .before .before .before .before .before .before .before .before .whole-entry .ensures) (c .before .before .before .before .before .before .before .before .whole-entry2 .ensures)
+      swapped-more _ _ _ _ _ _ _ _ _ (v .1) (omega arith) (omega (arith, whole-entry .before .before .if1 .left)) (v .3) (whole-entry .whole-entry .ensures) (put-entry .before .before .whole-entry2 .ensures)
           (kept2 ∙ kept ∙ v .1 .as-long)
-          (c .before .before .put-entry2 .ensures ∙ rw (c .before .before .before .before .before .before .put-entry .ensures)) (rw (c .before .before .before .before .before .before .put-entry .ensures) at kept),
+          (put-entry2 .put-entry2 .ensures ∙ rw (put-entry .put-entry .ensures)) (rw (put-entry .put-entry .ensures) at kept),
       v .2,
       v .3,
     )

@@ -27,8 +27,10 @@ with-sign-requires c κs = search needs
 returns-4 : tie.Need-returns-4
 unfolding isRounded
 returns-4 c =
-    amount-value _ _ _ _ _ (omega arith) (omega arith) (omega (arith, c .before .before .in-millionths .ensures))
-    (back _ (omega arith) ∙ c .with-sign .ensures .0 ∙ ap (signed (c .before .before .before .before .before .before .before .args .minus)) (c .before .before .in-millionths .ensures))
+    let in-millionths = c .before .before in
+    let start = in-millionths .before .before .before .before .before in
+    amount-value _ _ _ _ _ (omega arith) (omega arith) (omega (arith, in-millionths .in-millionths .ensures))
+    (back _ (omega arith) ∙ c .with-sign .ensures .0 ∙ ap (signed (start .args .minus)) (in-millionths .in-millionths .ensures))
     refl
 
 pub amount-spec : {M : Type 1} → statement M

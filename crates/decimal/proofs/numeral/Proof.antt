@@ -17,13 +17,19 @@ without-trailing-zeros-requires : tie.Need-without-trailing-zeros-requires
 without-trailing-zeros-requires c κs = search needs
 
 amount-requires : tie.Need-amount-requires
-amount-requires c κs = let d = numeral-digits (c .before .before .before .before .before .before .args .minus) _ _ (sym (c .before .before .before .is-decimal .ensures) ∙ c .before .before .if1 .taken) in
+amount-requires c κs =
+    let is-decimal = c .before .before .before in
+    let start = is-decimal .before .before .before in
+    let d = numeral-digits (start .args .minus) _ _ (sym (is-decimal .is-decimal .ensures) ∙ c .before .before .if1 .taken) in
     (rw (c .before .without-leading-zeros .ensures) (leading-digits _ (d .0)), rw (c .without-trailing-zeros .ensures) (trailing-digits _ (d .1)))
 
 returns : tie.Need-returns
-returns c = c .amount .ensures
-    ∙ (λ i. amountOf (c .before .before .before .before .before .before .before .args .minus) (c .before .before .without-leading-zeros .ensures i) (c .before .without-trailing-zeros .ensures i))
-    ∙ numeral-amount _ _ _ (sym (c .before .before .before .before .is-decimal .ensures) ∙ c .before .before .before .if1 .taken)
+returns c =
+    let is-decimal = c .before .before .before .before in
+    let start = is-decimal .before .before .before in
+    c .amount .ensures
+    ∙ (λ i. amountOf (start .args .minus) (c .before .before .without-leading-zeros .ensures i) (c .before .without-trailing-zeros .ensures i))
+    ∙ numeral-amount _ _ _ (sym (is-decimal .is-decimal .ensures) ∙ c .before .before .before .if1 .taken)
 
 returns-2 : tie.Need-returns-2
 returns-2 c = numeral-other _ _ _ (sym (c .before .is-decimal .ensures) ∙ c .if1 .left)

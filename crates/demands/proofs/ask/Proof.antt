@@ -45,7 +45,7 @@ address-of-requires c κs = search needs
 item-of-requires : tie.Need-item-of-requires
 item-of-requires c κs = search needs
 
--- from each call to the one before it
+-- from each call to the one before it; `lending` is where the first room is lent to the call, a parameter's name is where the call before gave it back
 abbrev addressed : tie.After-item-of → tie.After-address-of
 addressed c = c .before .before .before .before .before
 
@@ -65,10 +65,14 @@ abbrev whole-run : tie.After-at-most-eight → tie.After-sheet-run3
 whole-run c = c .before .before .before
 
 abbrev second-run : tie.After-sheet-run3 → tie.After-sheet-run2
-second-run c = c .before .before .before .before .before .before .before
+second-run c =
+    let lending = c .before .before .before .before in
+    lending .before .before .before
 
 abbrev first-run : tie.After-sheet-run2 → tie.After-sheet-run
-first-run c = c .before .before .before .before .before .before .before
+first-run c =
+    let lending = c .before .before .before .before in
+    lending .before .before .before
 
 abbrev answered : tie.After-sheet-run → tie.After-sheet-item
 answered c = c .before .before .before .before .before
@@ -77,7 +81,10 @@ abbrev totalled : tie.After-sheet-item → tie.After-sheet-total
 totalled c = c .before .before .before .before
 
 abbrev was-read : tie.After-sheet-total → tie.After-read-as
-was-read c = c .before .before .before .before .before .before .before .before .before .before .before
+was-read c =
+    let numbers = c .before .before .before .before in
+    let a = numbers .before .before .before .before in
+    a .before .before .before
 
 -- the runs, and what was read before them
 abbrev to-whole : tie.After-item-of → tie.After-sheet-run3

@@ -23,7 +23,9 @@ same-length-4 c = search needs
 
 returns : tie.Need-returns
 unfolding lentOf
-returns c = short-demands (lentOf _ _ _ _ _) (lentOf _ _ _ _ _) (c .before .before .before .before .before .before .before .read .ensures)
+returns c =
+    let a = c .before .before .before .before in
+    short-demands (lentOf _ _ _ _ _) (lentOf _ _ _ _ _) (a .before .before .before .read .ensures)
 
 pub short-spec : {M : Type 1} → statement M
 short-spec =

@@ -40,15 +40,15 @@ four-requires-4 c κs = search needs
 returns : tie.Need-returns
 unfolding row
 returns c =
-    rw (
+    let operate2 = c .before .before .before .before .before in rw (
       c .four4 .ensures,
       c .before .operate4 .ensures,
       c .before .before .four3 .ensures,
       c .before .before .before .operate3 .ensures,
       c .before .before .before .before .four2 .ensures,
-      c .before .before .before .before .before .operate2 .ensures,
-      c .before .before .before .before .before .before .four .ensures,
-      c .before .before .before .before .before .before .before .operate .ensures,
+      operate2 .operate2 .ensures,
+      operate2 .before .four .ensures,
+      operate2 .before .before .operate .ensures,
     )
 
 pub operate-row-spec : {M : Type 1} → statement M

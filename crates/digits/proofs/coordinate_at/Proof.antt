@@ -12,10 +12,14 @@ use borrow.Author.Needs.{needs}
 use Rattle.digits.proofs.coordinate_at.Statement.{statement}
 use Rattle.digits.proofs.coordinate_at.Tie as tie
 
+-- the places that facts are read at
+abbrev call : tie.After-past-sign → tie.Start
+call c = c .before .before .before
+
 -- a value that is read is small
 small : (c : tie.Else2) → c .before .before .before .before .digits-in .result .value < 10 ^ 12
 small c = let g = c .before .before .before in
-    read-small _ _ _ _ _ _ _ (g .before .before .before .before .before .before .pre .0) (g .before .before .before .before .before .before .pre .1) (g .before .before .before .past-sign .ensures) (g .before .before .onward .ensures) (g .before .digits-in .ensures) (g .past-digits .ensures) (c .if2 .left)
+    read-small _ _ _ _ _ _ _ (call (g .before .before .before) .pre .0) (call (g .before .before .before) .pre .1) (g .before .before .before .past-sign .ensures) (g .before .before .onward .ensures) (g .before .digits-in .ensures) (g .past-digits .ensures) (c .if2 .left)
 
 byte-at-requires : tie.Need-byte-at-requires
 byte-at-requires c κs = search needs
@@ -37,12 +41,12 @@ past-digits-requires c κs = search needs
 returns : tie.Need-returns
 returns c =
     let g = c .before in
-    read-none _ _ _ _ _ _ _ (g .before .before .before .before .before .before .pre .0) (g .before .before .before .before .before .before .pre .1) (g .before .before .before .past-sign .ensures) (g .before .before .onward .ensures) (g .before .digits-in .ensures) (g .past-digits .ensures) (c .if1 .taken)
+    read-none _ _ _ _ _ _ _ (call (g .before .before .before) .pre .0) (call (g .before .before .before) .pre .1) (g .before .before .before .past-sign .ensures) (g .before .before .onward .ensures) (g .before .digits-in .ensures) (g .past-digits .ensures) (c .if1 .taken)
 
 returns-2 : tie.Need-returns-2
 returns-2 c =
     let g = c .before .before .before in
-    read-long _ _ _ _ _ _ _ (g .before .before .before .before .before .before .pre .0) (g .before .before .before .before .before .before .pre .1) (g .before .before .before .past-sign .ensures) (g .before .before .onward .ensures) (g .before .digits-in .ensures) (g .past-digits .ensures) (c .if2 .taken)
+    read-long _ _ _ _ _ _ _ (call (g .before .before .before) .pre .0) (call (g .before .before .before) .pre .1) (g .before .before .before .past-sign .ensures) (g .before .before .onward .ensures) (g .before .digits-in .ensures) (g .past-digits .ensures) (c .if2 .taken)
 
 with-sign-requires : tie.Need-with-sign-requires
 with-sign-requires c κs = omega (arith, small c)
@@ -51,7 +55,7 @@ returns-3 : tie.Need-returns-3
 returns-3 c =
     let h = small (c .before) in
     let g = c .before .before .before .before in
-    read-value _ _ _ _ _ _ _ (g .before .before .before .before .before .before .pre .0) (g .before .before .before .before .before .before .pre .1) (g .before .before .before .past-sign .ensures) (g .before .before .onward .ensures) (g .before .digits-in .ensures) (g .past-digits .ensures) (c .before .if2 .left) _ (c .before .before .before .if1 .left)
+    read-value _ _ _ _ _ _ _ (call (g .before .before .before) .pre .0) (call (g .before .before .before) .pre .1) (g .before .before .before .past-sign .ensures) (g .before .before .onward .ensures) (g .before .digits-in .ensures) (g .past-digits .ensures) (c .before .if2 .left) _ (c .before .before .before .if1 .left)
     (back _ (omega arith) ∙ c .with-sign .ensures .0 ∙ ap (λ b. signed (eqb b 45) (g .before .digits-in .result .value)) (g .before .before .before .before .byte-at .ensures))
 
 pub coordinate-at-spec : {M : Type 1} → statement M

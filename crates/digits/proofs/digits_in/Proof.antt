@@ -25,8 +25,11 @@ inside : (c : tie.After-digit Inv-loop μ-loop) → c .before .before .before .l
 inside c = omega arith
 
 so-far : (c : tie.Then1 Inv-loop μ-loop) → c .before .before .before .before .loop .value < 10 ^ 11
-so-far c = let l = c .before .before .before .before .loop in
-    bound-at _ (l .next - c .before .before .before .before .before .before .args .from) 11 (l .inv .2) (omega arith)
+so-far c =
+    let loop = c .before .before .before .before in
+    let start = loop .before .before in
+    let l = loop .loop in
+    bound-at _ (l .next - start .args .from) 11 (l .inv .2) (omega arith)
 
 loop-holds : tie.Need-loop-holds Inv-loop μ-loop
 unfolding valueOf
@@ -52,14 +55,16 @@ loop-less c = omega arith
 
 loop-again : tie.Need-loop-again Inv-loop μ-loop
 loop-again c =
-    let l = c .before .before .before .before .loop in
-    let n : l .next + 1 - c .before .before .before .before .before .before .args .from ≡ l .next - c .before .before .before .before .before .before .args .from + 1 = omega arith in
+    let loop = c .before .before .before .before in
+    let start = loop .before .before in
+    let l = loop .loop in
+    let n : l .next + 1 - start .args .from ≡ l .next - start .args .from + 1 = omega arith in
     let w = c .before .digit .ensures .worth (c .if1 .taken) in (
       omega arith,
       omega arith,
       rw n (bound-on (l .value) _ _ (l .inv .2) (omega arith)),
       sym (past-digit _ _ (inside (c .before)) (c .before .digit .ensures .digit ∙ lt-ltb _ 10 (c .if1 .taken))) ∙ l .inv .3,
-      cc (value-next (c .before .before .before .before .before .before .args .s .now) (c .before .before .before .before .before .before .args .from) (l .next) (l .inv .0) (inside (c .before))),
+      cc (value-next (start .args .s .now) (start .args .from) (l .next) (l .inv .0) (inside (c .before))),
     )
 
 returns : tie.Need-returns Inv-loop μ-loop

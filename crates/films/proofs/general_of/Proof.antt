@@ -40,7 +40,9 @@ comment-of-requires-2 c κs = search needs
 
 returns-2 : tie.Need-returns-2
 unfolding generalOf
-returns-2 c = row-fails _ (sym (c .before .before .before .before .before .before .before .before .begins .ensures) ∙ c .before .before .before .before .before .before .before .if1 .left) (row-holds _ (cc) (c .comment-of2 .ensures))
+returns-2 c =
+    let begins2 = c .before .before .before .before .before in
+    row-fails _ (sym (begins2 .before .before .before .begins .ensures) ∙ begins2 .before .before .if1 .left) (row-holds _ (cc) (c .comment-of2 .ensures))
 
 past-digits-requires : tie.Need-past-digits-requires
 past-digits-requires c κs = search needs
@@ -56,7 +58,10 @@ coded-of-requires c κs = search needs
 
 returns-3 : tie.Need-returns-3
 unfolding generalOf
-returns-3 c = row-fails _ (sym (c .before .before .before .before .before .before .before .before .before .before .before .begins .ensures) ∙ c .before .before .before .before .before .before .before .before .before .before .if1 .left) (row-fails _ (cc) (cc))
+returns-3 c =
+    let if2 = c .before .before .before .before in
+    let begins2 = if2 .before .before .before .before in
+    row-fails _ (sym (begins2 .before .before .before .begins .ensures) ∙ begins2 .before .before .if1 .left) (row-fails _ (cc) (cc))
 
 pub general-of-spec : {M : Type 1} → statement M
 general-of-spec = tie.close (tie.spec slice-aggregate-begins begins-requires comment-of-requires returns slice-aggregate-begins-2 begins-requires-2 byte-at-requires is-digit-requires both-requires comment-of-requires-2 returns-2 past-digits-requires up-to-requires code-of-requires coded-of-requires returns-3)

@@ -61,7 +61,11 @@ or-begins-requires-8 c κs = search needs
 
 returns : tie.Need-returns
 unfolding isRefused
-returns c = simp (c .or-begins8 .ensures, c .before .before .or-begins7 .ensures, c .before .before .before .before .or-begins6 .ensures, c .before .before .before .before .before .before .or-begins5 .ensures, c .before .before .before .before .before .before .before .before .or-begins4 .ensures, c .before .before .before .before .before .before .before .before .before .before .or-begins3 .ensures, c .before .before .before .before .before .before .before .before .before .before .before .before .or-begins2 .ensures, c .before .before .before .before .before .before .before .before .before .before .before .before .before .before .or-begins .ensures, c .before .before .before .before .before .before .before .before .before .before .before .before .before .before .before .before .begins .ensures)
+returns c =
+    let or-begins6 = c .before .before .before .before in
+    let or-begins4 = or-begins6 .before .before .before .before in
+    let or-begins2 = or-begins4 .before .before .before .before in
+    simp (c .or-begins8 .ensures, c .before .before .or-begins7 .ensures, or-begins6 .or-begins6 .ensures, or-begins6 .before .before .or-begins5 .ensures, or-begins4 .or-begins4 .ensures, or-begins4 .before .before .or-begins3 .ensures, or-begins2 .or-begins2 .ensures, or-begins2 .before .before .or-begins .ensures, or-begins2 .before .before .before .before .begins .ensures)
 
 pub is-refused-spec : {M : Type 1} → statement M
 is-refused-spec = tie.close (tie.spec slice-aggregate-begins begins-requires slice-aggregate-or-begins or-begins-requires slice-aggregate-or-begins-2 or-begins-requires-2 slice-aggregate-or-begins-3 or-begins-requires-3 slice-aggregate-or-begins-4 or-begins-requires-4 slice-aggregate-or-begins-5 or-begins-requires-5 slice-aggregate-or-begins-6 or-begins-requires-6 slice-aggregate-or-begins-7 or-begins-requires-7 slice-aggregate-or-begins-8 or-begins-requires-8 returns)

@@ -61,7 +61,11 @@ row-requires-9 c κs = search needs
 
 returns : tie.Need-returns
 unfolding laterCodes
-returns c = simp (c .row9 .ensures, c .before .before .row8 .ensures, c .before .before .before .before .row7 .ensures, c .before .before .before .before .before .before .row6 .ensures, c .before .before .before .before .before .before .before .before .row5 .ensures, c .before .before .before .before .before .before .before .before .before .before .row4 .ensures, c .before .before .before .before .before .before .before .before .before .before .before .before .row3 .ensures, c .before .before .before .before .before .before .before .before .before .before .before .before .before .before .row2 .ensures, c .before .before .before .before .before .before .before .before .before .before .before .before .before .before .before .before .row .ensures)
+returns c =
+    let row7 = c .before .before .before .before in
+    let row5 = row7 .before .before .before .before in
+    let row3 = row5 .before .before .before .before in
+    simp (c .row9 .ensures, c .before .before .row8 .ensures, row7 .row7 .ensures, row7 .before .before .row6 .ensures, row5 .row5 .ensures, row5 .before .before .row4 .ensures, row3 .row3 .ensures, row3 .before .before .row2 .ensures, row3 .before .before .before .before .row .ensures)
 
 pub later-codes-spec : {M : Type 1} → statement M
 later-codes-spec = tie.close (tie.spec slice-aggregate-row row-requires slice-aggregate-row-2 row-requires-2 slice-aggregate-row-3 row-requires-3 slice-aggregate-row-4 row-requires-4 slice-aggregate-row-5 row-requires-5 slice-aggregate-row-6 row-requires-6 slice-aggregate-row-7 row-requires-7 slice-aggregate-row-8 row-requires-8 slice-aggregate-row-9 row-requires-9 returns)

@@ -49,11 +49,19 @@ either-requires-3 c κs = search needs
 
 returns-2 : tie.Need-returns-2
 unfolding miscellaneousOf
-returns-2 c = row-fails _ (sym (c .before .before .before .before .before .before .before .before .before .before .before .before .before .is-end .ensures) ∙ c .before .before .before .before .before .before .before .before .before .before .before .before .if1 .left) (row-holds _ (cc) refl)
+returns-2 c =
+    let either2 = c .before .before in
+    let either = either2 .before .before .before .before .before in
+    let if1 = either .before .before .before .before .before in
+    row-fails _ (sym (if1 .before .is-end .ensures) ∙ if1 .if1 .left) (row-holds _ (cc) refl)
 
 returns-3 : tie.Need-returns-3
 unfolding miscellaneousOf
-returns-3 c = row-fails _ (sym (c .before .before .before .before .before .before .before .before .before .before .before .before .before .is-end .ensures) ∙ c .before .before .before .before .before .before .before .before .before .before .before .before .if1 .left) (row-fails _ (cc) refl)
+returns-3 c =
+    let either2 = c .before .before in
+    let either = either2 .before .before .before .before .before in
+    let if1 = either .before .before .before .before .before in
+    row-fails _ (sym (if1 .before .is-end .ensures) ∙ if1 .if1 .left) (row-fails _ (cc) refl)
 
 pub miscellaneous-of-spec : {M : Type 1} → statement M
 miscellaneous-of-spec = tie.close (tie.spec is-end-requires returns slice-aggregate-is is-requires slice-aggregate-is-2 is-requires-2 either-requires slice-aggregate-is-3 is-requires-3 slice-aggregate-is-4 is-requires-4 either-requires-2 either-requires-3 returns-2 returns-3)

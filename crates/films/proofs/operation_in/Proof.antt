@@ -44,11 +44,15 @@ ends-requires-3 c κs = search needs
 
 returns-3 : tie.Need-returns-3
 unfolding operationIn
-returns-3 c = row-fails _ (sym (c .before .before .before .before .before .before .before .before .before .ends .ensures) ∙ c .before .before .before .before .before .before .before .before .if1 .left) (row-fails _ (sym (c .before .before .before .before .before .ends2 .ensures) ∙ c .before .before .before .before .if2 .left) (row-holds _ (sym (c .before .ends3 .ensures) ∙ c .if3 .taken) refl))
+returns-3 c =
+    let ends2 = c .before .before .before .before .before in
+    row-fails _ (sym (ends2 .before .before .before .before .ends .ensures) ∙ ends2 .before .before .before .if1 .left) (row-fails _ (sym (ends2 .ends2 .ensures) ∙ c .before .before .before .before .if2 .left) (row-holds _ (sym (c .before .ends3 .ensures) ∙ c .if3 .taken) refl))
 
 returns-4 : tie.Need-returns-4
 unfolding operationIn
-returns-4 c = row-fails _ (sym (c .before .before .before .before .before .before .before .before .before .ends .ensures) ∙ c .before .before .before .before .before .before .before .before .if1 .left) (row-fails _ (sym (c .before .before .before .before .before .ends2 .ensures) ∙ c .before .before .before .before .if2 .left) (row-fails _ (sym (c .before .ends3 .ensures) ∙ c .if3 .left) refl))
+returns-4 c =
+    let ends2 = c .before .before .before .before .before in
+    row-fails _ (sym (ends2 .before .before .before .before .ends .ensures) ∙ ends2 .before .before .before .if1 .left) (row-fails _ (sym (ends2 .ends2 .ensures) ∙ c .before .before .before .before .if2 .left) (row-fails _ (sym (c .before .ends3 .ensures) ∙ c .if3 .left) refl))
 
 pub operation-in-spec : {M : Type 1} → statement M
 operation-in-spec =

@@ -24,7 +24,9 @@ both-requires : tie.Need-both-requires
 both-requires c κs = search needs
 
 returns : tie.Need-returns
-returns c = taken-plain _ _ _ _ _ _ (c .before .before .before .before .before .before .in-force .ensures) (c .before .before .before .before .before .places .ensures) (c .before .before .before .before .coordinate-at .ensures) (sym (c .before .both .ensures) ∙ c .if1 .taken)
+returns c =
+    let places = c .before .before .before .before .before in
+    taken-plain _ _ _ _ _ _ (places .before .in-force .ensures) (places .places .ensures) (c .before .before .before .before .coordinate-at .ensures) (sym (c .before .both .ensures) ∙ c .if1 .taken)
 
 part-requires : tie.Need-part-requires
 part-requires c κs = search needs
@@ -36,17 +38,24 @@ after-sign-requires : tie.Need-after-sign-requires
 after-sign-requires c κs = search needs
 
 zeros-behind-requires : tie.Need-zeros-behind-requires
-zeros-behind-requires c κs = rw (c .before .before .before .before .before .before .before .before .before .in-force .ensures) (few _)
+zeros-behind-requires c κs =
+    let part = c .before .before in
+    let coordinate-at = part .before .before .before .before .before in
+    rw (coordinate-at .before .before .in-force .ensures) (few _)
 
 raise-requires : tie.Need-raise-requires
-raise-requires c κs = (
-  taken-twelve _ _ _ _ _ _ (c .before .before .before .before .before .before .before .before .before .before .in-force .ensures) (c .before .before .before .before .before .before .before .before .before .places .ensures) (c .before .before .before .before .before .before .before .before .coordinate-at .ensures) _ (c .before .before .before .part .ensures) _ (c .zeros-behind .ensures ∙ ap (λ (l : List ℕ). zerosBehind (c .before .before .before .before .before .before .before .before .before .before .in-force .result) (length l)) (c .before .after-sign .ensures)),
-  taken-fits _ _ _ _ _ _ (c .before .before .before .before .before .before .before .before .before .before .in-force .ensures) (c .before .before .before .before .before .before .before .before .before .places .ensures) (c .before .before .before .before .before .before .before .before .coordinate-at .ensures) _ (c .before .before .before .part .ensures) _ (c .zeros-behind .ensures ∙ ap (λ (l : List ℕ). zerosBehind (c .before .before .before .before .before .before .before .before .before .before .in-force .result) (length l)) (c .before .after-sign .ensures)),
-)
+raise-requires c κs =
+    let part = c .before .before .before in
+    let coordinate-at = part .before .before .before .before .before in (
+      taken-twelve _ _ _ _ _ _ (coordinate-at .before .before .in-force .ensures) (coordinate-at .before .places .ensures) (coordinate-at .coordinate-at .ensures) _ (part .part .ensures) _ (c .zeros-behind .ensures ∙ ap (λ (l : List ℕ). zerosBehind (coordinate-at .before .before .in-force .result) (length l)) (c .before .after-sign .ensures)),
+      taken-fits _ _ _ _ _ _ (coordinate-at .before .before .in-force .ensures) (coordinate-at .before .places .ensures) (coordinate-at .coordinate-at .ensures) _ (part .part .ensures) _ (c .zeros-behind .ensures ∙ ap (λ (l : List ℕ). zerosBehind (coordinate-at .before .before .in-force .result) (length l)) (c .before .after-sign .ensures)),
+    )
 
 returns-2 : tie.Need-returns-2
 returns-2 c =
-    taken-raised _ _ _ _ _ _ (c .before .before .before .before .before .before .before .before .before .before .before .in-force .ensures) (c .before .before .before .before .before .before .before .before .before .before .places .ensures) (c .before .before .before .before .before .before .before .before .before .coordinate-at .ensures) _ (c .before .before .before .before .part .ensures) _ (c .before .zeros-behind .ensures ∙ ap (λ (l : List ℕ). zerosBehind (c .before .before .before .before .before .before .before .before .before .before .before .in-force .result) (length l)) (c .before .before .after-sign .ensures)) _ _ (c .before .before .before .has-minus .ensures) (c .raise .ensures)
+    let part = c .before .before .before .before in
+    let coordinate-at = part .before .before .before .before .before in
+    taken-raised _ _ _ _ _ _ (coordinate-at .before .before .in-force .ensures) (coordinate-at .before .places .ensures) (coordinate-at .coordinate-at .ensures) _ (part .part .ensures) _ (c .before .zeros-behind .ensures ∙ ap (λ (l : List ℕ). zerosBehind (coordinate-at .before .before .in-force .result) (length l)) (c .before .before .after-sign .ensures)) _ _ (c .before .before .before .has-minus .ensures) (c .raise .ensures)
 
 pub coordinate-in-spec : {M : Type 1} → statement M
 coordinate-in-spec = tie.close (tie.spec in-force-requires places-requires coordinate-at-requires both-requires returns part-requires has-minus-requires after-sign-requires zeros-behind-requires raise-requires returns-2)

@@ -51,9 +51,11 @@ returns-2 c = rw (c .enum-told2 .given .1)
 returns-3 : tie.Need-returns-3
 unfolding raised
 returns-3 c =
+    let at-c = c .before .before .before .before in
+    let start = at-c .before .before in
     let h = small (c .before) in
-    rw (c .before .before .before .before .c .given .1)
-    (ap Value (back _ (omega (arith, h, c .with-sign .ensures .1)) ∙ c .with-sign .ensures .0 ∙ ap (signed (c .before .before .before .before .before .before .args .minus)) (product (c .before))))
+    rw (at-c .c .given .1)
+    (ap Value (back _ (omega (arith, h, c .with-sign .ensures .1)) ∙ c .with-sign .ensures .0 ∙ ap (signed (start .args .minus)) (product (c .before))))
 
 pub raise-spec : {M : Type 1} → statement M
 raise-spec = tie.close (tie.spec enum-told enum-told-2 enum-known-c size-requires power-requires mul-with-sign with-sign-requires returns returns-2 returns-3)

@@ -19,11 +19,17 @@ counts-ok-requires : tie.Need-counts-ok-requires
 counts-ok-requires c κs = search needs
 
 mul-both : tie.Need-mul-both
-mul-both c = let r = c .before .before .before .before .before .before .before .args .r in let n = copies-count r (counts-ok r (sym (c .before .before .counts-ok .ensures) ∙ c .before .if1 .taken)) in
+mul-both c =
+    let at-counts-ok = c .before .before in
+    let start = at-counts-ok .before .before .before .before .before in
+    let r = start .args .r in let n = copies-count r (counts-ok r (sym (at-counts-ok .counts-ok .ensures) ∙ c .before .if1 .taken)) in
     omega (arith, n .1)
 
 div-both : tie.Need-div-both
-div-both c = let r = c .before .before .before .before .before .before .before .args .r in copies-count r (counts-ok r (sym (c .before .before .counts-ok .ensures) ∙ c .before .if1 .taken)) .0
+div-both c =
+    let at-counts-ok = c .before .before in
+    let start = at-counts-ok .before .before .before .before .before in
+    let r = start .args .r in copies-count r (counts-ok r (sym (at-counts-ok .counts-ok .ensures) ∙ c .before .if1 .taken)) .0
 
 both-requires-3 : tie.Need-both-requires-3
 both-requires-3 c κs = search needs

@@ -34,8 +34,11 @@ mul-result c = let A = c .before .before .before .before .before .args in
     omega (arith, u .column)
 
 mul-result-2 : tie.Need-mul-result-2
-mul-result-2 c = let A = c .before .before .before .before .before .before .args in
-    let u = entry-repeat (A .a .now) (A .n) (A .h) (A .r) (c .before .before .before .before .before .before .pre .1) (sym (c .before .before .before .before .role-of .ensures) ∙ c .before .before .enum-told3 .given .1) in
+mul-result-2 c =
+    let role-of = c .before .before .before .before in
+    let start = role-of .before .before in
+    let A = start .args in
+    let u = entry-repeat (A .a .now) (A .n) (A .h) (A .r) (start .pre .1) (sym (role-of .role-of .ensures) ∙ c .before .before .enum-told3 .given .1) in
     omega (arith, u .whole)
 
 enum-told-4 : tie.Need-enum-told-4

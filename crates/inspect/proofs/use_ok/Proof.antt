@@ -26,8 +26,11 @@ both-requires-2 c κs = search needs
 
 returns : tie.Need-returns
 unfolding okUse
-returns c = let A = c .before .before .before .before .before .before .before .before .before .args in let i = c .before .before .before .before .before .before .before .index in
-    let in-n : ltb (A .r .who) (A .n) ≡ true = rw (← i .ensures) (lt-ltb _ _ (c .before .before .before .before .before .before .if1 .taken)) in
+returns c =
+    let block-at = c .before .before .before .before in
+    let start = block-at .before .before .before .before .before in
+    let A = start .args in let i = block-at .before .before .before .index in
+    let in-n : ltb (A .r .who) (A .n) ≡ true = rw (← i .ensures) (lt-ltb _ _ (block-at .before .before .if1 .taken)) in
     simp (in-n, ands) cc
 
 returns-2 : tie.Need-returns-2

@@ -40,16 +40,17 @@ wrapping-add-usize-requires c κs = search needs
 returns : tie.Need-returns
 unfolding pushed
 returns c =
-    rw (
+    let holds-end = c .before .before .before .before .before in
+    let fresh = holds-end .before .before .before .before .before in rw (
       c .wrapping-add-usize .ensures,
       c .before .pick2 .ensures,
       c .before .before .feed-text .ensures,
       c .before .before .before .before .stage-after .ensures,
-      c .before .before .before .before .before .holds-end .ensures,
-      c .before .before .before .before .before .before .before .grow .ensures,
-      c .before .before .before .before .before .before .before .before .before .pick .ensures,
-      c .before .before .before .before .before .before .before .before .before .before .fresh .ensures,
-      c .before .before .before .before .before .before .before .before .before .before .before .does-begin .ensures,
+      holds-end .holds-end .ensures,
+      holds-end .before .before .grow .ensures,
+      holds-end .before .before .before .before .pick .ensures,
+      fresh .fresh .ensures,
+      fresh .before .does-begin .ensures,
     )
 
 pub push-spec : {M : Type 1} → statement M

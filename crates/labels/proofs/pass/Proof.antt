@@ -54,7 +54,9 @@ judged-requires-2 : tie.Need-judged-requires-2 Inv-loop μ-loop
 judged-requires-2 c κs = search needs
 
 returns-2 : tie.Need-returns-2 Inv-loop μ-loop
-returns-2 c = let l = c .before .before .before .before .before .before .before .before .loop in let e = sym (c .before .before .before .before .before .before .before .turn-at .ensures) ∙ c .before .before .before .before .before .t2 .given .1 in simp (c .judged2 .ensures, c .before .met .ensures, c .before .before .label-set-by .ensures, c .before .before .before .tail-fault .ensures) (sym (pass-stops _ _ _ _ _ _) ∙ sym (pass-more _ _ _ (l .left) (l .found) _ _) ∙ sym (ap (outcome _ _ _ (l .left) (l .found)) (walk-last _ (l .format) _ (l .at) e)) ∙ l .inv .1)
+returns-2 c =
+    let t2 = c .before .before .before .before .before in
+    let l = t2 .before .before .before .loop in let e = sym (t2 .before .before .turn-at .ensures) ∙ t2 .t2 .given .1 in simp (c .judged2 .ensures, c .before .met .ensures, c .before .before .label-set-by .ensures, c .before .before .before .tail-fault .ensures) (sym (pass-stops _ _ _ _ _ _) ∙ sym (pass-more _ _ _ (l .left) (l .found) _ _) ∙ sym (ap (outcome _ _ _ (l .left) (l .found)) (walk-last _ (l .format) _ (l .at) e)) ∙ l .inv .1)
 
 enum-known-t-3 : tie.Need-enum-known-t-3 Inv-loop μ-loop
 enum-known-t-3 c = search needs
@@ -69,10 +71,14 @@ left-after-requires : tie.Need-left-after-requires Inv-loop μ-loop
 left-after-requires c κs = search needs
 
 loop-less : tie.Need-loop-less Inv-loop μ-loop
-loop-less c = let l = c .before .before .before .before .before .before .before .loop in let e = sym (c .before .before .before .before .before .before .turn-at .ensures) ∙ c .before .before .before .before .t3 .given .1 in omega (arith, more-onward _ (l .format) _ (l .at) (l .inv .0) e .0, more-onward _ (l .format) _ (l .at) (l .inv .0) e .1)
+loop-less c =
+    let t3 = c .before .before .before .before in
+    let l = t3 .before .before .before .loop in let e = sym (t3 .before .before .turn-at .ensures) ∙ t3 .t3 .given .1 in omega (arith, more-onward _ (l .format) _ (l .at) (l .inv .0) e .0, more-onward _ (l .format) _ (l .at) (l .inv .0) e .1)
 
 loop-again : tie.Need-loop-again Inv-loop μ-loop
-loop-again c = let l = c .before .before .before .before .before .before .before .loop in let e = sym (c .before .before .before .before .before .before .turn-at .ensures) ∙ c .before .before .before .before .t3 .given .1 in (more-onward _ (l .format) _ (l .at) (l .inv .0) e .1, simp (c .left-after .ensures, c .before .met2 .ensures, c .before .before .label-set-by2 .ensures) (sym (pass-more _ _ _ (l .left) (l .found) _ _) ∙ sym (ap (outcome _ _ _ (l .left) (l .found)) (walk-more _ (l .format) _ (l .at) (l .inv .0) e)) ∙ l .inv .1))
+loop-again c =
+    let t3 = c .before .before .before .before in
+    let l = t3 .before .before .before .loop in let e = sym (t3 .before .before .turn-at .ensures) ∙ t3 .t3 .given .1 in (more-onward _ (l .format) _ (l .at) (l .inv .0) e .1, simp (c .left-after .ensures, c .before .met2 .ensures, c .before .before .label-set-by2 .ensures) (sym (pass-more _ _ _ (l .left) (l .found) _ _) ∙ sym (ap (outcome _ _ _ (l .left) (l .found)) (walk-more _ (l .format) _ (l .at) (l .inv .0) e)) ∙ l .inv .1))
 
 pub pass-spec : {M : Type 1} → statement M
 pass-spec =

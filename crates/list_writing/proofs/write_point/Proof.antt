@@ -30,13 +30,26 @@ write-number-requires-2 c κs = search needs
 same-length : tie.Need-same-length
 same-length c = search needs
 
+-- the places that facts are read at
+abbrev call : tie.After-write → tie.Start
+call c = c .before .before .before .before
+
+abbrev at-write : tie.After-write-number → tie.After-write
+at-write c = c .before .before .before .before .before
+
+abbrev at-write-number : tie.After-write2 → tie.After-write-number
+at-write-number c = c .before .before .before .before .before
+
+abbrev at-write2 : tie.After-write-number2 → tie.After-write2
+at-write2 c = c .before .before .before .before .before
+
 returns : tie.Need-returns
 unfolding pointText
 returns c =
-    let a = c .before .before .before .before .before .before .before .before .before .before .before .before .before .before .before .before .before .before .before .before .before .args in
-    let x = is-also (ap numeral (in-bits (a .p .x) (omega arith))) (c .before .before .before .before .before .before .before .before .before .before .before .before .write-number .ensures) in
+    let a = call (at-write (at-write-number (at-write2 (c .before .before)))) .args in
+    let x = is-also (ap numeral (in-bits (a .p .x) (omega arith))) (at-write-number (at-write2 (c .before .before)) .write-number .ensures) in
     let y = is-also (ap numeral (in-bits (a .p .y) (omega arith))) (c .before .before .write-number2 .ensures) in
-    behind (c .before .before .before .before .before .before .before .before .before .before .before .before .before .before .before .before .before .write .ensures) (behind x (behind (c .before .before .before .before .before .before .before .write2 .ensures) y))
+    behind (at-write (at-write-number (at-write2 (c .before .before))) .write .ensures) (behind x (behind (at-write2 (c .before .before) .write2 .ensures) y))
 
 pub write-point-spec : {M : Type 1} → statement M
 write-point-spec =

@@ -19,22 +19,29 @@ add-item-at c = search needs
 
 item-at-requires : tie.Need-item-at-requires
 item-at-requires c κs =
-    let A = c .before .before .before .before .before .before .args in
-    let l = is-inside (A .head .now) (A .e .now) (A .a .now) _ _ (c .before .before .before .before .before .before .pre) (c .before .before .before .if1 .taken) in
-    rw (c .before .before .top-of .ensures) (asked-top (A .head .now) (A .e .now) (A .a .now) _ (is-valid (A .head .now) (A .e .now) (A .a .now) _ _ (c .before .before .before .before .before .before .pre) (c .before .before .before .if1 .taken))
+    let if1 = c .before .before .before in
+    let start = if1 .before .before .before in
+    let A = start .args in
+    let l = is-inside (A .head .now) (A .e .now) (A .a .now) _ _ (start .pre) (if1 .if1 .taken) in
+    rw (c .before .before .top-of .ensures) (asked-top (A .head .now) (A .e .now) (A .a .now) _ (is-valid (A .head .now) (A .e .now) (A .a .now) _ _ (start .pre) (if1 .if1 .taken))
     (let q = rw (c .before .before .top-of .ensures) at (c .if2 .taken) in omega (arith, q, l)))
 
 returns : tie.Need-returns
-returns c = slot-is _ _ _ _ _ (is-valid _ _ _ _ _ (c .before .before .before .before .before .before .before .pre) (c .before .before .before .before .if1 .taken)) (rw (c .before .before .before .top-of .ensures) at (c .item-at .ensures .is))
+returns c =
+    let if1 = c .before .before .before .before in
+    let start = if1 .before .before .before in
+    slot-is _ _ _ _ _ (is-valid _ _ _ _ _ (start .pre) (if1 .if1 .taken)) (rw (c .before .before .before .top-of .ensures) at (c .item-at .ensures .is))
 
 zero-item-requires : tie.Need-zero-item-requires
 zero-item-requires c κs = search needs
 
 returns-2 : tie.Need-returns-2
 returns-2 c =
-    let A = c .before .before .before .before .before .before .before .args in
-    let l = is-inside (A .head .now) (A .e .now) (A .a .now) _ _ (c .before .before .before .before .before .before .before .pre) (c .before .before .before .before .if1 .taken) in
-    slot-past _ _ _ _ _ (is-valid (A .head .now) (A .e .now) (A .a .now) _ _ (c .before .before .before .before .before .before .before .pre) (c .before .before .before .before .if1 .taken)) (let q = rw (c .before .before .before .top-of .ensures) at (c .before .if2 .left) in omega (arith, q, l)) (c .zero-item .ensures)
+    let if1 = c .before .before .before .before in
+    let start = if1 .before .before .before in
+    let A = start .args in
+    let l = is-inside (A .head .now) (A .e .now) (A .a .now) _ _ (start .pre) (if1 .if1 .taken) in
+    slot-past _ _ _ _ _ (is-valid (A .head .now) (A .e .now) (A .a .now) _ _ (start .pre) (if1 .if1 .taken)) (let q = rw (c .before .before .before .top-of .ensures) at (c .before .if2 .left) in omega (arith, q, l)) (c .zero-item .ensures)
 
 zero-item-requires-2 : tie.Need-zero-item-requires-2
 zero-item-requires-2 c κs = search needs

@@ -31,16 +31,17 @@ span-at-requires-5 c κs = search needs
 
 returns : tie.Need-returns
 unfolding noteIn
-returns c = λ i. record {
-  place = (c .before .before .before .before .before .before .before .word-at .ensures) i;
-  component = (c .before .before .before .before .before .before .word-at2 .ensures) i;
-  pin = (c .before .before .before .before .before .word-at3 .ensures) i;
-  number = (c .before .before .before .before .span-at .ensures) i;
-  rotation = (c .before .before .before .span-at2 .ensures) i;
-  value = (c .before .before .span-at3 .ensures) i;
-  footprint = (c .before .span-at4 .ensures) i;
-  mount = (c .span-at5 .ensures) i;
-}
+returns c =
+    let word-at3 = c .before .before .before .before .before in λ i. record {
+      place = (word-at3 .before .before .word-at .ensures) i;
+      component = (word-at3 .before .word-at2 .ensures) i;
+      pin = (word-at3 .word-at3 .ensures) i;
+      number = (c .before .before .before .before .span-at .ensures) i;
+      rotation = (c .before .before .before .span-at2 .ensures) i;
+      value = (c .before .before .span-at3 .ensures) i;
+      footprint = (c .before .span-at4 .ensures) i;
+      mount = (c .span-at5 .ensures) i;
+    }
 
 pub note-in-spec : {M : Type 1} → statement M
 note-in-spec =

@@ -41,13 +41,17 @@ same-length-6 : tie.Need-same-length-6
 same-length-6 c = search needs
 
 abbrev was-mended : tie.After-numbers → tie.After-mend
-was-mended c = c .before .before .before .before .before .before .before .before .before .before .before
+was-mended c =
+    let a = c .before .before .before .before in
+    let report = a .before .before .before .before in
+    report .before .before .before
 
 returns : tie.Need-returns
 unfolding lentOf
 returns c =
     let r = was-mended c in
-    let t = r .before .before .before .before .before .before .before .before .before in
+    let head-lent = r .before .before .before .before .before in
+    let t = head-lent .before .before .before .before in
     mends-by (lentOf _ _ _ _ _) (lentOf _ _ _ _ _) _ _ _ _ _ (sym (t .before .before .choice-of .ensures) ∙ t .c .given .1) _ (r .mend .ensures)
 
 same-length-7 : tie.Need-same-length-7
@@ -69,13 +73,17 @@ same-length-12 : tie.Need-same-length-12
 same-length-12 c = search needs
 
 abbrev was-cleared : tie.After-numbers2 → tie.After-clear
-was-cleared c = c .before .before .before .before .before .before .before .before .before .before .before
+was-cleared c =
+    let a = c .before .before .before .before in
+    let report = a .before .before .before .before in
+    report .before .before .before
 
 returns-2 : tie.Need-returns-2
 unfolding lentOf
 returns-2 c =
     let k = was-cleared c in
-    let t = k .before .before .before .before .before .before .before .before in
+    let head-lent = k .before .before .before .before .before in
+    let t = head-lent .before .before .before in
     let z = k .clear .ensures in
     mends-none (lentOf _ _ _ _ _) (lentOf _ _ _ _ _) _ _ _ _ _ (sym (t .before .before .choice-of .ensures) ∙ t .enum-told .given .1) (z .0) (z .1)
     (record { head-is = z .2; entries-are = z .3; apertures-are = z .4; macros-are = z .5; numbers-are = z .6 })

@@ -63,7 +63,13 @@ same-length-9 c = search needs
 returns : tie.Need-returns
 unfolding lentOf
 returns c =
-    places-by (lentOf _ _ _ _ _) (lentOf _ _ _ _ _) _ _ _ _ _ (sym (c .before .before .before .before .before .before .before .before .before .before .before .before .before .before .before .before .before .before .before .before .before .before .before .before .before .before .before .before .before .before .before .choice-of .ensures) ∙ c .before .before .before .before .before .before .before .before .before .before .before .before .before .before .before .before .before .before .before .before .before .before .before .before .before .before .before .before .before .c .given .1) (c .before .before .before .before .before .before .before .before .before .before .before .before .before .before .before .before .before .placement .ensures)
+    let roles = c .before .before .before .before in
+    let notes = roles .before .before .before .before in
+    let m = notes .before .before .before .before in
+    let at-placement = m .before .before .before .before .before in
+    let notes-lent = at-placement .before .before .before .before .before in
+    let head-lent = notes-lent .before .before .before .before .before in
+    places-by (lentOf _ _ _ _ _) (lentOf _ _ _ _ _) _ _ _ _ _ (sym (head-lent .before .before .before .before .choice-of .ensures) ∙ head-lent .before .before .c .given .1) (at-placement .placement .ensures)
 
 same-length-10 : tie.Need-same-length-10
 same-length-10 c = search needs
@@ -83,8 +89,12 @@ same-length-14 c = search needs
 returns-2 : tie.Need-returns-2
 unfolding lentOf
 returns-2 c =
-    let z = c .before .before .before .before .before .before .before .before .clear .ensures in
-    places-none (lentOf _ _ _ _ _) (lentOf _ _ _ _ _) _ _ _ _ _ (sym (c .before .before .before .before .before .before .before .before .before .before .before .before .before .before .before .before .before .before .before .before .choice-of .ensures) ∙ c .before .before .before .before .before .before .before .before .before .before .before .before .before .before .before .before .before .before .enum-told .given .1) (c .refused .ensures) (c .before .before .before .before .before .before .before .before .before .before .before .before .before .before .before .before .clear-bytes .ensures)
+    let a = c .before .before .before .before .before in
+    let clear = a .before .before .before in
+    let head-lent = clear .before .before .before .before .before in
+    let enum-told = head-lent .before .before .before .before .before in
+    let z = clear .clear .ensures in
+    places-none (lentOf _ _ _ _ _) (lentOf _ _ _ _ _) _ _ _ _ _ (sym (enum-told .before .before .choice-of .ensures) ∙ enum-told .enum-told .given .1) (c .refused .ensures) (head-lent .before .before .before .clear-bytes .ensures)
     (record { head-is = refl; entries-are = z .0; apertures-are = z .1; macros-are = z .2; numbers-are = z .3 })
 
 pub placement-spec : {M : Type 1} → statement M

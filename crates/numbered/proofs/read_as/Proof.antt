@@ -24,12 +24,15 @@ same-length-4 : tie.Need-same-length-4
 same-length-4 c = search needs
 
 abbrev was-read : tie.After-numbers → tie.After-read-chosen
-was-read c = c .before .before .before .before .before .before .before
+was-read c =
+    let a = c .before .before .before .before in
+    a .before .before .before
 
 returns : tie.Need-returns
 returns c =
     let r = was-read c in
-    reads-so (r .before .before .before .before .before .before .choice-of .ensures) _ _ _ _ _ _ (r .read-chosen .ensures)
+    let lending = r .before .before .before .before .before in
+    reads-so (lending .before .choice-of .ensures) _ _ _ _ _ _ (r .read-chosen .ensures)
 
 pub read-as-spec : {M : Type 1} → statement M
 read-as-spec =

@@ -32,12 +32,15 @@ same-length-4 : tie.Need-same-length-4
 same-length-4 c = search needs
 
 abbrev was-read : tie.After-numbers → tie.After-read-as
-was-read c = c .before .before .before .before .before .before .before
+was-read c =
+    let a = c .before .before .before .before in
+    a .before .before .before
 
 returns : tie.Need-returns
 returns c =
     let r = was-read c in
-    let t = r .before .before .before .before .before .before .before in
+    let lending = r .before .before .before .before .before in
+    let t = lending .before .before in
     reads-by (t .c .given .1) _ _ _ _ _ _ (r .read-as .ensures)
 
 same-length-5 : tie.Need-same-length-5
@@ -53,13 +56,16 @@ same-length-8 : tie.Need-same-length-8
 same-length-8 c = search needs
 
 abbrev was-cleared : tie.After-numbers2 → tie.After-clear
-was-cleared c = c .before .before .before .before .before .before .before
+was-cleared c =
+    let a = c .before .before .before .before in
+    a .before .before .before
 
 returns-2 : tie.Need-returns-2
 unfolding lentOf
 returns-2 c =
     let k = was-cleared c in
-    let t = k .before .before .before .before .before .before in
+    let lending = k .before .before .before .before .before in
+    let t = lending .before in
     let z = k .clear .ensures in
     reads-none (t .enum-told .given .1) _ _ (lentOf _ _ _ _ _) (lentOf _ _ _ _ _) _
     (record { head-is = refl; entries-are = z .0; apertures-are = z .1; macros-are = z .2; numbers-are = z .3 })

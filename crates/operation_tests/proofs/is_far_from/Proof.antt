@@ -30,8 +30,10 @@ either-requires c κs = search needs
 returns-2 : tie.Need-returns-2
 unfolding isFar
 returns-2 c =
-    let p = c .before .before .before .before .before .before .before .args .p in
-    let near = sym (c .before .before .before .before .before .before .is-far .ensures) ∙ c .before .before .before .before .before .if1 .left in
+    let if1 = c .before .before .before .before .before in
+    let start = if1 .before .before in
+    let p = start .args .p in
+    let near = sym (if1 .before .is-far .ensures) ∙ if1 .if1 .left in
     let x = toZ-ofZ {w = w64} {z = p .x} (record { sfits = omega arith }) in
     let y = toZ-ofZ {w = w64} {z = p .y} (record { sfits = omega arith }) in
     else-right (isFar p) _ _ near (rw (c .either .ensures, c .before .is-long-along2 .ensures, c .before .before .before .is-long-along .ensures, x, y) refl)

@@ -38,9 +38,11 @@ as-given-requires c κs = search needs
 returns : tie.Need-returns
 unfolding fieldAt
 returns c f q =
-    let e = sym (c .before .before .before .before .byte-at .ensures) in
+    let byte-at = c .before .before .before .before in
+    let start = byte-at .before .before in
+    let e = sym (byte-at .byte-at .ensures) in
     let h = c .before .before .before .if1 .taken in
-    let some = c .before .before .before .before .before .before .pre .1 in
+    let some = start .pre .1 in
     let t = c .before .before .coordinate-at .ensures ∙ ap (coordinateAt _ _) q ∙ exact-taken f _ _ (λ z. omega (arith, some, q, z)) in
     simp (tests, e) (cc)
 

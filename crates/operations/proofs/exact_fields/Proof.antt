@@ -20,10 +20,11 @@ exact-at-requires-4 c κs = search needs
 returns : tie.Need-returns
 unfolding fieldsIn
 returns c f e =
-    let j = c .before .before .before .before .before .exact-at4 .ensures f e in
-    let i = c .before .before .before .before .before .before .exact-at3 .ensures f e in
-    let y = c .before .before .before .before .before .before .before .exact-at2 .ensures f e in
-    let x = c .before .before .before .before .before .before .before .before .exact-at .ensures f e in
+    let exact-at4 = c .before .before .before .before .before in
+    let j = exact-at4 .exact-at4 .ensures f e in
+    let i = exact-at4 .before .exact-at3 .ensures f e in
+    let y = exact-at4 .before .before .exact-at2 .ensures f e in
+    let x = exact-at4 .before .before .before .exact-at .ensures f e in
     cc
 
 pub exact-fields-spec : {M : Type 1} → statement M

@@ -15,12 +15,16 @@ use borrow.Author.Needs.{needs}
 use Rattle.operations.proofs.operation_code.Statement.{statement}
 use Rattle.operations.proofs.operation_code.Tie as tie
 
+-- the places that facts are read at
+abbrev call : tie.Else1 → tie.Start
+call c = c .before .before
+
 -- whether the text ends in D, 0 and a third byte
 ends : (c : tie.After-shared-slice-known4) (z : ℕ) {t : Bool} →
-    let s = c .before .before .before .before .before .before .args .s .now in
+    let s = call (c .before .before .before .before) .args .s .now in
     (c .before .both .result and eqb (getD s (length s - 3 + 2) 0) z) ≡ t → sameBytes (drop (length s - 3) s) (68 ∷ 48 ∷ z ∷ []) ≡ t
 ends c z e =
-    let s = c .before .before .before .before .before .before .args .s .now in
+    let s = call (c .before .before .before .before) .args .s .now in
     last-three s 68 48 z (c .before .before .before .before .if1 .left) ∙ ap (λ t. t and eqb (getD s (length s - 3 + 2) 0) z) (sym (c .before .both .ensures)) ∙ e
 
 -- too short a text ends in no three bytes
@@ -75,16 +79,18 @@ both-requires-4 c κs = search needs
 returns-4 : tie.Need-returns-4
 unfolding operationCode
 returns-4 c =
-    row-fails _ (ends (c .before .before .before .before .before .before) 49 (sym (c .before .before .before .before .before .both2 .ensures) ∙ c .before .before .before .before .if2 .left))
-    (row-fails _ (ends (c .before .before .before .before .before .before) 50 (sym (c .before .before .before .both3 .ensures) ∙ c .before .before .if3 .left))
-    (row-holds _ (ends (c .before .before .before .before .before .before) 51 (sym (c .before .both4 .ensures) ∙ c .if4 .taken)) refl))
+    let both2 = c .before .before .before .before .before in
+    row-fails _ (ends (both2 .before) 49 (sym (both2 .both2 .ensures) ∙ c .before .before .before .before .if2 .left))
+    (row-fails _ (ends (both2 .before) 50 (sym (c .before .before .before .both3 .ensures) ∙ c .before .before .if3 .left))
+    (row-holds _ (ends (both2 .before) 51 (sym (c .before .both4 .ensures) ∙ c .if4 .taken)) refl))
 
 returns-5 : tie.Need-returns-5
 unfolding operationCode
 returns-5 c =
-    row-fails _ (ends (c .before .before .before .before .before .before) 49 (sym (c .before .before .before .before .before .both2 .ensures) ∙ c .before .before .before .before .if2 .left))
-    (row-fails _ (ends (c .before .before .before .before .before .before) 50 (sym (c .before .before .before .both3 .ensures) ∙ c .before .before .if3 .left))
-    (row-fails _ (ends (c .before .before .before .before .before .before) 51 (sym (c .before .both4 .ensures) ∙ c .if4 .left)) refl))
+    let both2 = c .before .before .before .before .before in
+    row-fails _ (ends (both2 .before) 49 (sym (both2 .both2 .ensures) ∙ c .before .before .before .before .if2 .left))
+    (row-fails _ (ends (both2 .before) 50 (sym (c .before .before .before .both3 .ensures) ∙ c .before .before .if3 .left))
+    (row-fails _ (ends (both2 .before) 51 (sym (c .before .both4 .ensures) ∙ c .if4 .left)) refl))
 
 pub operation-code-spec : {M : Type 1} → statement M
 operation-code-spec =

@@ -48,11 +48,13 @@ to-outline-requires c κs = search needs
 returns : tie.Need-returns
 unfolding newerOutline
 returns c =
-    let e3 = sym (c .before .before .before .before .before .before .before .before .before .before .before .begins .ensures) in
-    let e5 = sym (c .before .before .before .before .before .before .before .before .before .ends .ensures) in
-    let e6 = sym (c .before .before .before .before .before .before .before .before .both .ensures) in
-    let e8 = sym (c .before .before .before .before .before .before .ends2 .ensures) in
-    let e9 = sym (c .before .before .before .before .before .both2 .ensures) in
+    let both2 = c .before .before .before .before .before in
+    let ends = both2 .before .before .before .before in
+    let e3 = sym (ends .before .before .begins .ensures) in
+    let e5 = sym (ends .ends .ensures) in
+    let e6 = sym (both2 .before .before .before .both .ensures) in
+    let e8 = sym (both2 .before .ends2 .ensures) in
+    let e9 = sym (both2 .both2 .ensures) in
     let e11 = sym (c .before .before .before .is .ensures) in
     let e13 = sym (c .before .is2 .ensures) in
     let e14 = sym (c .to-outline .ensures) in

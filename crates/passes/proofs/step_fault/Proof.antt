@@ -8,6 +8,10 @@ use borrow.Author.Needs.{needs}
 use Rattle.passes.proofs.step_fault.Statement.{statement}
 use Rattle.passes.proofs.step_fault.Tie as tie
 
+-- the places that facts are read at
+abbrev call : tie.After-both → tie.Start
+call c = c .before .before .before
+
 is-open-requires : tie.Need-is-open-requires
 is-open-requires c κs = search needs
 
@@ -19,29 +23,35 @@ both-requires c κs = search needs
 
 returns : tie.Need-returns
 unfolding stepFault
-returns c = let t : (isOpen (c .before .before .before .before .args .o) and not (goesOn (c .before .before .before .before .args .o) (c .before .before .before .before .args .m))) ≡ true = cc in rw t
+returns c =
+    let A = call (c .before) .args in
+    let t : (isOpen (A .o) and not (goesOn (A .o) (A .m))) ≡ true = cc in
+    rw t
 
 returns-2 : tie.Need-returns-2
 unfolding stepFault
 returns-2 c =
-    let t : (isOpen (c .before .before .before .before .before .args .o) and not (goesOn (c .before .before .before .before .before .args .o) (c .before .before .before .before .before .args .m))) ≡ false = cc in
-    let l : c .before .before .before .before .before .args .m .lacks ≡ true = cc in
+    let A = call (c .before .before) .args in
+    let t : (isOpen (A .o) and not (goesOn (A .o) (A .m))) ≡ false = cc in
+    let l : A .m .lacks ≡ true = cc in
     rw (t, l)
 
 returns-3 : tie.Need-returns-3
 unfolding stepFault
 returns-3 c =
-    let t : (isOpen (c .before .before .before .before .before .before .args .o) and not (goesOn (c .before .before .before .before .before .before .args .o) (c .before .before .before .before .before .before .args .m))) ≡ false = cc in
-    let l : c .before .before .before .before .before .before .args .m .lacks ≡ false = cc in
-    let a : c .before .before .before .before .before .before .args .again ≡ true = cc in
+    let A = call (c .before .before .before) .args in
+    let t : (isOpen (A .o) and not (goesOn (A .o) (A .m))) ≡ false = cc in
+    let l : A .m .lacks ≡ false = cc in
+    let a : A .again ≡ true = cc in
     rw (t, l, a)
 
 returns-4 : tie.Need-returns-4
 unfolding stepFault
 returns-4 c =
-    let t : (isOpen (c .before .before .before .before .before .before .args .o) and not (goesOn (c .before .before .before .before .before .before .args .o) (c .before .before .before .before .before .before .args .m))) ≡ false = cc in
-    let l : c .before .before .before .before .before .before .args .m .lacks ≡ false = cc in
-    let a : c .before .before .before .before .before .before .args .again ≡ false = cc in
+    let A = call (c .before .before .before) .args in
+    let t : (isOpen (A .o) and not (goesOn (A .o) (A .m))) ≡ false = cc in
+    let l : A .m .lacks ≡ false = cc in
+    let a : A .again ≡ false = cc in
     rw (t, l, a)
 
 pub step-fault-spec : {M : Type 1} → statement M

@@ -25,13 +25,22 @@ same-length : tie.Need-same-length
 same-length c = search needs
 
 returns : tie.Need-returns
-returns c = λ w. let j = c .before .before .before .before .before .before .faults .ensures (w .layer) (w .marked) in item-lists _ _ (parts (w .layer)) _ (w .clear) (j .is) (c .before .before .if1 .taken) (c .refused .ensures ∙ ap (λ (p : ℕ). answered (c .before .before .before .before .before .before .faults .result .number) p 0) (c .before .index .ensures))
+returns c =
+    let if1 = c .before .before in
+    λ w. let j = if1 .before .before .before .before .faults .ensures (w .layer) (w .marked) in item-lists _ _ (parts (w .layer)) _ (w .clear) (j .is) (if1 .if1 .taken) (c .refused .ensures ∙ ap (λ (p : ℕ). answered (if1 .before .before .before .before .faults .result .number) p 0) (c .before .index .ensures))
 
 link-pins-requires : tie.Need-link-pins-requires
 link-pins-requires c κs = search needs
 
 put-list-requires : tie.Need-put-list-requires
-put-list-requires c κs = let w = c .before .before .before .before .before .before .before .before .before .before .before .before .before .before .before .before .before .before .before .before .before .before .before .before .before .pre in let j = c .before .before .before .before .before .before .before .before .before .before .before .before .before .before .before .faults .ensures (w .layer) (w .marked) in let z = c .before .before .before .before .before .before .before .before .before .before .before .if1 .left in let s = all-held j z in let k = c .before .before .before .before .before .before .before .before .link-pins .ensures (w .layer) s (j .marked z) in record { layer = w .layer; of = w .of; sound = s; linked = k .linked (c .before .before .before .if2 .taken) }
+put-list-requires c κs =
+    let if2 = c .before .before .before in
+    let link-pins = if2 .before .before .before .before .before in
+    let if1 = link-pins .before .before .before in
+    let faults = if1 .before .before .before .before in
+    let slice-known = faults .before .before .before .before .before in
+    let start = slice-known .before .before .before .before .before in
+    let w = start .pre in let j = faults .faults .ensures (w .layer) (w .marked) in let z = if1 .if1 .left in let s = all-held j z in let k = link-pins .link-pins .ensures (w .layer) s (j .marked z) in record { layer = w .layer; of = w .of; sound = s; linked = k .linked (if2 .if2 .taken) }
 
 finished-requires : tie.Need-finished-requires
 finished-requires c κs = search needs
@@ -46,7 +55,13 @@ same-length-4 : tie.Need-same-length-4
 same-length-4 c = search needs
 
 returns-2 : tie.Need-returns-2
-returns-2 c = λ w. let j = c .before .before .before .before .before .before .before .before .before .before .before .before .before .before .before .before .before .before .before .before .before .before .faults .ensures (w .layer) (w .marked) in let z = c .before .before .before .before .before .before .before .before .before .before .before .before .before .before .before .before .before .before .if1 .left in let s = all-held j z in let k = c .before .before .before .before .before .before .before .before .before .before .before .before .before .before .before .link-pins .ensures (w .layer) s (j .marked z) in let t = c .before .before .before .before .before .before .before .before .before .before .if2 .taken in finished-lists _ (parts (w .layer)) (w .clear) (no-fault j z) (ap (λ (n : ℕ). ltb (n / linkWidth) (listedPins (parts (w .layer)))) (sym (c .before .before .before .before .before .before .before .before .before .before .before .before .before .before .before .link-pins .kept .1 .1 .1 .1 .1 .1 .1 .1 .0)) ∙ few-pins k t) (c .before .before .before .before .before .before .put-list .ensures (record { layer = w .layer; of = w .of; sound = s; linked = k .linked t })) (c .before .before .finished .ensures)
+returns-2 c =
+    let finished = c .before .before in
+    let put-list = finished .before .before .before .before in
+    let if2 = put-list .before .before .before .before in
+    let link-pins = if2 .before .before .before .before .before in
+    let if1 = link-pins .before .before .before in
+    λ w. let j = if1 .before .before .before .before .faults .ensures (w .layer) (w .marked) in let z = if1 .if1 .left in let s = all-held j z in let k = link-pins .link-pins .ensures (w .layer) s (j .marked z) in let t = if2 .if2 .taken in finished-lists _ (parts (w .layer)) (w .clear) (no-fault j z) (ap (λ (n : ℕ). ltb (n / linkWidth) (listedPins (parts (w .layer)))) (sym (link-pins .link-pins .kept .1 .1 .1 .1 .1 .1 .1 .1 .0)) ∙ few-pins k t) (put-list .put-list .ensures (record { layer = w .layer; of = w .of; sound = s; linked = k .linked t })) (finished .finished .ensures)
 
 refused-requires-2 : tie.Need-refused-requires-2
 refused-requires-2 c κs = search needs
@@ -58,7 +73,11 @@ same-length-6 : tie.Need-same-length-6
 same-length-6 c = search needs
 
 returns-3 : tie.Need-returns-3
-returns-3 c = λ w. let j = c .before .before .before .before .before .before .before .before .before .before .before .before .before .faults .ensures (w .layer) (w .marked) in let z = c .before .before .before .before .before .before .before .before .before .if1 .left in let s = all-held j z in let k = c .before .before .before .before .before .before .link-pins .ensures (w .layer) s (j .marked z) in let t = c .before .if2 .left in pins-list _ _ (parts (w .layer)) _ (w .clear) (no-fault j z) (ap (λ (n : ℕ). ltb (n / linkWidth) (listedPins (parts (w .layer)))) (sym (c .before .before .before .before .before .before .link-pins .kept .1 .1 .1 .1 .1 .1 .1 .1 .0)) ∙ many-pins k t) (c .refused2 .ensures)
+returns-3 c =
+    let if2 = c .before in
+    let link-pins = if2 .before .before .before .before .before in
+    let if1 = link-pins .before .before .before in
+    λ w. let j = if1 .before .before .before .before .faults .ensures (w .layer) (w .marked) in let z = if1 .if1 .left in let s = all-held j z in let k = link-pins .link-pins .ensures (w .layer) s (j .marked z) in let t = if2 .if2 .left in pins-list _ _ (parts (w .layer)) _ (w .clear) (no-fault j z) (ap (λ (n : ℕ). ltb (n / linkWidth) (listedPins (parts (w .layer)))) (sym (link-pins .link-pins .kept .1 .1 .1 .1 .1 .1 .1 .1 .0)) ∙ many-pins k t) (c .refused2 .ensures)
 
 pub list-spec : {M : Type 1} → statement M
 list-spec =

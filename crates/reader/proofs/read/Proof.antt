@@ -31,7 +31,8 @@ was-read c =
 returns : tie.Need-returns
 returns c =
     let r = was-read c in
-    reads-same (r .before .before .before .before .before .before .short-of .ensures) _ _ _ _ _ _ (r .read-as .ensures)
+    let lending = r .before .before .before .before .before in
+    reads-same (lending .before .short-of .ensures) _ _ _ _ _ _ (r .read-as .ensures)
 
 pub read-spec : {M : Type 1} → statement M
 read-spec =

@@ -33,12 +33,15 @@ no-format-requires c κs = search needs
 
 -- the call
 abbrev begins : tie.At-loop Inv-loop μ-loop → tie.Start Inv-loop μ-loop
-begins c = c .before .before .before .before .before .before .before
+begins c =
+    let started = c .before .before in
+    started .before .before .before .before .before
 
 loop-holds : tie.Need-loop-holds Inv-loop μ-loop
 unfolding lentOf
 loop-holds c =
-    rw (c .no-format .ensures, c .before .start .ensures) (runs-start _ (lentOf _ _ _ _ _) (c .before .before .before .before .before .before .pre .0))
+    let started = c .before in
+    rw (c .no-format .ensures, started .start .ensures) (runs-start _ (lentOf _ _ _ _ _) (started .before .before .before .before .before .pre .0))
 
 turn-at-requires : tie.Need-turn-at-requires Inv-loop μ-loop
 turn-at-requires c κs = search needs
@@ -90,10 +93,14 @@ settled-requires : tie.Need-settled-requires Inv-loop μ-loop
 settled-requires c κs = search needs
 
 abbrev last-step : tie.After-settled Inv-loop μ-loop → tie.After-step Inv-loop μ-loop
-last-step c = c .before .before .before .before .before .before .before .before .before
+last-step c =
+    let m = c .before .before .before .before in
+    m .before .before .before .before .before
 
 abbrev last-turn : tie.After-step Inv-loop μ-loop → tie.After-t2 Inv-loop μ-loop
-last-turn c = c .before .before .before .before .before .before
+last-turn c =
+    let told = c .before .before .before .before .before in
+    told .before
 
 last-long : (c : tie.After-step Inv-loop μ-loop) → let A = begins (last-turn c .before .before .before) .args in let L = c .step .last .1 in
     AsLong (lentOf (A .file .now) (A .e .now) (A .a .now) (A .m .now) (A .numbers .now)) (lentOf (A .file .now) (L .0) (L .1 .0) (L .1 .1 .0) (L .1 .1 .1 .0))

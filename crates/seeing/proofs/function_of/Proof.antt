@@ -28,7 +28,10 @@ enum-told c = search needs
 
 returns : tie.Need-returns
 unfolding roleNumber wordAt
-returns c = c .word-at .ensures ∙ sym (ap (wordAt (c .before .before .before .before .before .before .args .roles .now)) (sym (c .before .before .before .before .search-number .ensures) ∙ c .before .before .found .given .1))
+returns c =
+    let search-number = c .before .before .before .before in
+    let start = search-number .before .before in
+    c .word-at .ensures ∙ sym (ap (wordAt (start .args .roles .now)) (sym (search-number .search-number .ensures) ∙ c .before .before .found .given .1))
 
 returns-2 : tie.Need-returns-2
 unfolding roleNumber wordAt

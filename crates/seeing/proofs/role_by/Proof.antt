@@ -10,6 +10,10 @@ use borrow.Author.Needs.{needs}
 use Rattle.seeing.proofs.role_by.Statement.{statement}
 use Rattle.seeing.proofs.role_by.Tie as tie
 
+-- the places that facts are read at
+abbrev call : tie.After-both2 → tie.Start
+call c = c .before .before .before
+
 both-requires : tie.Need-both-requires
 both-requires c κs = search needs
 
@@ -32,11 +36,11 @@ both-requires-3 c κs = search needs
 
 returns-3 : tie.Need-returns-3
 unfolding roleBy
-returns-3 c = let a = c .before .before .before .before .before .before .before .args in let m : (eqb (a .kind) 4 and eqb (a .function) 1) ≡ false = cc in let p : (eqb (a .kind) 4 and eqb (a .function) 2) ≡ false = cc in let o : (isDrawn (a .kind) and eqb (a .function) 3) ≡ true = cc in rw (m, p, o)
+returns-3 c = let a = call (c .before .before .before .before) .args in let m : (eqb (a .kind) 4 and eqb (a .function) 1) ≡ false = cc in let p : (eqb (a .kind) 4 and eqb (a .function) 2) ≡ false = cc in let o : (isDrawn (a .kind) and eqb (a .function) 3) ≡ true = cc in rw (m, p, o)
 
 returns-4 : tie.Need-returns-4
 unfolding roleBy
-returns-4 c = let a = c .before .before .before .before .before .before .before .args in let m : (eqb (a .kind) 4 and eqb (a .function) 1) ≡ false = cc in let p : (eqb (a .kind) 4 and eqb (a .function) 2) ≡ false = cc in let o : (isDrawn (a .kind) and eqb (a .function) 3) ≡ false = cc in rw (m, p, o)
+returns-4 c = let a = call (c .before .before .before .before) .args in let m : (eqb (a .kind) 4 and eqb (a .function) 1) ≡ false = cc in let p : (eqb (a .kind) 4 and eqb (a .function) 2) ≡ false = cc in let o : (isDrawn (a .kind) and eqb (a .function) 3) ≡ false = cc in rw (m, p, o)
 
 pub role-by-spec : {M : Type 1} → statement M
 role-by-spec =

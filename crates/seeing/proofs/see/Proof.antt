@@ -15,13 +15,20 @@ role-by-requires : tie.Need-role-by-requires
 role-by-requires c κs = search needs
 
 find-requires : tie.Need-find-requires
-find-requires c κs = seeks-note (c .before .before .before .before .before .before .before .before .before .pre .0) _ (c .before .before .before .before .before .before .before .before .before .pre .1) (c .before .before .before .before .item-at .ensures .is)
+find-requires c κs =
+    let item-at = c .before .before .before .before in
+    let start = item-at .before .before .before .before .before in
+    seeks-note (start .pre .0) _ (start .pre .1) (item-at .item-at .ensures .is)
 
 note-at-requires : tie.Need-note-at-requires
 note-at-requires c κs = search needs
 
 returns : tie.Need-returns
-returns c = λ l. seen-is l _ (c .before .before .before .before .before .before .before .before .before .before .before .pre .1) (c .before .before .before .before .before .before .item-at .ensures .is) (c .before .before .before .function-of .ensures) (c .before .before .role-by .ensures) (c .before .find .ensures) (c .note-at .ensures)
+returns c =
+    let function-of = c .before .before .before in
+    let item-at = function-of .before .before .before in
+    let start = item-at .before .before .before .before .before in
+    λ l. seen-is l _ (start .pre .1) (item-at .item-at .ensures .is) (function-of .function-of .ensures) (c .before .before .role-by .ensures) (c .before .find .ensures) (c .note-at .ensures)
 
 pub see-spec : {M : Type 1} → statement M
 see-spec =

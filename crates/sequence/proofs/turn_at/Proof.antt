@@ -33,7 +33,8 @@ enum-known-s-3 c = search needs
 returns : tie.Need-returns
 unfolding turnOf turned
 returns c =
-    rw (sym (c .before .before .before .before .before .before .before .next-command .ensures), c .before .before .before .before .before .s .given .1)
+    let s = c .before .before .before .before .before in
+    rw (sym (s .before .before .next-command .ensures), s .s .given .1)
     (simp (c .led .ensures, c .before .lead-of .ensures, c .before .before .command-of .ensures, c .before .before .before .part .ensures))
 
 returns-2 : tie.Need-returns-2

@@ -15,7 +15,10 @@ greater-requires c κs = search needs
 
 returns : tie.Need-returns
 unfolding joinSpan
-returns c = let A = c .before .before .before .before .before .before .args in let l = c .before .before .before .lesser in let g = c .greater in
+returns c =
+    let at-lesser = c .before .before .before in
+    let start = at-lesser .before .before .before in
+    let A = start .args in let l = at-lesser .lesser in let g = c .greater in
     let low = rw (in-bits (A .s .low) (omega arith), in-bits (A .t .low) (omega arith)) at (l .ensures) in
     let high = rw (in-bits (A .s .high) (omega arith), in-bits (A .t .high) (omega arith)) at (g .ensures) in
     λ i. span ((in-bits (l .result) (l .ok) ∙ low) i) ((in-bits (g .result) (g .ok) ∙ high) i)

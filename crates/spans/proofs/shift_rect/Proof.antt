@@ -13,8 +13,11 @@ shift-span-requires-2 c κs = let A = c .before .before .before .before .before 
 
 returns : tie.Need-returns
 unfolding shiftRect
-returns c = let A = c .before .before .before .before .before .before .args in
-    let x = rw (in-bits (A .p .x) (omega arith)) at (c .before .before .shift-span .ensures) in
+returns c =
+    let shift-span = c .before .before in
+    let start = shift-span .before .before .before .before in
+    let A = start .args in
+    let x = rw (in-bits (A .p .x) (omega arith)) at (shift-span .shift-span .ensures) in
     let y = rw (in-bits (A .p .y) (omega arith)) at (c .shift-span2 .ensures) in
     λ i. rect (x i) (y i)
 

@@ -48,7 +48,10 @@ returns-2 c = let a = c .before .before .before .args in c .closing-fault .ensur
 
 returns-3 : tie.Need-returns-3
 unfolding bracketFault
-returns-3 c = let a = c .before .before .before .before .before .before .args in c .repeat-start-fault .ensures ∙ (λ i. repeatStartFault (a .g) (a .l) ((c .before .before .is-repeat .ensures) i) (eqb (a .k .entries) 0)) ∙ sym (ap (λ b. bracketFault (a .g) (a .l) b (a .k)) (c .before .before .before .before .b .given .1))
+returns-3 c =
+    let at-b = c .before .before .before .before in
+    let start = at-b .before .before in
+    let a = start .args in c .repeat-start-fault .ensures ∙ (λ i. repeatStartFault (a .g) (a .l) ((c .before .before .is-repeat .ensures) i) (eqb (a .k .entries) 0)) ∙ sym (ap (λ b. bracketFault (a .g) (a .l) b (a .k)) (at-b .b .given .1))
 
 returns-4 : tie.Need-returns-4
 unfolding bracketFault

@@ -23,7 +23,10 @@ with-graphics-requires : tie.Need-with-graphics-requires
 with-graphics-requires c κs = search needs
 
 returns-2 : tie.Need-returns-2
-returns-2 c = λ text place. set-goes-on (c .before .before .before .before .before .before .args .p) (c .before .before .before .before .before .before .args .c) text place (c .before .before .before .before .before .before .pre) _ (c .before .before .before .before .level-of .ensures) _ (c .before .after .ensures)
+returns-2 c =
+    let level-of = c .before .before .before .before in
+    let start = level-of .before .before in
+    λ text place. set-goes-on (start .args .p) (start .args .c) text place (start .pre) _ (level-of .level-of .ensures) _ (c .before .after .ensures)
     (sym (c .before .before .before .fault-of .ensures) ∙ c .before .before .if1 .left) _ (c .with-graphics .ensures)
 
 pub set-spec : {M : Type 1} → statement M

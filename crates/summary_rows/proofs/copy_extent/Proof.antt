@@ -24,7 +24,10 @@ enum-known-x : tie.Need-enum-known-x
 enum-known-x c = search needs
 
 stretch-rect-requires : tie.Need-stretch-rect-requires
-stretch-rect-requires c κs = let w = c .before .before .before .before .before .before .before .pre in (over-near (w .0) (c .before .x .given .1), w .1 .across-in, w .1 .up-in)
+stretch-rect-requires c κs =
+    let struct-known4 = c .before .before .before in
+    let start = struct-known4 .before .before .before .before in
+    let w = start .pre in (over-near (w .0) (c .before .x .given .1), w .1 .across-in, w .1 .up-in)
 
 returns : tie.Need-returns
 unfolding copiedExtent

@@ -17,7 +17,10 @@ same-length : tie.Need-same-length
 same-length c = search needs
 
 returns : tie.Need-returns
-returns c = put-room _ _ _ _ _ _ (c .before .before .before .before .before .before .before .before .if1 .taken) (c .before .before .before .before .before .before .put-words .ensures) (c .before .before .put .ensures)
+returns c =
+    let put = c .before .before in
+    let put-words = put .before .before .before .before in
+    put-room _ _ _ _ _ _ (put-words .before .before .if1 .taken) (put-words .put-words .ensures) (put .put .ensures)
 
 returns-2 : tie.Need-returns-2
 returns-2 c = put-none _ _ _ _ (c .if1 .left)

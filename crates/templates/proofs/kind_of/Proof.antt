@@ -43,15 +43,16 @@ row-requires-4 c κs = search needs
 returns : tie.Need-returns
 unfolding kindOf
 returns c =
-    simp (
+    let is3 = c .before .before .before .before in
+    let at-row = is3 .before .before .before .before .before in simp (
       c .row4 .ensures,
       c .before .is4 .ensures,
       c .before .before .before .row3 .ensures,
-      c .before .before .before .before .is3 .ensures,
-      c .before .before .before .before .before .before .row2 .ensures,
-      c .before .before .before .before .before .before .before .is2 .ensures,
-      c .before .before .before .before .before .before .before .before .before .row .ensures,
-      c .before .before .before .before .before .before .before .before .before .before .is .ensures,
+      is3 .is3 .ensures,
+      is3 .before .before .row2 .ensures,
+      is3 .before .before .before .is2 .ensures,
+      at-row .row .ensures,
+      at-row .before .is .ensures,
     )
 
 pub kind-of-spec : {M : Type 1} → statement M

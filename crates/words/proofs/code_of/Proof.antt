@@ -49,7 +49,10 @@ row-requires-7 c κs = search needs
 
 returns : tie.Need-returns
 unfolding codeOf
-returns c = simp (c .row7 .ensures, c .before .before .row6 .ensures, c .before .before .before .before .row5 .ensures, c .before .before .before .before .before .before .row4 .ensures, c .before .before .before .before .before .before .before .before .row3 .ensures, c .before .before .before .before .before .before .before .before .before .before .row2 .ensures, c .before .before .before .before .before .before .before .before .before .before .before .before .row .ensures)
+returns c =
+    let row5 = c .before .before .before .before in
+    let row3 = row5 .before .before .before .before in
+    simp (c .row7 .ensures, c .before .before .row6 .ensures, row5 .row5 .ensures, row5 .before .before .row4 .ensures, row3 .row3 .ensures, row3 .before .before .row2 .ensures, row3 .before .before .before .before .row .ensures)
 
 pub code-of-spec : {M : Type 1} → statement M
 code-of-spec =

@@ -28,7 +28,9 @@ pick-requires-7 c κs = search needs
 
 returns : tie.Need-returns
 unfolding settingOf
-returns c = simp (c .pick7 .ensures, c .before .pick6 .ensures, c .before .before .pick5 .ensures, c .before .before .before .pick4 .ensures, c .before .before .before .before .pick3 .ensures, c .before .before .before .before .before .pick2 .ensures, c .before .before .before .before .before .before .pick .ensures)
+returns c =
+    let pick2 = c .before .before .before .before .before in
+    simp (c .pick7 .ensures, c .before .pick6 .ensures, c .before .before .pick5 .ensures, c .before .before .before .pick4 .ensures, c .before .before .before .before .pick3 .ensures, pick2 .pick2 .ensures, pick2 .before .pick .ensures)
 
 pub later-setting-of-spec : {M : Type 1} → statement M
 later-setting-of-spec =

@@ -40,9 +40,11 @@ operation-of-requires c κs = search needs
 returns-3 : tie.Need-returns-3
 unfolding newerWord
 returns-3 c =
+    let begins = c .before .before .before .before in
+    let start = begins .before .before .before in
     let number = c .before .before .operation-code in
-    row-fails _ (sym (c .before .before .before .before .begins .ensures) ∙ c .before .before .before .if1 .left)
-    (c .operation-of .ensures ∙ ap (λ k. operationOf k (c .before .before .before .before .before .before .before .args .format) (c .before .before .before .before .before .before .before .args .s .now)) (number .ensures) ∙ is-operation _ _ _ (λ z. c .before .if2 .left (number .ensures ∙ z)))
+    row-fails _ (sym (begins .begins .ensures) ∙ c .before .before .before .if1 .left)
+    (c .operation-of .ensures ∙ ap (λ k. operationOf k (start .args .format) (start .args .s .now)) (number .ensures) ∙ is-operation _ _ _ (λ z. c .before .if2 .left (number .ensures ∙ z)))
 
 pub newer-word-spec : {M : Type 1} → statement M
 newer-word-spec =
