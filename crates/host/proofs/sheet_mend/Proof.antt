@@ -33,7 +33,10 @@ same-length-6 : tie.Need-same-length-6
 same-length-6 c = search needs
 
 returns : tie.Need-returns
-returns c = mends-mended _ _ _ _ _ _ _ _ _ (c .before .before .before .before .before .before .before .before .before .before .before .before .before .before .mend .ensures) _ _ _ _ (c .before .a .given .1)
+returns c =
+    let macros = c .before .before .before .before .before in
+    let entries = macros .before .before .before .before in
+    mends-mended _ _ _ _ _ _ _ _ _ (entries .before .before .before .before .before .mend .ensures) _ _ _ _ (c .before .a .given .1)
 
 same-length-7 : tie.Need-same-length-7
 same-length-7 c = search needs
@@ -54,7 +57,10 @@ same-length-12 : tie.Need-same-length-12
 same-length-12 c = search needs
 
 returns-2 : tie.Need-returns-2
-returns-2 c = mends-refused _ _ _ _ _ _ _ _ _ (c .before .before .before .before .before .before .before .before .before .before .before .before .before .before .mend .ensures) _ (c .before .a2 .given .1)
+returns-2 c =
+    let macros = c .before .before .before .before .before in
+    let entries = macros .before .before .before .before in
+    mends-refused _ _ _ _ _ _ _ _ _ (entries .before .before .before .before .before .mend .ensures) _ (c .before .a2 .given .1)
 
 pub sheet-mend-spec : {M : Type 1} → statement M
 sheet-mend-spec =

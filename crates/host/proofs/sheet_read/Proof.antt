@@ -24,7 +24,10 @@ same-length-4 : tie.Need-same-length-4
 same-length-4 c = search needs
 
 returns : tie.Need-returns
-returns c = reads-into _ (c .before .before .before .before .before .before .before .before .before .before .before .read .ensures) (c .answered .ensures)
+returns c =
+    let numbers = c .before .before .before .before in
+    let apertures = numbers .before .before .before .before in
+    reads-into _ (apertures .before .before .before .read .ensures) (c .answered .ensures)
 
 pub sheet-read-spec : {M : Type 1} → statement M
 sheet-read-spec =

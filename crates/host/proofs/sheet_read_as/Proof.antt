@@ -24,7 +24,10 @@ same-length-4 : tie.Need-same-length-4
 same-length-4 c = search needs
 
 returns : tie.Need-returns
-returns c = reads-into _ (c .before .before .before .before .before .before .before .before .before .before .before .read-as .ensures) (c .answered .ensures)
+returns c =
+    let at-numbers = c .before .before .before .before in
+    let apertures = at-numbers .before .before .before .before in
+    reads-into _ (apertures .before .before .before .read-as .ensures) (c .answered .ensures)
 
 pub sheet-read-as-spec : {M : Type 1} → statement M
 sheet-read-as-spec =
