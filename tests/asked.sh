@@ -2,9 +2,7 @@
 # The stored answers of the program `gate_attribute` are the second reader's, at every place of its file.
 set -eu
 cd "$(dirname "$0")/.."
-made=$PWD/target/second
-export CARGO_NET_OFFLINE=true
-cargo build --release --quiet --manifest-path second/Cargo.toml --target-dir "$made"
+second=$(second/build)
 
 file=crates/gate_attribute/stdin
 size=$(wc -c <"$file")
@@ -15,7 +13,7 @@ trap 'rm -rf "$room"' EXIT
 for name in a .N a,b; do
     for ((place = 0; place < size; place++)); do
         for kind in TA TO; do
-            told=$("$made/release/second" attribute "$kind" "$place" "$name" <"$file")
+            told=$("$second" attribute "$kind" "$place" "$name" <"$file")
             [ "$told" = $'refused\t22' ] || printf '%s\t%d\t%s\t%s\n' "$kind" "$place" "$name" "$told"
         done
     done

@@ -6,10 +6,7 @@
 # are made for one mode.
 set -u
 cd "$(dirname "$0")/.." || exit 2
-export CARGO_NET_OFFLINE=true
-made=$PWD/target/second
-cargo build --release --quiet --manifest-path second/Cargo.toml --target-dir "$made" || exit 1
-second=$made/release/second
+second=$(second/build) || exit 1
 mapfile -t listing < <(./run --say listing)
 mapfile -t imager < <(./run --say imager)
 mapfile -t verify < <(./run --say verify)

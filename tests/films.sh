@@ -6,8 +6,7 @@ set -eu
 cd "$(dirname "$0")/.."
 mapfile -t imager < <(./run --say imager)
 [ ${#imager[@]} -gt 0 ] || exit 1
-second=$PWD/target/second/release/second
-CARGO_NET_OFFLINE=true cargo build --release --quiet --manifest-path second/Cargo.toml --target-dir target/second
+second=$(second/build)
 room=$(mktemp -d)
 trap 'rm -rf "$room"' EXIT
 faults=0

@@ -32,8 +32,7 @@ fi
 
 imager() { ${emulator:+"$emulator"} "$made/imager" "$@"; }
 host/build host/imager.c "$made/imager"
-second=$PWD/target/second/release/second
-CARGO_NET_OFFLINE=true cargo build --release --quiet --manifest-path second/Cargo.toml --target-dir target/second
+second=$(second/build)
 
 # The same list of files by both: every line must be the same.
 agree() { # LIST [WORDS]

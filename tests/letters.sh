@@ -6,8 +6,7 @@ cd "$(dirname "$0")/.."
 emulator=$(host/build --emulator)
 made=$PWD/target/host
 host/build tests/letters.c "$made/letters"
-second=$PWD/target/second/release/second
-CARGO_NET_OFFLINE=true cargo build --release --quiet --manifest-path second/Cargo.toml --target-dir target/second
+second=$(second/build)
 room=$(mktemp -d)
 trap 'rm -rf "$room"' EXIT
 

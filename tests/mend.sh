@@ -13,8 +13,7 @@ made=$PWD/target/host
 emulator=$(host/build --emulator)
 host/build host/imager.c "$made/imager"
 host/build host/mend.c "$made/mend"
-second=$PWD/target/second/release/second
-CARGO_NET_OFFLINE=true cargo build --release --quiet --manifest-path second/Cargo.toml --target-dir target/second
+second=$(second/build)
 room=$(mktemp -d)
 trap 'rm -rf "$room"' EXIT
 host/build tests/mending.c "$made/mending"

@@ -6,8 +6,7 @@ cd "$(dirname "$0")/.."
 made=$PWD/target/host
 emulator=$(host/build --emulator)
 host/build host/imager.c "$made/imager"
-second=$PWD/target/second/release/second
-CARGO_NET_OFFLINE=true cargo build --release --quiet --manifest-path second/Cargo.toml --target-dir target/second
+second=$(second/build)
 room=$(mktemp -d)
 trap 'rm -rf "$room"' EXIT
 imager() { ${emulator:+"$emulator"} "$made/imager" "$@" 2>/dev/null; }

@@ -25,8 +25,7 @@ done
 echo "shapes: as worked out by hand"
 
 host/build host/imager.c "$made/imager"
-second=$PWD/target/second/release/second
-CARGO_NET_OFFLINE=true cargo build --release --quiet --manifest-path second/Cargo.toml --target-dir target/second
+second=$(second/build)
 
 # Both answers about each file named on standard input.
 agree() { # WHAT [TERMS]

@@ -6,16 +6,16 @@ cd "$(dirname "$0")/.."
 emulator=$(host/build --emulator)
 made=$PWD/target/host
 host/build tests/short.c "$made/short"
-CARGO_NET_OFFLINE=true cargo build --release --quiet --manifest-path second/Cargo.toml --target-dir target/second
+second=$(second/build)
 
 longest=${emulator:+2}
 longest=${longest:-3}
 for edition in new old; do
     proved=$(${emulator:+"$emulator"} "$made/short" "$longest" --edition "$edition")
-    second=$(target/second/release/second short "$longest" --edition "$edition")
+    other=$("$second" short "$longest" --edition "$edition")
     echo "short: $(printf '%s' "$proved" | cut -f 3) strings, edition $edition"
-    if [ "$proved" != "$second" ]; then
-        echo "short: the readers differ: $proved, $second"
+    if [ "$proved" != "$other" ]; then
+        echo "short: the readers differ: $proved, $other"
         exit 1
     fi
 done
