@@ -1,4 +1,4 @@
--- "within one command the lowest number decides" (01, Numbers the reader answers), in the order that drawing/specs/Order.antt has.
+-- "within one command the lowest number decides" (01, Numbers the reader answers), in the order that operation_rules/specs/Order.antt has.
 use Prim.Native.Nat.{ℕ, _≤_}
 use mathlib.Core.Path.{_≡_}
 use mathlib.Core.Bool.{Bool, true}

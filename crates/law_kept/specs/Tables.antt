@@ -1,4 +1,4 @@
--- The rules of each command, in the order of the numbers: the tables of crates/drawing and crates/rules, each row a test of the state, the
+-- The rules of each command, in the order of the numbers: the tables of crates/operation_rules and crates/command_rules, each row a test of the state, the
 -- room and the command, which holds where the rule is broken, and the rule's number (01, Numbers the reader answers; 02, [7] and [9]).
 use Prim.Native.Nat.{ℕ, _-_}
 use mathlib.Core.Bool.{Bool, true, not}

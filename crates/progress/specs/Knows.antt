@@ -1,4 +1,4 @@
--- What the lent words and the progress hold of what reading knows between two commands (crates/reading), and what a step comes to.
+-- What the lent words and the progress hold of what reading knows between two commands (crates/law_reading), and what a step comes to.
 use Prim.Native.Nat.{_+_, _^_, _≤_}
 use mathlib.Core.Path.{_≡_}
 use mathlib.Core.Bool.{true}

@@ -47,7 +47,7 @@ workedNumber Fine = 0
 workedNumber Undefined = 9
 workedNumber Unruly = 10
 
--- the lowest rule that a command breaks, 0 for none, by the tables of crates/drawing and crates/rules
+-- the lowest rule that a command breaks, 0 for none, by the tables of crates/operation_rules and crates/command_rules
 unfoldable pub operationFault : Graphics → Level → Operation → Known → ℕ
 operationFault g l (operation.Draw x y o) k = drawFault g l (k .entries) x y o
 operationFault g l (operation.Move x y) k = moveFault g x y
