@@ -30,7 +30,7 @@ use Rattle.address.specs.Looking.{lookAs, lookAt, lookOf, Lower, Seeks, 
 use Rattle.address.specs.declared.Look.{Look}
 use Rattle.address.specs.declared.Look.the-variants.{Is, Below}
 
--- what a step comes to, where `below` searches what lies under it
+-- the outcome of a step, where `below` searches what lies under it
 abbrev pub On : (Container → ℕ → List ℕ → Named) → List ℕ → Look → Named
 On below rest (Is t) = t
 On below rest (Below b u) = further b (below u (getD rest 0 0) (drop 1 rest))
@@ -151,7 +151,7 @@ down e a k words o q rest b u t =
           omega arith;
     }
 
--- the words behind the first, as a part of a slice
+-- the words after the first, as a part of a slice
 pub part-words : (w : List ℕ) → 1 ≤ length w → suc (length (take (length w - 1) (drop 1 w))) ≡ length w
 part-words w l = rw (rest-whole w 1) (length-rest w l)
 

@@ -154,7 +154,7 @@ module _ (e a : List ℕ) (k : Container) (n : ℕ) (out : List ℕ) (o : Writes
         let q : length (behind p out) ≡ length out - 1 = ap length (behind-is p out some (o .zeros)) ∙ length-replicate (length out - 1) 0 in
         omega arith
 
-    -- what lies below is written behind the position
+    -- what lies below is written after the position
     pub write-down : Writes e a u j (behind p out)
     write-down =
         let under = f .under in

@@ -31,7 +31,7 @@ use Rattle.address.specs.Answers.{replyAs, replyOf}
 use Rattle.address.specs.Looking.{Lower, Fits, Down, Copied, AtTop}
 use Rattle.address.proofs.Looks.{meets}
 
--- a container below, whose items stand behind few enough others
+-- a container below, whose items stand after few enough others
 pub lower-down : (e a : List ℕ) (b : ℕ) (u : Container) (words : ℕ) (o : Lower e a u) → u .height ≤ words → b ≤ most → Down e a b u words
 lower-down e a b u words o high few =
     let one = o .sound .low in

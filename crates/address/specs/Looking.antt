@@ -20,7 +20,7 @@ use Rattle.law_addresses.specs.declared.Named.the-variants.{At, Nothing}
 use Rattle.address.specs.declared.Look.{Look}
 use Rattle.address.specs.declared.Look.the-variants.{Is, Below}
 
--- what is named by the words behind an entry's position, or where to look on
+-- what is named by the words after an entry's position, or where to look on
 unfoldable pub lookAs : Role → List ℕ → Entry → List ℕ → Look
 lookAs Draws a r rest = Is (cond (allZero rest) (At (r .before)) Nothing)
 lookAs Uses a r rest = Below (r .before) (blockOf a (r .who))
@@ -45,12 +45,12 @@ pub record Lower (e a : List ℕ) (k : Container) : Type 0 where
   pub sound : Sound head e a k
   pub low : k .height ≤ 9
 
--- one that is no higher than the words behind its position allow
+-- one that is no higher than the words after its position allow
 pub record Seeks (e a : List ℕ) (k : Container) (words : ℕ) : Type 0 where
   pub lower : Lower e a k
   pub high : k .height ≤ suc words
 
--- items that lie behind b others are few enough to be counted
+-- items that lie after b others are few enough to be counted
 abbrev pub Fits : ℕ → Named → Type 0
 Fits b t = (j : ℕ) → t ≡ At j → b + j < 2 ^ 63
 

@@ -25,7 +25,7 @@ pub record InFlash (head e a : List ℕ) (n p : ℕ) (u : Container) (j : ℕ) :
   pub low : u .height ≤ 8
   pub is : getD (sheetAddresses head e a) n [] ≡ 0 ∷ p ∷ getD (chains e a 8 u) j []
 
--- in a copy of the body u, which stands behind b positions
+-- in a copy of the body u, which stands after b positions
 pub record InCopy (head e a : List ℕ) (n copy b : ℕ) (u : Container) (j : ℕ) : Type 0 where
   pub held : Held e a u j
   pub low : u .height ≤ 9

@@ -1,4 +1,4 @@
--- The parameters from a place on: one more is gathered, and those behind it are left.
+-- The parameters from a place on: one more is gathered, and those after it are left.
 -- Assumes nothing.
 use Prim.Native.Nat.{ℕ, _+_, _<_, _≤_}
 use Prim.Native.Char.{code}

@@ -1,4 +1,4 @@
--- The points of a D01 behind FS that does not break 5 are near, and so is its centre.
+-- The points of a D01 after FS that does not break 5 are near, and so is its centre.
 -- Assumes nothing.
 use Prim.Native.Nat.{_*_, _^_, _≤_}
 use mathlib.Core.Path.{_≡_, refl}

@@ -1,4 +1,4 @@
--- The pass over a file's commands: what is found and heard so far, with the commands that are left, comes to the answer.
+-- The pass over a file's commands: what is found and heard so far, with the commands that are left, gives the answer.
 -- Assumes nothing.
 use Prim.Native.Nat.{ℕ}
 use mathlib.Core.Path.{_≡_, refl, ap, _∙_}

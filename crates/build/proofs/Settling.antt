@@ -35,7 +35,7 @@ settles e e₁ e₂ b r c t q long =
       left = rw q (entry-stored e₁ (entryRoom e - b .start) r inside);
     }
 
--- all turned over, and what lies behind it cleared
+-- all turned over, and what lies after it cleared
 pub ends : (e e₁ e₂ : List ℕ) (b : Builder) → b .closed + b .high ≤ entryRoom e → Turned e e₁ (b .closed) (entryRoom e) (b .high) →
     e₂ ≡ take ((b .closed + b .high) * entryWidth) e₁ ++ replicate (length e₁ - (b .closed + b .high) * entryWidth) 0 → Ended e e₂ b
 ends e e₁ e₂ b fits t q =

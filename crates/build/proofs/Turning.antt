@@ -1,4 +1,4 @@
--- Entries swapped from both ends: i of them so far, and what the whole of it comes to.
+-- Entries swapped from both ends: i of them so far, and the outcome of the whole of it.
 -- Assumes nothing.
 use Prim.Native.Nat.{ℕ, suc, _+_, _-_, _*_, _≤_, _<_}
 use mathlib.Core.Path.{_≡_, refl, sym, ap, _∙_}

@@ -1,4 +1,4 @@
--- What closing the innermost container comes to.
+-- The outcome of closing the innermost container.
 use Prim.Native.Nat.{ℕ, suc, _+_, _-_, _*_, _≤_, _<_}
 use mathlib.Core.Path.{_≡_}
 use mathlib.Core.List.{List, [], _∷_}
@@ -16,7 +16,7 @@ pub record Closes (e : List ℕ) (b : Builder) : Type 0 where
   pub below : b .start ≤ b .high
   pub fits : b .closed + b .high ≤ entryRoom e
 
--- its entries lie behind the closed ones, and r stands for its opening entry
+-- its entries lie after the closed ones, and r stands for its opening entry
 pub record Left (e e′ : List ℕ) (b : Builder) (r : Entry) : Type 0 where
   pub moved : Settled e e′ (entryRoom e) (b .closed) (b .start) (b .high)
   pub left : entryOf e′ (entryRoom e - b .start) ≡ r
@@ -42,7 +42,7 @@ pub record RepeatClosed (e e′ : List ℕ) (b : Builder) (copies : ℕ) (r : Bu
     items = opener e (entryRoom e) (b .start) .before + copies * b .items;
   }
 
--- the top level lies behind what is closed, and 0 behind it (01: "Unused room is zero afterwards")
+-- the top level lies after what is closed, and 0 after it (01: "Unused room is zero afterwards")
 pub record Ended (e e′ : List ℕ) (b : Builder) : Type 0 where
   pub as-long : length e′ ≡ length e
   pub same-closed : (i : ℕ) → i < b .closed → entryOf e i ≡ entryOf e′ i

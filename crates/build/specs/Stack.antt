@@ -1,4 +1,4 @@
--- Entries on the stack: one more, and a container's turned over to behind the closed ones.
+-- Entries on the stack: one more, and a container's put in reverse after the closed ones.
 use Prim.Native.Nat.{ℕ, suc, _+_, _-_, _*_, _≤_, _<_}
 use mathlib.Core.Path.{_≡_}
 use mathlib.Core.Bool.{Bool}

@@ -76,7 +76,7 @@ withScale s t = record { clear = t .clear; mirror = t .mirror; rotation = t .rot
 
 -- a setting
 unfoldable pub afterSetting : Setting → Graphics → Graphics
--- FS's A or I replaces a G90 or G91 before it, and they replace it behind it (decision 515)
+-- FS's A or I replaces a G90 or G91 before it, and they replace it after it (decision 515)
 afterSetting (setting.Format f) g = withNotation (f .incremental) (withHeader (withFormat f (g .header)) g)
 afterSetting setting.Absolute g = withNotation false g
 afterSetting setting.Incremental g = withNotation true g
@@ -138,7 +138,7 @@ goal (operation.Flash x y) g = target g x y
 unfoldable pub after : Command → Graphics → Graphics
 after (Set s) g = afterSetting s g
 after (Operate o) g = afterOperation o g
--- "The code takes effect first, then the operation in the state behind it" (decision 516)
+-- "The code takes effect first, then the operation in the state after it" (decision 516)
 after (Coded code o) g = afterOperation o (afterSetting code g)
 -- "After AB or SR opens or closes the point is unset (house)"
 after (Contain b) g = withPoint unset g

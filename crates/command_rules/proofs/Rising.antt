@@ -1,4 +1,4 @@
--- The numbers of every table rise, but that AD has one row for either 9 or 10, whose number is what the template or the macro came to:
+-- The numbers of every table rise, but that AD has one row for either 9 or 10, whose number is the outcome of the template or the macro:
 -- so the first row that holds is the lowest rule broken (crates/demands).
 -- Assumes nothing.
 use Prim.Native.Nat.{ℕ}

@@ -1,5 +1,5 @@
 -- The rules of every command but D01, D02, D03 and G37, each a table in the order of its numbers (01, Numbers the reader answers).
--- A test that needs the stores is handed in: whether a number or a name is known or taken, what a macro came to, whether room is full.
+-- A test that needs the stores is handed in: whether a number or a name is known or taken, the outcome of a macro, whether room is full.
 use Prim.Native.Nat.{ℕ}
 use mathlib.Core.Bool.{Bool, not}
 use mathlib.Core.List.{[], _∷_}
@@ -49,7 +49,7 @@ selectRules g known = (g .region .on, 7) ∷ (not known, 8) ∷ []
 unfoldable pub selectFault : Graphics → Bool → ℕ
 selectFault g known = firstFault (selectRules g known)
 
--- AD: 8 where its number is taken or its macro unknown; then what the template or the macro came to, 9 or 10; then room
+-- AD: 8 where its number is taken or its macro unknown; then the outcome of the template or the macro, 9 or 10; then room
 abbrev pub apertureRules : Graphics → Bool → ℕ → Bool → Table
 apertureRules g taken worked full =
     (g .region .on, 7)

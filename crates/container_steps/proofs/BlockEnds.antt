@@ -1,4 +1,4 @@
--- A block that closes: its fault, and what is known behind it.
+-- A block that closes: its fault, and what is known after it.
 -- Assumes nothing.
 use Prim.Native.Nat.{ℕ, _+_, _-_, _≤_, _<_}
 use mathlib.Core.Path.{_≡_, refl, sym, ap, _∙_}
@@ -47,7 +47,7 @@ use Rattle.progress.proofs.Levels.{block-level, items-known}
 use Rattle.container_steps.proofs.Levels.{inside-block, AroundBlock, around-block}
 use Rattle.container_steps.proofs.Tables.{closing-room, closing-kept, table-closed, chosen-closed}
 
--- how far reading has come behind the AB that closes
+-- how far reading has come after the AB that closes
 abbrev pub unblocked : Progress → Graphics → Builder → Progress
 unblocked p g b = withDepth (p .depth - 1) (withBuilder b (withGraphics g p))
 
@@ -165,7 +165,7 @@ module _ (w : Lent) (s : State) (p : Progress) (k : Knows w p s) where
             contour = λ q. absurd (no-contour w p s k (rw (k .graphics) at (passes .0)) q);
           })
 
--- the AB that closes comes to its fault, or to what is known behind it; what the calls answer is handed in
+-- the AB that closes ends in its fault, or in what is known after it; what the calls answer is handed in
 module _ (e a : List ℕ) (p : Progress) (l : Level) (level-told : l ≡ levelOf p) (fault : ℕ) (fault-told : fault ≡ closingFault (p .graphics) l 1) where
   abbrev lends : Lent → Type 0
   lends w = (w .entries ≡ e) × (w .apertures ≡ a)

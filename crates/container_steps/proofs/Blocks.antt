@@ -1,4 +1,4 @@
--- A block that opens: its fault, and what is known behind it.
+-- A block that opens: its fault, and what is known after it.
 -- Assumes nothing.
 use Prim.Native.Nat.{ℕ, suc, _+_, _-_, _≤_, _<_}
 use mathlib.Core.Path.{_≡_, refl, sym, ap, _∙_}
@@ -77,7 +77,7 @@ taken-fault g l full = go (g .region .on)
 abbrev openRecord : ℕ → Aperture
 openRecord n = record { number = n; kind = 0; first = 0; len = 0; items = 0; height = 0 }
 
--- how far reading has come behind AB
+-- how far reading has come after AB
 abbrev pub blocked : Progress → Graphics → Builder → Progress
 blocked p g b = parts.withApertures (p .apertures + 1) (withDepth (p .depth + 1) (withBuilder b (withGraphics g p)))
 
@@ -214,7 +214,7 @@ module _ (w : Lent) (s : State) (p : Progress) (k : Knows w p s) (place n : ℕ)
 pub lent-numbered : (e a : List ℕ) (p : Progress) → Known (λ w. (w .entries ≡ e) × (w .apertures ≡ a)) p → Numbered a (p .apertures)
 lent-numbered e a p known = rw (known .is .1) at (known .knows .apertures .indexed)
 
--- AB comes to its fault, or to what is known behind it; what the calls answer is handed in
+-- AB ends in its fault, or in what is known after it; what the calls answer is handed in
 module _ (e a : List ℕ) (p : Progress) (place n : ℕ) (known : Known (λ w. (w .entries ≡ e) × (w .apertures ≡ a)) p)
     (room : Bool) (room-is : room ≡ hasRoom e (p .builder .closed) (p .builder .high))
     (full : Bool) (full-told : full ≡ (not room or leb (apertureRoom a) (p .apertures))) (l : Level) (level-told : l ≡ levelOf p)

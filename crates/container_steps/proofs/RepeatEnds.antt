@@ -1,4 +1,4 @@
--- A repeat that closes: its fault, and what is known behind it.
+-- A repeat that closes: its fault, and what is known after it.
 -- Assumes nothing.
 use Prim.Native.Nat.{ℕ, _+_, _*_, _≤_}
 use mathlib.Core.Path.{_≡_, refl, sym, ap, _∙_}
@@ -45,7 +45,7 @@ use Rattle.progress.proofs.Outside.{no-contour}
 use Rattle.progress.proofs.Levels.{repeat-level, top-level}
 use Rattle.container_steps.proofs.Levels.{inside-repeat, AroundRepeat, around-repeat}
 
--- how far reading has come behind the SR that closes
+-- how far reading has come after the SR that closes
 abbrev pub unrepeated : Progress → Graphics → Builder → Progress
 unrepeated p g b = withRepeat 1 0 (withBuilder b (withGraphics g p))
 
@@ -155,7 +155,7 @@ module _ (w : Lent) (s : State) (p : Progress) (k : Knows w p s) where
             contour = λ q. absurd (no-contour w p s k (rw (k .graphics) at (passes .0)) q);
           })
 
--- the SR that closes comes to its fault, or to what is known behind it; what the calls answer is handed in
+-- the SR that closes ends in its fault, or in what is known after it; what the calls answer is handed in
 module _ (e : List ℕ) (p : Progress) (l : Level) (level-told : l ≡ levelOf p) (fault : ℕ) (fault-told : fault ≡ closingFault (p .graphics) l 2) where
   fault-is : fault ≡ closingFault (p .graphics) (levelOf p) 2
   fault-is = fault-told ∙ (λ i. closingFault (p .graphics) (level-told i) 2)

@@ -1,4 +1,4 @@
--- A repeat that opens: what is known behind it.
+-- A repeat that opens: what is known after it.
 -- Assumes nothing.
 use Prim.Native.Nat.{ℕ, _+_, _-_, _*_, _≤_, _<_}
 use mathlib.Core.Path.{_≡_, refl, sym, ap, _∙_}
@@ -74,7 +74,7 @@ counts-of nx ny dx dy q =
     let d : ny ≤ 9999 = leb-true ny 9999 (and-r _ _ y) in
     record { nx-low = a; nx-high = b; ny-low = c; ny-high = d; some = one-le-mul a c; few = mul-le-mul b d }
 
--- how far reading has come behind SR
+-- how far reading has come after SR
 abbrev pub repeated : Progress → ℕ → ℕ → Graphics → Builder → Progress
 repeated p nx ny g b = withRepeat (nx * ny) (p .builder .items) (withBuilder b (withGraphics g p))
 
@@ -189,7 +189,7 @@ module _ (w : Lent) (s : State) (p : Progress) (k : Knows w p s) (place nx ny : 
           contour = λ q. absurd (no-contour w p s k (rw (k .graphics) at (neither _ _ (passes .0) .0)) q);
         }
 
--- SR comes to its fault, or to what is known behind it; what the calls answer is handed in
+-- SR ends in its fault, or in what is known after it; what the calls answer is handed in
 module _ (e : List ℕ) (p : Progress) (place nx ny : ℕ) (dx dy : Amount) (bounds : Repeats nx ny dx dy)
     (room : Bool) (room-is : room ≡ hasRoom e (p .builder .closed) (p .builder .high)) (l : Level) (level-told : l ≡ levelOf p)
     (keeps : Bool) (keeps-is : keeps ≡ isRepeat nx ny dx dy) (fault : ℕ) (fault-told : fault ≡ repeatStartFault (p .graphics) l keeps (not room)) where

@@ -32,7 +32,7 @@ use Rattle.decimal.proofs.Ways.{numeral-digits}
 
 -- ---- the digits after the point that count
 
--- digits that are fewer by k zeros behind them
+-- digits that are fewer by k zeros after them
 record Fewer (s r : List ℕ) : Type 0 where
   zeros : ℕ
   long : length s ≡ length r + zeros

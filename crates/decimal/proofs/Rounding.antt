@@ -1,4 +1,4 @@
--- The rounded size is what six digits after the point are worth, and one more where the seventh is five or above: the digits behind it
+-- The rounded size is what six digits after the point are worth, and one more where the seventh is five or above: the digits after it
 -- never decide.
 -- Assumes nothing.
 use Prim.Native.Nat.{ℕ, zero, suc, _+_, _*_, _-_, _^_, _≤_, _<_}
@@ -93,7 +93,7 @@ module _ (whole fraction : List ℕ) (d : allDigits fraction ≡ true) (h : 6 < 
   abbrev six : ℕ
   six = valueOf whole * 10 ^ 6 + valueOf (take 6 fraction)
 
-  -- a million and the digits behind the sixth are left out of the division
+  -- a million and the digits after the sixth are left out of the division
   reduced : inMillionths whole fraction ≡ nearest (six * 10 ^ behind + valueOf (drop 6 fraction)) (10 ^ behind)
   unfolding inMillionths
   reduced =
@@ -104,7 +104,7 @@ module _ (whole fraction : List ℕ) (d : allDigits fraction ≡ true) (h : 6 < 
       let z : valueOf whole * 10 ^ length fraction + valueOf fraction ≡ six * 10 ^ behind + valueOf (drop 6 fraction) = omega (arith, q, v) in
       rw (z, p) (nearest-scaled _ _)
 
-  -- the digits behind the seventh are less than one of it
+  -- the digits after the seventh are less than one of it
   seventh : valueOf (drop 6 fraction) ≡ (getD fraction 6 0 - 48) * 10 ^ (behind - 1) + valueOf (drop 7 fraction)
   unfolding valueOf
   seventh =

@@ -1,4 +1,4 @@
--- AD: the aperture that is put is the one that reading adds, its numbers stand behind the others, and all else is known as before.
+-- AD: the aperture that is put is the one that reading adds, its numbers stand after the others, and all else is known as before.
 -- Assumes nothing.
 use Prim.Native.Nat.{ℕ, _+_, _-_, _≤_, _<_}
 use mathlib.Core.Path.{_≡_, refl, sym, ap, _∙_}
@@ -56,7 +56,7 @@ use Rattle.definition_steps.proofs.Kept.{over-is, kept-inside, behind-k
 
 -- ---- the rules
 
--- what it came to, then room
+-- its outcome, then room
 abbrev tail : ℕ → Bool → ℕ
 tail f full = pick (not (eqb f 0)) f (pick full 17 0)
 

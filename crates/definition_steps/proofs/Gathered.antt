@@ -1,4 +1,4 @@
--- The parameters of a standard template, one by one: what those from here on leave, behind what was left so far, is what all of them leave.
+-- The parameters of a standard template, one by one: what those from here on leave, after what was left so far, is what all of them leave.
 -- Assumes nothing.
 use Prim.Native.Nat.{ℕ, _+_, _<_, _≤_}
 use Prim.Native.Char.{code}

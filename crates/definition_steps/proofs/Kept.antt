@@ -1,4 +1,4 @@
--- The numbers that an AD keeps: where they fit they stand behind those of the apertures before it; where they do not, the answer is 17.
+-- The numbers that an AD keeps: where they fit they stand after those of the apertures before it; where they do not, the answer is 17.
 -- Assumes nothing.
 use Prim.Native.Nat.{ℕ, _+_, _-_, _≤_}
 use mathlib.Core.Path.{_≡_, refl, sym, ap, _∙_}

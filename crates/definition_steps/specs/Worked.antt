@@ -1,4 +1,4 @@
--- What the working out of an AD answers, with the numbers before (l) and behind (l′) it; they are used up to `used`.
+-- What the working out of an AD answers, with the numbers before (l) and after (l′) it; they are used up to `used`.
 use Prim.Native.Nat.{ℕ}
 use mathlib.Core.Path.{_≡_}
 use mathlib.Core.Bool.{Bool, true, false, cond}
@@ -16,7 +16,7 @@ use Rattle.law_reading.specs.Apertures.{valuesOf, isStandard, isAmong, namesOf,
 use Rattle.law_reading.specs.State.{Template}
 use Rattle.progress.specs.Tables.{MacroTable}
 
--- what the parameters of a standard template come to, from their comma on
+-- the outcome of the parameters of a standard template, from their comma on
 unfoldable pub standardOf : ℕ → List ℕ → reading.Outcome
 standardOf kind s = record { fault = cond (keeps kind (asked none (valuesOf s))) 0 10; kept = valuesOf s }
 

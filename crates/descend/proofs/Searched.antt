@@ -42,7 +42,7 @@ module _ (e : List ℕ) (k : Container) (n : ℕ) (s : Searched e k n) where
       let p : q + d + 1 ≡ q + suc d = omega arith in
       omega (arith, ih, rw p at up)
 
-  -- an entry behind the last that begins with item n or before it begins behind item n
+  -- an entry after the last that begins with item n or before it begins after item n
   not-before : (p q : ℕ) → Found e k n p → Found e k n q → p < q → ⊥
   not-before p q f g l =
       let d : p + 1 + (q - (p + 1)) ≡ q = omega arith in

@@ -39,7 +39,7 @@ module _ (b : ℕ) (limit : ℕ) where
   unfolding coordinateOf hasMinus afterSign wholeOf isNumber _and_
   without-any = refl
 
--- the sign of the coordinate at a place, and what stands behind it
+-- the sign of the coordinate at a place, and what stands after it
 module _ (s : List ℕ) (at : ℕ) (h : at ≤ length s) where
   end-from : pastSign s at ≤ coordinateEnd s at
   unfolding coordinateEnd
@@ -70,13 +70,13 @@ module _ (s : List ℕ) (at : ℕ) (h : at ≤ length s) where
           let none : text at ≡ [] = ap (λ n. slice at n s) n ∙ slice-empty at s in
           ap (λ t. coordinateOf t limit) none ∙ without-any (getD s at 0) limit ∙ ap (λ t. wholeOf (eqb (getD s at 0) 45) t limit) (sym none ∙ ap text (sym (sign-missing s at e)))
 
-  -- a coordinate by what stands behind its sign
+  -- a coordinate by what stands after its sign
   by-whole : (limit next : ℕ) (c : Coordinate) → next ≡ coordinateEnd s at → c ≡ wholeOf (eqb (getD s at 0) 45) (slice (pastSign s at) (coordinateEnd s at) s) limit →
       record { coordinate = c; next = next } ≡ coordinateAt s at limit
   unfolding coordinateAt
   by-whole limit next c n e = λ i. record { coordinate = (e ∙ sym (parted limit)) i; next = n i }
 
--- digits read up to a limit, and the place behind all of them: what they say of the coordinate
+-- digits read up to a limit, and the place after all of them: what they say of the coordinate
 module _ (s : List ℕ) (at limit from to next : ℕ) (d : Digits) (h : at ≤ length s) (l : limit ≤ 12)
     (p : from ≡ pastSign s at) (o : to ≡ min (length s) (from + limit)) (e : d ≡ digitsIn s from to) (n : next ≡ pastDigits s (d .next)) where
   from-to : from ≤ length s

@@ -92,7 +92,7 @@ unfolding isNumber
 number-passed s from h =
     simp (digits-passed s from, length-slice from (pastDigits s from) s (first-to (λ b. not (isDigit b)) s from h), and-true)
 
--- one digit more behind others
+-- one digit more after others
 value-snoc : (s : List ℕ) (b : ℕ) → valueOf (s ++ (b ∷ [])) ≡ valueOf s * 10 + (b - 48)
 unfolding valueOf
 value-snoc [] b = omega arith

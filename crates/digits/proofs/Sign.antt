@@ -39,7 +39,7 @@ module _ (s : List ℕ) (at : ℕ) where
       by-test true f = absurd (false≢true (sym (sign-past (leb-true (length s) at f)) ∙ e))
       by-test false f = leb-false (length s) at f
 
-  -- the place behind it
+  -- the place after it
   pub sign-passed : isSign (getD s at 0) ≡ true → pastSign s at ≡ at + 1
   unfolding pastSign
   sign-passed e = rw e

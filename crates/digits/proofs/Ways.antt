@@ -17,7 +17,7 @@ use Rattle.digits.specs.declared.answers.Natural.the-variants as natural
 use Rattle.digits.proofs.Digits.{value-bound, bound-at, number-digits}
 use Rattle.digits.proofs.Zeros.{leading-digits, leading-value, leading-large}
 
--- what stands behind the sign of a coordinate
+-- what stands after the sign of a coordinate
 module _ (minus : Bool) (s : List ℕ) (limit : ℕ) where
   pub whole-other : isNumber s ≡ false → coordinate.NotForm ≡ wholeOf minus s limit
   unfolding wholeOf

@@ -13,7 +13,7 @@ use Rattle.digits.specs.declared.answers.Coordinate.{Coordinate}
 use Rattle.digits.specs.declared.answers.Coordinate.the-variants.{NotForm, TooLong, Value}
 use Rattle.digits.specs.declared.answers.Taken.{Taken}
 
--- what stands behind the sign
+-- what stands after the sign
 unfoldable pub wholeOf : Bool → List ℕ → ℕ → Coordinate
 wholeOf minus s limit =
     cond (isNumber s)
@@ -23,11 +23,11 @@ wholeOf minus s limit =
 unfoldable pub coordinateOf : List ℕ → ℕ → Coordinate
 coordinateOf s limit = wholeOf (hasMinus s) (afterSign s) limit
 
--- a coordinate ends behind its sign and all digits that follow it
+-- a coordinate ends after its sign and all digits that follow it
 unfoldable pub coordinateEnd : List ℕ → ℕ → ℕ
 coordinateEnd s at = pastDigits s (pastSign s at)
 
--- the coordinate that stands at a place of a text, and the place behind it
+-- the coordinate that stands at a place of a text, and the place after it
 unfoldable pub coordinateAt : List ℕ → ℕ → ℕ → Taken
 coordinateAt s at limit =
     let next : ℕ = coordinateEnd s at in

@@ -31,12 +31,12 @@ allDigits (b ∷ s) = isDigit b and allDigits s
 unfoldable pub isNumber : List ℕ → Bool
 isNumber s = leb 1 (length s) and allDigits s
 
--- the first digit counts as often as the power of ten that the digits behind it make
+-- the first digit counts as often as the power of ten that the digits after it make
 unfoldable pub valueOf : List ℕ → ℕ
 valueOf [] = 0
 valueOf (b ∷ s) = (b - 48) * 10 ^ length s + valueOf s
 
--- the digits of a text from one place on, but none from `to` on: their value, and the place behind them
+-- the digits of a text from one place on, but none from `to` on: their value, and the place after them
 unfoldable pub digitsIn : List ℕ → ℕ → ℕ → Digits
 digitsIn s from to =
     let next : ℕ = min to (pastDigits s from) in

@@ -18,6 +18,6 @@ unfoldable pub afterSign : List ℕ → List ℕ
 afterSign [] = []
 afterSign (b ∷ s) = cond (isSign b) s (b ∷ s)
 
--- the place behind the sign at a place, or that place where there is none
+-- the place after the sign at a place, or that place where there is none
 unfoldable pub pastSign : List ℕ → ℕ → ℕ
 pastSign s at = cond (isSign (getD s at 0)) (at + 1) at

@@ -1,4 +1,4 @@
--- A chain of operators of one rank, walked through from the left: what it comes to from here on is what it comes to from the start.
+-- A chain of operators of one rank, walked through from the left: its outcome from here on is its outcome from the start.
 -- Assumes nothing.
 use Prim.Native.Nat.{ℕ, zero, suc, _-_, _^_, _<_, _≤_}
 use mathlib.Core.Path.{_≡_, refl, sym, ap, _∙_}
@@ -27,7 +27,7 @@ module _ (rank : Token → Sign) (op : Bool → ℤ → ℤ → Reckoned) (opera
   unfolding chain
   chain-go n w second ts e = rw (chain, e)
 
-  -- w is what was read so far of what comes to `all`, and o the operator behind it
+  -- w is what was read so far of `all`, and o the operator after it
   pub record Chained (s : List ℕ) (at : ℕ) (w : Worked) (o : Operator) (all : Reading) : Type 0 where
     pub turns : ℕ
     pub enough : length s - w .next ≤ turns

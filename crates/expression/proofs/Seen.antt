@@ -1,4 +1,4 @@
--- The first token from a place on, and those behind it; the operator at a place.
+-- The first token from a place on, and those after it; the operator at a place.
 -- Assumes nothing.
 use Prim.Native.Nat.{ℕ, _<_, _≤_}
 use mathlib.Core.Path.{_≡_, refl, sym, ap, _∙_}

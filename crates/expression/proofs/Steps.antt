@@ -71,7 +71,7 @@ module _ (n : ℕ) (variables : List ℤ) (inner : List Token → Reading) (s : 
           absurd (omega arith)
 
 module _ (term : List Token → Reading) (s : List ℕ) (at : ℕ) (o : Operator) (t w : Worked) where
-  -- a sign, or none, and the term behind it
+  -- a sign, or none, and the term after it
   pub sign-leads : Follows plusMinus s at o → Reads s (o .next) t (term (tokens (drop (o .next) s))) → Negates (o .second) t w →
       Reads s at w (leading term (following (plusMinus (head (tokens (drop at s)))) (tail (tokens (drop at s)))) (tokens (drop at s)))
   unfolding leading nextOf

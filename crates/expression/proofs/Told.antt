@@ -1,4 +1,4 @@
--- What answers say: of an operation, of a sign, of an operator behind what was read, of a closed parenthesis.
+-- What answers say: of an operation, of a sign, of an operator after what was read, of a closed parenthesis.
 -- Assumes nothing.
 use Prim.Native.Nat.{ℕ, _^_, _<_}
 use mathlib.Core.Path.{_≡_, refl, sym, _∙_}

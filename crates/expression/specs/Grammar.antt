@@ -1,4 +1,4 @@
--- The grammar of expressions, with what each comes to (01, Macros; decisions 59 and 64 to 70): "An expression may hold a term, a term a
+-- The grammar of expressions, with the value of each (01, Macros; decisions 59 and 64 to 70): "An expression may hold a term, a term a
 -- factor, a factor an expression in parentheses."
 use Prim.Native.Nat.{ℕ, zero, suc, _-_}
 use mathlib.Core.Bool.{Bool, true, false, cond}
@@ -15,12 +15,12 @@ use Rattle.expression.specs.declared.Leaf.the-variants as leaf
 use Rattle.expression.specs.declared.Sign.{Sign}
 use Rattle.expression.specs.declared.Sign.the-variants as sign
 
--- a value and the tokens behind it; or refused: with 9, where the expression has its form
+-- a value and the tokens after it; or refused: with 9, where the expression has its form
 pub data Reading : Type 0 where
   refused : Reading
   reads : ℤ → List Token → Reading
 
--- the first token, and those behind it
+-- the first token, and those after it
 unfoldable pub head : List Token → Token
 head [] = End
 head (t ∷ ts) = t
@@ -63,7 +63,7 @@ productBy over a b = cond over (quotientOf a b) (productOf a b)
 
 -- ---- operators of one rank, from the left
 
--- whether an operator follows, the second of its rank or the first, and the tokens behind it
+-- whether an operator follows, the second of its rank or the first, and the tokens after it
 pub data Next : Type 0 where
   stop : Next
   go : Bool → List Token → Next

@@ -46,7 +46,7 @@ pub record Follows (rank : Token → Sign) (s : List ℕ) (at : ℕ) (o : Operat
   pub none : o .any ≡ false → o .next ≡ at
   pub plain : o .any ≡ false → o .second ≡ false
 
--- o is the operator of a rank behind what was read, if there is one
+-- o is the operator of a rank after what was read, if there is one
 pub record After (rank : Token → Sign) (s : List ℕ) (w : Worked) (o : Operator) : Type 0 where
   pub says : nextOf s o ≡ after rank (asRead s w)
   pub inside : o .any ≡ true → w .next < length s

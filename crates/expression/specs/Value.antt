@@ -1,4 +1,4 @@
--- What the text of an expression comes to (01, Macros), with parentheses to depth 16.
+-- The value of the text of an expression (01, Macros), with parentheses to depth 16.
 use Prim.Native.Nat.{ℕ, _^_, _<_}
 use mathlib.Core.Path.{_≡_}
 use mathlib.Core.List.{List, [], _∷_}
@@ -18,7 +18,7 @@ whole (reads a (t ∷ ts)) = Refused
 unfoldable pub valueOf : List ℤ → List ℕ → Reckoned
 valueOf variables t = whole (expressionAt (length t) variables 17 (tokens t))
 
--- r is what it comes to; a value is below 10 ^ 12 millionths in size, where every variable is
+-- r is its value; a value is below 10 ^ 12 millionths in size, where every variable is
 pub record Comes (variables : List ℤ) (t : List ℕ) (r : Reckoned) : Type 0 where
   pub says : r ≡ valueOf variables t
   pub small : (z : ℤ) → r ≡ Value z → natAbs z < 10 ^ 12

@@ -30,7 +30,7 @@ pub enum Sign {
     Second,
 }
 
-// What was read up to `next` came to a value, or is refused.
+// What was read up to `next` has a value, or is refused.
 pub struct Worked {
     pub fine: bool,
     pub value: Amount,

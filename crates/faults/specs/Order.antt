@@ -16,6 +16,6 @@ rankOf n = choose ((eqb n 30, 4) ∷ (eqb n 29, 11) ∷ (eqb n 31, 12) ∷ []) n
 unfoldable pub testedBefore : ℕ → ℕ → Bool
 testedBefore a b = ltb (rankOf a) (rankOf b) or (eqb a (rankOf b) and not (eqb b (rankOf b)))
 
--- of the faults of a code and of the operation behind it, 0 where there is none, the one tested first
+-- of the faults of a code and of the operation after it, 0 where there is none, the one tested first
 unfoldable pub sooner : ℕ → ℕ → ℕ
 sooner a b = choose ((eqb a 0, b) ∷ (eqb b 0, a) ∷ (testedBefore b a, b) ∷ []) a

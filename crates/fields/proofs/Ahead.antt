@@ -88,7 +88,7 @@ plain-ahead book (b ∷ s) at i = go (eqb i at) refl (plain-ahead book s (at + 1
 
 -- a byte that is not in the field, and leads from a part to another
 module _ (book : Book) (part : Part) (b : ℕ) (out : isField part b ≡ false) (s : List ℕ) (at i : ℕ) where
-  -- what is seen behind it is seen before it, where that is not the byte itself
+  -- what is seen after it is seen before it, where that is not the byte itself
   pub to-next : {x : Bool} {next : Part} → partAfter book part b ≡ next → (i ≡ at → x ≡ false) → reaches book next s (at + 1) i ≡ x → reaches book part (b ∷ s) at i ≡ x
   to-next {x} p none rest = go (eqb i at) refl
     where
@@ -123,7 +123,7 @@ field-ahead book (b ∷ s) at i = go (byte "*" b) refl (field-ahead book s (at +
     go true f rest = starred f (eqb i at) refl ∙ sym (ap (range at i) (first-here (byte "*") b s at f) ∙ range-none at i at (omega arith))
     go false f rest = more f (eqb i at) refl rest ∙ sym (ap (range at i) (first-later (byte "*") b s at f))
 
--- behind `G4`: up to the first `*`, where no digit comes first
+-- after `G4`: up to the first `*`, where no digit comes first
 pub short-ahead : (book : Book) (s : List ℕ) (at i : ℕ) → reaches book CodeG4 s at i ≡ (not (isDigit (getD s 0 0)) and range at i (star s at))
 unfolding reaches firstIn isField partAfter beginsText isDigit _and_ _or_
 short-ahead book [] at i = sym (range-none at i at (omega arith))
@@ -148,7 +148,7 @@ pub bare : {t : Bool} {x : Bool} → t ≡ (true and x) → t ≡ x
 unfolding _and_
 bare e = e
 
--- before the comma: from the byte behind it up to the first `*`
+-- before the comma: from the byte after it up to the first `*`
 pub named-ahead : (book : Book) (s : List ℕ) (at i : ℕ) → reaches book Named s at i ≡ range (comma s at + 1) i (star s at)
 unfolding reaches firstIn isField partAfter
 named-ahead book [] at i = sym (range-none (at + 1) i at (omega arith))

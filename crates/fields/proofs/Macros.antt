@@ -1,4 +1,4 @@
--- What makes a macro of a command: a part, and the bytes behind it that make none. And the part that stays.
+-- What makes a macro of a command: a part, and the bytes after it that make none. And the part that stays.
 -- Assumes nothing.
 use Prim.Native.Nat.{ℕ}
 use mathlib.Core.Path.{_≡_, refl}

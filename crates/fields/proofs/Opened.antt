@@ -51,11 +51,11 @@ g0-ahead book (b ∷ s) at i = go (eqb b 52) refl
         rw (begins-next b s 52 [] 0 e, l) (to-part book CodeG0 b out s at i true (at + 1) (star s (at + 1)) (rw e) (omega arith) (holds (field-ahead book s (at + 1) i)))
     go false e = rw (begins-none b s 52 [] 0 e) (to-plain book CodeG0 b out s at i (rw e))
 
--- behind a `G`: the old book's short code
+-- after a `G`: the old book's short code
 unfoldable short : Book → List ℕ → Bool
 short book s = isOld book and (s begins "4" and not (isDigit (getD s 1 0)))
 
--- the field behind the long code, or behind the short one
+-- the field after the long code, or after the short one
 abbrev either-field : Bool → Bool → ℕ → ℕ → ℕ → Bool
 either-field long brief a i e = cond long (range (a + 1) i e) (brief and range a i e)
 
@@ -203,7 +203,7 @@ mark-ahead book (b ∷ s) at i = go (eqb b 65) refl (eqb b 84) refl
         rw (some f, l, m) (to-part book Mark b out s at i (s begins "F" or s begins "A" or s begins "O") (comma s (at + 1) + 1) (star s (at + 1)) (rw (e, f)) (omega arith) (t-ahead book s (at + 1) i))
     go false e false f = rw (none f) (to-plain book Mark b out s at i (rw (e, f)))
 
--- so it is for a command that begins with no `%`, and behind the `%` of one that does
+-- so it is for a command that begins with no `%`, and after the `%` of one that does
 module _ (book : Book) (b : ℕ) (s : List ℕ) (at i : ℕ) where
   past : star (b ∷ s) at ≤ at + length (b ∷ s)
   past = in-from (byte "*") (b ∷ s) at .1

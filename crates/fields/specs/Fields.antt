@@ -17,7 +17,7 @@ use Rattle.book.specs.declared.Book.{Book}
 unfoldable pub hasShortCode : Book → List ℕ → Bool
 hasShortCode book s = isOld book and (s begins "G4" and not (isDigit (getD s 2 0)))
 
--- of the command that these bytes begin with, the first of them at `at`: its field begins behind the code of G04, or behind the first comma of
+-- of the command that these bytes begin with, the first of them at `at`: its field begins after the code of G04, or after the first comma of
 -- `%TF`, `%TA`, `%TO`; past all of them where it has none
 unfoldable pub fieldFrom : Book → List ℕ → ℕ → ℕ
 fieldFrom book s at =

@@ -11,7 +11,7 @@ use Rattle.book.specs.declared.Book.{Book}
 use Rattle.fields.specs.declared.Part.{Part}
 use Rattle.fields.specs.declared.Part.the-variants.{Start, CodeG, CodeG0, CodeG4, Mark, MarkA, MarkT, Named, Field, Over}
 
--- behind `G4` G04's text begins with this byte: with a digit the code is another one, with `*` there is no text
+-- after `G4` G04's text begins with this byte: with a digit the code is another one, with `*` there is no text
 unfoldable pub beginsText : ℕ → Bool
 beginsText b = not (isDigit b or eqb b (code "*"))
 
@@ -40,7 +40,7 @@ isOver Named = false
 isOver Field = false
 isOver Over = true
 
--- the part behind a byte
+-- the part after a byte
 unfoldable pub partAfter : Book → Part → ℕ → Part
 partAfter book Start b = cond (eqb b (code "G")) CodeG Over
 partAfter book CodeG b = cond (eqb b (code "0")) CodeG0 (cond (isOld book and eqb b (code "4")) CodeG4 Over)

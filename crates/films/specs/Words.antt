@@ -18,7 +18,7 @@ use Rattle.films.specs.declared.Word.the-variants.{NotForm, Note, Halt, 
 unfoldable pub commentOf : List ℕ → Word
 commentOf s = pick (among s (code "%")) NotForm Note
 
--- "a G code before coordinates": an operation of what stands from a place on, behind that code; its coordinates end before its own code
+-- "a G code before coordinates": an operation of what stands from a place on, after that code; its coordinates end before its own code
 unfoldable pub operateOf : ℕ → ℕ → List ℕ → Word → Word
 operateOf g from s other =
     let operation : ℕ = operationIn (drop from s) in

@@ -1,4 +1,4 @@
--- A coordinate in a format is what its digits as written come to, raised; and how large it can be.
+-- A coordinate in a format is the outcome of its digits as written, raised; and how large it can be.
 -- Assumes nothing.
 use Prim.Native.Nat.{ℕ, zero, suc, _+_, _*_, _-_, _^_, _≤_, _<_}
 use mathlib.Core.Path.{_≡_, refl, sym, ap, subst, _∙_}
@@ -26,7 +26,7 @@ use Rattle.formats.specs.Values.{filled, valueIn, wholeIn, coordinateIn}
 use Rattle.formats.specs.Raised.{Few, zerosBehind, raised}
 use Rattle.formats.specs.declared.Format.{Format}
 
--- a format that FS can write has six places at most, before the point and behind it
+-- a format that FS can write has six places at most, before the point and after it
 is-few : (f : Format) → isFormat f ≡ true → Few f
 unfolding isFormat
 is-few f e =
@@ -56,7 +56,7 @@ unfolding valueOf
 zeros-nothing zero = refl
 zeros-nothing (suc k) = omega (arith, zeros-nothing k)
 
--- digits with zeros behind them
+-- digits with zeros after them
 pub zeros-value : (s : List ℕ) (k : ℕ) → valueOf (s ++ replicate k 48) ≡ valueOf s * 10 ^ k
 unfolding valueOf
 zeros-value [] k = zeros-nothing k ∙ sym (zero-mul (10 ^ k))
@@ -66,7 +66,7 @@ zeros-value (b ∷ s) k =
     rw (first, zeros-value s k) (sym (add-mul ((b - 48) * 10 ^ length s) (valueOf s) (10 ^ k)))
 
 module _ (f : Format) where
-  -- filled at the back and in millionths, the value has so many zeros behind its digits
+  -- filled at the back and in millionths, the value has so many zeros after its digits
   pub raised-value : (s : List ℕ) → valueIn f s ≡ valueOf s * 10 ^ zerosBehind f (length s)
   unfolding valueIn filled zerosBehind
   raised-value s = by-test (f .trailing)
@@ -88,7 +88,7 @@ module _ (f : Format) where
         by-tests true false = refl
         by-tests false u = refl
 
-    -- six places behind the point and leading zeros left out: the digits are millionths already
+    -- six places after the point and leading zeros left out: the digits are millionths already
     pub whole-plain : f .trailing ≡ false → f .decimals ≡ 6 → wholeOf minus s (placesOf f) ≡ wholeIn f minus s
     unfolding wholeIn wholeOf valueIn filled
     whole-plain e d = rw (e, d, mul-one)

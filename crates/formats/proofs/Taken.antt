@@ -38,7 +38,7 @@ module _ (f g : Format) (s : List ℕ) (at limit : ℕ) (taken : Taken) (eg : g 
   unfolding coordinateAt
   read-is = ap (λ (t : Taken). t .coordinate) et ∙ ap (coordinateOf (slice at (coordinateEnd s at) s)) limit-is
 
-  -- leading zeros left out and six places behind the point
+  -- leading zeros left out and six places after the point
   pub taken-plain : (not (g .trailing) and eqb (g .decimals) 6) ≡ true → taken ≡ takenIn f s at
   unfolding takenIn coordinateIn coordinateOf
   taken-plain h =

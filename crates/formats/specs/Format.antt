@@ -1,4 +1,4 @@
--- The format of coordinates (02, [9]; decisions 482 and 483): places before and behind the point, which zeros are left out, the notation.
+-- The format of coordinates (02, [9]; decisions 482 and 483): places before and after the point, which zeros are left out, the notation.
 use Prim.Native.Nat.{ℕ, _+_}
 use mathlib.Core.Bool.{Bool, false, not, cond}
 use lib.Dec.{leb, eqb}
@@ -9,7 +9,7 @@ use Rattle.formats.specs.declared.Format.{Format}
 unfoldable pub isFormat : Format → Bool
 isFormat f = leb (f .integers) 6 and leb (f .decimals) 6 and not (eqb (f .integers) 0 and eqb (f .decimals) 0)
 
--- the newer edition's: n before the point, six behind it, leading zeros left out, absolute
+-- the newer edition's: n before the point, six after it, leading zeros left out, absolute
 unfoldable pub newer : ℕ → Format
 newer n = record { integers = n; decimals = 6; trailing = false; incremental = false }
 
@@ -26,6 +26,6 @@ unfoldable pub placesOf : Format → ℕ
 placesOf f = f .integers + f .decimals
 
 -- the same where the value of a coordinate is that of its digits as they are written, for leading zeros are left out and six places stand
--- behind the point; 0 in any other format
+-- after the point; 0 in any other format
 unfoldable pub exactPlaces : Format → ℕ
 exactPlaces f = cond (not (inForce f .trailing) and eqb (inForce f .decimals) 6) (placesOf (inForce f)) 0

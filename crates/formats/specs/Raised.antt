@@ -1,4 +1,4 @@
--- A coordinate as the code comes to it: read by its digits as they are written, then raised by the zeros that its value has behind them.
+-- A coordinate as the code works it out: read by its digits as they are written, then raised by the zeros that its value has after them.
 use Prim.Native.Nat.{ℕ, _+_, _*_, _-_, _^_, _≤_}
 use mathlib.Core.Bool.{Bool, cond}
 use lib.IntN.{natAbs}
@@ -8,7 +8,7 @@ use Rattle.digits.specs.declared.answers.Coordinate.the-variants.{NotForm, TooL
 use Rattle.formats.specs.Format.{placesOf}
 use Rattle.formats.specs.declared.Format.{Format}
 
--- six places at most, before the point and behind it
+-- six places at most, before the point and after it
 pub record Few (f : Format) : Type 0 where
   pub ahead : f .integers ≤ 6
   pub behind : f .decimals ≤ 6

@@ -25,7 +25,7 @@ filled f s = cond (f .trailing) (s ++ replicate (placesOf f - length s) (code "0
 unfoldable pub valueIn : Format → List ℕ → ℕ
 valueIn f s = valueOf (filled f s) * 10 ^ (6 - f .decimals)
 
--- what stands behind the sign
+-- what stands after the sign
 unfoldable pub wholeIn : Format → Bool → List ℕ → Coordinate
 wholeIn f minus s =
     cond (isNumber s)
@@ -35,7 +35,7 @@ wholeIn f minus s =
 unfoldable pub coordinateIn : Format → List ℕ → Coordinate
 coordinateIn f s = wholeIn (inForce f) (hasMinus s) (afterSign s)
 
--- the coordinate that stands at a place of a text, and the place behind it
+-- the coordinate that stands at a place of a text, and the place after it
 unfoldable pub takenIn : Format → List ℕ → ℕ → Taken
 takenIn f s at =
     let next : ℕ = coordinateEnd s at in

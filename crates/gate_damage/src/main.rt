@@ -6,7 +6,7 @@ use descend::Fetch;
 use descend::Total;
 use libc::STDOUT_FILENO;
 
-// How many damaged stores came to what.
+// How many damaged stores had which outcome.
 struct Tally {
     refused: u64,
     answered: u64,

@@ -1,4 +1,4 @@
--- The laws of digits at a place: the one there and those behind it.
+-- The laws of digits at a place: the one there and those after it.
 -- Assumes nothing.
 use Prim.Native.Nat.{ℕ, _+_, _<_, _≤_}
 use mathlib.Core.Path.{_≡_}

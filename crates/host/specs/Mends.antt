@@ -1,4 +1,4 @@
--- What the call that mends comes to, in numbers alone: its contract with its answer taken apart (decision 282).
+-- The outcome of the call that mends, in numbers alone: its contract with its answer taken apart (decision 282).
 use Prim.Native.Nat.{ℕ}
 use mathlib.Core.Path.{_≡_}
 use mathlib.Core.List.{List}

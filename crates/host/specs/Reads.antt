@@ -1,4 +1,4 @@
--- What the call for a reading comes to, in numbers alone: `reader`'s contract with its answer taken apart (decision 282).
+-- The outcome of the call for a reading, in numbers alone: `reader`'s contract with its answer taken apart (decision 282).
 use Prim.Native.Nat.{ℕ}
 use mathlib.Core.Path.{_≡_}
 use mathlib.Core.List.{List}

@@ -9,7 +9,7 @@ pub data Leads (s : List ℕ) : ℕ → ℕ → ℕ → Type 0 where
   here : {key i : ℕ} → Leads s key i i
   on : {key i j : ℕ} → 0 < next s i key → Leads s (bitsAbove key) (next s i key) j → Leads s key i j
 
--- a link leads to a later record, and the search for a record's key comes to it
+-- a link leads to a later record, and the search for a record's key reaches it
 pub record Indexed (s : List ℕ) (keyOf : ℕ → ℕ) (used : ℕ) : Type 0 where
   pub inside : used * recordWidth ≤ length s
   pub later : (i key : ℕ) → i < used → 0 < next s i key → (i < next s i key) × (next s i key < used)

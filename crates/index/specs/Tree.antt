@@ -33,6 +33,6 @@ lastLink s zero i key = linkOf i key
 lastLink s (suc n) i key =
     elim (eqb (next s i key) 0) [ true ↦ linkOf i key | false ↦ lastLink s n (next s i key) (bitsAbove key) ]
 
--- the search for the key ends at record `new`, behind all before it
+-- the search for the key ends at record `new`, after all before it
 abbrev pub linked : List ℕ → ℕ → ℕ → List ℕ
 linked s new key = set s (lastLink s new 0 key) new

@@ -41,7 +41,7 @@ module _ (book : Book) (file : List ℕ) (short : length file < 2 ^ 64) (from at
   abbrev pub run : Stage → ℕ → ℕ → Answer
   run stage place i = answered (taken (along book file stage from at place i) (drop i file))
 
-  -- and what it comes to, by what the scanner says of the command
+  -- and its outcome, by what the scanner says of the command
   abbrev pub outcome : Scan → Answer
   outcome (Command kind place text end next) = run (settled (Complete kind) (isEnd book (bare file place next))) place next
   outcome (BadByte place) = refused 2 place

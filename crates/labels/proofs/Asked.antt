@@ -1,4 +1,4 @@
--- The one search is both questions: by name the first that has it, by number the one behind so many others.
+-- The one search is both questions: by name the first that has it, by number the one after so many others.
 -- Assumes nothing.
 use Prim.Native.Nat.{ℕ, zero, suc, _-_}
 use mathlib.Core.Path.{_≡_, refl, ap}

@@ -29,7 +29,7 @@ none = record { name = span 0 0; value = span 0 0 }
 unfoldable pub refused : ℕ → Answer
 refused number = record { number = number; label = none }
 
--- the bytes behind the first comma from a place on, up to the first `*`; at 0 to 0 without one, as of TA and TO
+-- the bytes after the first comma from a place on, up to the first `*`; at 0 to 0 without one, as of TA and TO
 unfoldable pub valueIn : List ℕ → ℕ → Span
 valueIn s from =
     let comma : ℕ = place (code ",") s from in

@@ -62,7 +62,7 @@ unfolding allZero
 are-zeros [] t = refl
 are-zeros (x ∷ xs) t = λ i. eqb-true x 0 (and-l _ _ t) i ∷ are-zeros xs (and-r _ _ t) i
 
--- words that there are, and those behind them
+-- words that there are, and those after them
 pub first-rest : (w : List ℕ) → 1 ≤ length w → w ≡ getD w 0 0 ∷ drop 1 w
 first-rest [] l = absurd (not-suc-le-zero l)
 first-rest (x ∷ xs) l = refl

@@ -35,7 +35,7 @@ unfolding run
 map-run g f p zero = refl
 map-run g f p (suc n) = map-append g (f p) (run f (suc p) n) ∙ ap (λ l. map g (f p) ++ l) (map-run g f (suc p) n)
 
--- parts one behind the other
+-- parts one after the other
 positions-then : (ps qs : Parts) → positions (ps then qs) ≡ positions ps + positions qs
 unfolding positions _then_
 positions-then none qs = sym (zero-add _)
@@ -84,7 +84,7 @@ addresses-shifted b p (repeated r c ps) =
     (λ i l. rw (addresses-shifted b p c, map-map, map-map))
     ∙ sym (map-run (shifted b) (λ n. map (inCopy n) (addressesIn p c)) 1 (r .nx * r .ny))))
 
--- pieces, where F says how many positions each takes, and Y what its addresses are behind b positions
+-- pieces, where F says how many positions each takes, and Y what its addresses are after b positions
 pieces-addressed : (g : Address → List ℕ) (f : ℕ → Parts) (F : ℕ → ℕ) (Y : ℕ → ℕ → List (List ℕ)) (p n b : ℕ) →
     ((i : ℕ) → i < n → positions (f (p + i)) ≡ F (p + i)) →
     ((i c : ℕ) → i < n → map g (addressesIn (suc c) (f (p + i))) ≡ Y c (p + i)) →

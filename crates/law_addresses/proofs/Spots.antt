@@ -49,7 +49,7 @@ module _ (F : ℕ → ℕ) (p n m : ℕ) where
   unfolding spot
   spot-on l = rw (lt-leb m (F p) l)
 
--- a search that does not end behind the entries: where it ends
+-- a search that does not end after the entries: where it ends
 pub record Spotted (F : ℕ → ℕ) (p n m : ℕ) (s : Spot) : Type 0 where
   pub i : ℕ
   pub i-in : i < n
@@ -103,7 +103,7 @@ spot-at F p (suc n) (suc i) q l some held =
     spot-on F p n (F p + sums F (suc p) i + q) (omega arith)
     ∙ rw (back, ← step) (spot-at F (suc p) n i q (omega arith) some (rw step held))
 
--- how a loop goes through a search: behind i entries, with `left` to go
+-- how a loop goes through a search: after i entries, with `left` to go
 pub spot-start : (F : ℕ → ℕ) (p n m : ℕ) → spot F p n m ≡ spot F (p + 0) (n - 0) m
 spot-start F p n m = rw (add-zero p, sub-zero n)
 

@@ -54,7 +54,7 @@ module _ (e a : List ℕ) (h p : ℕ) (r : Entry) where
   unfolding entryChains chainsAs
   chain-uses q j l = rw q (nth-map (λ c. p ∷ c) (chains e a h (blockOf a (r .who))) j [] [] l)
 
-  -- what a chain of the entry is, and that the search behind its position finds it
+  -- what a chain of the entry is, and that the search after its position finds it
   pub record Chained (j : ℕ) : Type 0 where
     pub rest : List ℕ
     pub chain : getD (entryChains a h (chains e a h) p r) j [] ≡ p ∷ rest

@@ -19,7 +19,7 @@ use Rattle.law_addresses.specs.declared.Named.the-variants.{At, Nothing}
 unfoldable pub raised : ℕ → List ℕ → List ℕ
 raised b w = (b + getD w 0 0) ∷ drop 1 w
 
--- of a top level's entry behind b positions: a repeat's copies are counted from 1 in the order in which they are put out; elsewhere the copy is 0
+-- of a top level's entry after b positions: a repeat's copies are counted from 1 in the order in which they are put out; elsewhere the copy is 0
 unfoldable pub addressesAs : Role → List ℕ → List ℕ → ℕ → Entry → List (List ℕ)
 addressesAs Draws e a b r = map (λ c. 0 ∷ c) (entryChains a 8 (chains e a 8) (suc b) r)
 addressesAs Uses e a b r = map (λ c. 0 ∷ c) (entryChains a 8 (chains e a 8) (suc b) r)

@@ -25,7 +25,7 @@ unfoldable pub allZero : List ℕ → Bool
 allZero [] = true
 allZero (x ∷ xs) = eqb x 0 and allZero xs
 
--- in the entry that holds the position, by the words behind it
+-- in the entry that holds the position, by the words after it
 unfoldable pub soughtAs : Role → List ℕ → (Container → ℕ → List ℕ → Named) → Entry → List ℕ → Named
 soughtAs Draws a below r rest = cond (allZero rest) (At (r .before)) Nothing
 soughtAs Uses a below r rest = further (r .before) (below (blockOf a (r .who)) (getD rest 0 0) (drop 1 rest))
@@ -33,11 +33,11 @@ soughtAs Repeats a below r rest = Nothing
 soughtAs Defines a below r rest = Nothing
 soughtAs Unknown a below r rest = Nothing
 
--- positions count from 1, and the search ends behind the container where there is none
+-- positions count from 1, and the search ends after the container where there is none
 unfoldable pub misses : Container → ℕ → Spot → Bool
 misses k q s = eqb q 0 or eqb (s .entry) (k .first + k .len)
 
--- item of the container k with the position q and the words behind it
+-- item of the container k with the position q and the words after it
 unfoldable pub soughtAt : List ℕ → List ℕ → (Container → ℕ → List ℕ → Named) → Container → ℕ → Spot → List ℕ → Named
 soughtAt e a below k q s rest = cond (misses k q s) Nothing (soughtAs (roleOf (entryOf e (s .entry) .kind)) a below (entryOf e (s .entry)) rest)
 

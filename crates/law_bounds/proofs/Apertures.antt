@@ -1,4 +1,4 @@
--- AD and AB: the number is in its range; a definition's name and parameters lie one behind the other up to the end.
+-- AD and AB: the number is in its range; a definition's name and parameters lie one after the other up to the end.
 -- Assumes nothing.
 use Prim.Native.Nat.{ℕ, _≤_}
 use Prim.Native.Char.{code}

@@ -1,4 +1,4 @@
--- TF, TA, TO and TD: the name lies behind the two letters, before the comma or the end.
+-- TF, TA, TO and TD: the name lies after the two letters, before the comma or the end.
 -- Assumes nothing.
 use Prim.Native.Nat.{ℕ}
 use Prim.Native.Char.{code}

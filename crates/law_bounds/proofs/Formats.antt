@@ -1,4 +1,4 @@
--- What FS says in either edition is a format: six places at most before the point and behind it, one at least in all.
+-- What FS says in either edition is a format: six places at most before the point and after it, one at least in all.
 -- Assumes nothing.
 use Prim.Native.Nat.{ℕ, _-_, _≤_}
 use mathlib.Core.Path.{_≡_, refl, sym, ap, subst, _∙_}

@@ -134,7 +134,7 @@ module _ (s : List ℕ) where
       let q : ℕ = place (code ",") s (pastDigits s 3) in
       picks Few (λ e. judges Few none none (λ formed fits. omega (arith, parameters-few (drop q s), length-drop q s))) none
 
-  -- SR's two stand behind three letters
+  -- SR's two stand after three letters
   repeat-few : Few (repeatOf s)
   unfolding repeatOf repeatStart repeats roundedOf roundedInBracket
   repeat-few =
@@ -147,7 +147,7 @@ module _ (s : List ℕ) where
   unfolding mirrorOf roundedOf roundedInSetting
   mirror-few = picks Few (λ e. none) (picks Few (λ e. none) (picks Few (λ e. none) (picks Few (λ e. none) none)))
 
-  -- that of LR and LS behind two
+  -- that of LR and LS after two
   transformation-few : Few (transformationOf s)
   unfolding transformationOf rotationOf scaleOf roundedOf roundedInSetting
   transformation-few =

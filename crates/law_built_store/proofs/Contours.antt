@@ -1,4 +1,4 @@
--- An edge that is counted and put is drawn behind the others, and its contour has one edge more.
+-- An edge that is counted and put is drawn after the others, and its contour has one edge more.
 -- Assumes nothing.
 use Prim.Native.Nat.{ℕ, suc, _+_, _-_, _/_, _≤_, _<_}
 use mathlib.Core.Path.{_≡_, refl, sym, ap, _∙_}

@@ -1,4 +1,4 @@
--- Each mark that is put, or closes what is open, is shown by the store behind those before it.
+-- Each mark that is put, or closes what is open, is shown by the store after those before it.
 -- Assumes nothing.
 use Prim.Native.Nat.{ℕ, suc, _+_, _-_, _%_, _≤_, _<_}
 use mathlib.Core.Path.{_≡_, refl}
@@ -30,7 +30,7 @@ use Rattle.build.specs.Builder.{raised, grown, inner}
 use Rattle.law_built_store.specs.Shown.{blank, Holds}
 use Rattle.law_built_store.proofs.Entries.{item-shows, item-role, item-ok, pose-shows, use-ok, pushed-is}
 
--- a mark that is no edge is written behind the others
+-- a mark that is no edge is written after the others
 pub one-more : (ms : List Mark) (m : Mark) → edges (m ∷ []) ≡ 0 → written (ms ++ m ∷ []) blank ≡ marked m [] (written ms blank)
 unfolding written
 one-more ms m q = written-append ms (m ∷ []) blank q

@@ -124,7 +124,7 @@ lists =
     -- no item; an outline alone
     ([], "")
     ∷ (drawn 1 (p 1 1) (p 1 1) (is "U1") ∷ [], "")
-    -- pins before their main, and behind another's
+    -- pins before their main, and after another's
     ∷ (pin 1 (is "U1,2,GND") ∷ main 2 (is "U1") ∷ main 3 (is "U2") ∷ pin 4 (is "U1,1") ∷ [], "U1\t2\t0\t\t\t\t\n\t2\t1\t0\n\t1\t4\t0\nU2\t3\t0\t\t\t\t\n")
     -- a pin without a main; one that differs by a letter's case
     ∷ (pin 1 (is "U3,1") ∷ pin 2 (is "u1,1") ∷ main 3 (is "U1") ∷ [], "U1\t3\t0\t\t\t\t\n")
@@ -151,7 +151,7 @@ faults =
     -- 28, at the last item of the outline
     ∷ (drawn 1 (p 0 0) (p 1 0) (is "U1") ∷ drawn 2 (p 1 0) (p 1 1) (is "U1") ∷ other 3 ∷ [], fault 28 2)
     ∷ (drawn 1 (p 0 0) (p 1 0) (is "U1") ∷ drawn 2 (p 1 0) (p 1 1) (is "U1") ∷ drawn 3 (p 1 1) (p 0 0) (is "U1") ∷ [], fault 0 0)
-    -- it decides before a 26 of the item behind it, and after one of its own last item
+    -- it decides before a 26 of the item after it, and after one of its own last item
     ∷ (drawn 1 (p 0 0) (p 1 0) (is "U1") ∷ main 2 none ∷ [], fault 28 1)
     ∷ (drawn 1 (p 0 0) (p 1 0) (is "U1") ∷ drawn 2 (p 1 0) (p 1 1) none ∷ main 3 none ∷ [], fault 26 2)
     -- two outlines that meet are one, whatever their designators; here it closes

@@ -1,4 +1,4 @@
--- The rows by the pieces that are written: a field behind its tab, and a point's two.
+-- The rows by the pieces that are written: a field after its tab, and a point's two.
 -- Assumes nothing.
 use Prim.Native.Nat.{ℕ}
 use mathlib.Core.Path.{_≡_, ap}

@@ -1,4 +1,4 @@
--- What is written in pieces is written: the pen behind the last is full just where all of it together is longer than the room.
+-- What is written in pieces is written: the pen after the last is full just where all of it together is longer than the room.
 -- Assumes nothing.
 use Prim.Native.Nat.{ℕ, _+_, _≤_, _<_}
 use mathlib.Core.Path.{_≡_, refl, sym, ap, _∙_, subst}
@@ -22,7 +22,7 @@ unfolding _or_
 over-both true n at s t h = refl
 over-both false n at s t h = let l = ltb-true n (at + s) h in lt-ltb n (at + (s + t)) (omega arith)
 
--- not full before, where not full behind
+-- not full before, where not full after
 not-before : (a b : Bool) → (a or b) ≡ false → a ≡ false
 unfolding _or_
 not-before true b h = absurd (false≢true (sym h))

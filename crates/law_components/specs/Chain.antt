@@ -1,4 +1,4 @@
--- Numbers of items kept as chains in a lent room, in records of two words: an item's number, and the link to the record behind it. A link is
+-- Numbers of items kept as chains in a lent room, in records of two words: an item's number, and the link to the record after it. A link is
 -- one more than the number of its record, which was put in before; 0 ends the chain.
 use Prim.Native.Nat.{ℕ, suc, _+_, _*_, _≤_, _<_}
 use mathlib.Core.Path.{_≡_}

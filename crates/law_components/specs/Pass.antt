@@ -1,4 +1,4 @@
--- One pass over the items that finds the first at fault: 28 is known at the item behind the outline, and decides before that item's own faults.
+-- One pass over the items that finds the first at fault: 28 is known at the item after the outline, and decides before that item's own faults.
 use Prim.Native.Nat.{ℕ, zero, suc}
 use mathlib.Core.Bool.{Bool, true, false, cond, not}
 use mathlib.Core.List.{List}

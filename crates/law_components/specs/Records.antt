@@ -13,12 +13,12 @@ unfoldable pub numeral : ℤ → List ℕ
 numeral (pos n) = decimalOf n
 numeral (negsuc n) = text "-" ++ decimalOf (suc n)
 
--- each behind a tab, and LF
+-- each after a tab, and LF
 unfoldable pub tabbed : List (List ℕ) → List ℕ
 tabbed [] = text "\n"
 tabbed (s ∷ ss) = text "\t" ++ (s ++ tabbed ss)
 
--- x and y, each behind a tab
+-- x and y, each after a tab
 unfoldable pub pointText : Point → List ℕ
 pointText p = text "\t" ++ (numeral (p .x) ++ (text "\t" ++ numeral (p .y)))
 

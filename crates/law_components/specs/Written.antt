@@ -10,7 +10,7 @@ use Rattle.base.specs.Or.{_or_}
 use Rattle.lines.specs.Line.{Added}
 use Rattle.law_components.specs.declared.Pen.{Pen}
 
--- s is written behind what the pen p has written, and q is the pen behind it
+-- s is written after what the pen p has written, and q is the pen after it
 pub record Wrote (before after : List ℕ) (p q : Pen) (s : List ℕ) : Type 0 where
   pub long : length after ≡ length before
   pub full : q .full ≡ (p .full or ltb (length before) (p .at + length s))

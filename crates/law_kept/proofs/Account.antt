@@ -133,7 +133,7 @@ flash-size g x y place z held = go (g .aperture .block) refl
     go false p = rw p
 
 module _ (s : State) (k : Known s) where
-  -- behind marks that are n items more
+  -- after marks that are n items more
   pub marked-more : (ms : List Mark) (n h : ℕ) → sizes ms (sized (s .marks)) ≡ more n (sized (s .marks)) →
       Account (s .graphics .aperture) (withItems n h (s .level)) (s .opened) (s .apertures) (sized (s .marks ++ ms))
   marked-more ms n h q =

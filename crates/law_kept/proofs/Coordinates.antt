@@ -1,5 +1,5 @@
 -- What an operation's text says is where it goes: of every recogniser only those of D01, D02 and D03 make operations, and their fields are
--- the coordinates of the text, which in the old book stand behind its G code; the format is that of the FS before it, which reading knows.
+-- the coordinates of the text, which in the old book stand after its G code; the format is that of the FS before it, which reading knows.
 -- Assumes nothing.
 use Prim.Native.Nat.{ℕ, _+_, _-_}
 use mathlib.Core.Path.{_≡_, refl, sym, ap, _∙_, subst}
@@ -40,7 +40,7 @@ cut-spelt {book = book} {file = file} {f = f} {c = c} k =
     let t : List ℕ = slice (c .from) (c .end) file in
     subst (Spelt f (coordinatesIn book t)) (sym (k .says)) (spelt f t book (k .kind))
 
--- the command behind those that are kept was looked for in the format that reading knows
+-- the command after those that are kept was looked for in the format that reading knows
 cut-kept : {book : Book} {room : Room} {file : List ℕ} {s t : State} {before : List Placed} (c : Placed) (after : List Placed) → Keeps room file s before t →
     AllCut book file (formatIn s) (before ++ c ∷ after) → Cut book file (formatIn t) c
 cut-kept c after nothing k = k .0
@@ -110,7 +110,7 @@ module _ {book : Book} {room : Room} {file : List ℕ} {c : Placed} {s : State} 
   unfolding begun start
   told = cut-spelt (cut-kept c (k .after) (k .kept) (subst (AllCut book file noFormat) (k .order) (commands-known book file .0)))
 
-  -- an operation alone, and one behind a code
+  -- an operation alone, and one after a code
   pub exact : (o : Operation) → c .command ≡ Operate o → Exact book room file c o s s
   unfolding stepOf
   exact o is =

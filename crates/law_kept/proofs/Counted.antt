@@ -169,7 +169,7 @@ begun-known book = record {
   held = λ e. absurd (false≢true e);
 }
 
--- every state that kept commands lead to, and those behind a code before an operation
+-- every state that kept commands lead to, and those after a code before an operation
 module _ (book : Book) {room : Room} {file : List ℕ} {t : State} {cs : List Placed} (k : Keeps room file (begun book) cs t) where
   pub counts-reached : Counts t
   counts-reached = counts t (kept-counts k (begun-known book))

@@ -1,5 +1,5 @@
 -- The commands of a file one by one: from where each was looked for, what its text says by the format of the FS before it, and
--- where the fault behind them stands. By induction over the turns of `commandsFrom`.
+-- where the fault after them stands. By induction over the turns of `commandsFrom`.
 -- Assumes nothing.
 use Prim.Native.Nat.{ℕ, zero, suc, _+_, _-_, _≤_, _<_}
 use mathlib.Core.Path.{_≡_, refl, sym, ap, _∙_, subst}
@@ -204,7 +204,7 @@ text-from kind.Word place = omega arith
 text-from kind.Extended place = omega arith
 text-from kind.Macro place = omega arith
 
--- in a text that begins k bytes behind a place, so many bytes on
+-- in a text that begins k bytes after a place, so many bytes on
 behind-place : (file : List ℕ) (place k i : ℕ) → getD (drop k (drop place file)) i 0 ≡ getD file (place + (k + i)) 0
 behind-place file place k i = getD-drop k (drop place file) i 0 ∙ getD-drop place file (k + i) 0
 
@@ -306,7 +306,7 @@ commands-known book file = go (fits file) refl
     go true e = rw e (from-known book file (suc (length file)) noFormat 0 start (omega arith))
     go false e = rw e (tt, inr (stands-one book file))
 
--- the command behind others
+-- the command after others
 pub cut-at : (book : Book) (file : List ℕ) (f : Format) (before : List Placed) (c : Placed) (after : List Placed) → AllCut book file f (before ++ c ∷ after) →
     (g : Format) × Cut book file g c
 cut-at book file f [] c after k = (f, k .0)

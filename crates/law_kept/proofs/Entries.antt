@@ -91,7 +91,7 @@ flash-uses g x y place = go (g .aperture .block) refl
     go true p = rw p
     go false p = rw p
 
--- behind a step the entries are those before it, those of the command, and those of the contours that it starts
+-- after a step the entries are those before it, those of the command, and those of the contours that it starts
 abbrev Uses : Command → State → State → Type 0
 Uses c s t = t .entries + contours (s .marks) ≡ s .entries + commandEntries c + contours (t .marks)
 

@@ -33,7 +33,7 @@ found-number i n (a ∷ known) e = go (found-number (suc i) n known) (eqb n (a .
     go ih true q e = sym (eqb-true n (a .number) q)
     go ih false q e = ih e
 
--- a record behind the others is found only where no other is
+-- a record after the others is found only where no other is
 module _ (a : Aperture) where
   pub found-stays : (i n : ℕ) (known : List Aperture) → apertureFrom i n known .block ≡ true → apertureFrom i n (known ++ a ∷ []) ≡ apertureFrom i n known
   unfolding apertureFrom

@@ -31,7 +31,7 @@ module _ (room : Room) (file : List ℕ) where
   read-kept s t cs ds f (one {c = c} {cs = rest} e k) =
       rw (eq-eqb (stepAt room file c s .fault) 0 e, readOn) (read-kept (stepAt room file c s .next) t rest ds f k)
 
-  -- a reading from a state on that accepts kept all, and there is no fault behind
+  -- a reading from a state on that accepts kept all, and there is no fault after
   read-accepts : (cs : List Placed) (f : Refusal) (s t : State) → readOn room file cs f s ≡ accepted t → Keeps room file s cs t × f .number ≡ 0
   unfolding readOn
   read-accepts [] f s t q = go (eqb (f .number) 0) refl q

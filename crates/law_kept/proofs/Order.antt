@@ -19,7 +19,7 @@ use Rattle.law_kept.specs.Order.{Broken, here, further, Lowest}
 abbrev Rows : Type 0
 Rows = List (Bool × ℕ)
 
--- the first row, or one behind it
+-- the first row, or one after it
 pub broken-cases : {n : ℕ} {row : Bool × ℕ} {rows : Rows} → Broken n (row ∷ rows) → ((row .0 ≡ true) × (row .1 ≡ n)) ⊎ Broken n rows
 broken-cases (here e q) = inl (e, q)
 broken-cases (further b) = inr b

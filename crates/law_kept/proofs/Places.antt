@@ -1,4 +1,4 @@
--- Where a refusal stands: each command begins inside the file, and what is at fault behind the commands stands in it or at its end.
+-- Where a refusal stands: each command begins inside the file, and what is at fault after the commands stands in it or at its end.
 -- Assumes nothing.
 use Prim.Native.Nat.{ℕ, zero, suc, _≤_, _<_}
 use mathlib.Core.Path.{_≡_, refl, subst}

@@ -138,7 +138,7 @@ module _ (small large : Room) (l : AtLeast small large) (t : List ℕ) (p : ℕ)
   same-fault : (c : Command) (s : State) → (stepOf small t p c s .fault ≡ 17 → ⊥) → stepOf large t p c s .fault ≡ stepOf small t p c s .fault
   same-fault c s n = looser-same (loosens c s) (fault-ruled small t p c s) (fault-ruled large t p c s) n
 
-  -- the state behind a command says nothing of room
+  -- the state after a command says nothing of room
   operation-next : (o : Operation) (s : State) → operationStep large p o s .next ≡ operationStep small p o s .next
   unfolding operationStep drawStep flashStep
   operation-next (operation.Draw x y o) s = refl

@@ -100,7 +100,7 @@ count-is n (b ∷ bs) = go (count-is n bs) (eqb n (b .0))
     go ih true = refl
     go ih false = ih
 
--- parts one behind the other
+-- parts one after the other
 then-length : (ps qs : Parts) → length (itemsIn (ps then qs)) ≡ length (itemsIn ps) + length (itemsIn qs)
 then-length ps qs = ap length (items-then ps qs) ∙ length-append (itemsIn ps) (itemsIn qs)
 

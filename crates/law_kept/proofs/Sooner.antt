@@ -1,4 +1,4 @@
--- Of two tables one behind the other the lowest rule broken is the sooner of the lowest of each: the order in which faults are tested is
+-- Of two tables one after the other the lowest rule broken is the sooner of the lowest of each: the order in which faults are tested is
 -- that of the numbers of a command's rules, computed for each two of them.
 -- Assumes nothing.
 use Prim.Native.Nat.{ℕ, suc, _≤_, _<_}

@@ -1,5 +1,5 @@
 -- Each command's fault is that of the first row of its table that holds, and each table's numbers rise: so the fault is the lowest rule
--- broken. Every table cites the one law `rising`; what is its own is one line. An operation behind a code has two tables.
+-- broken. Every table cites the one law `rising`; what is its own is one line. An operation after a code has two tables.
 -- Assumes nothing.
 use Prim.Native.Nat.{ℕ, _≤_, _<_}
 use mathlib.Core.Path.{_≡_, refl}

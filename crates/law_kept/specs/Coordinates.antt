@@ -25,7 +25,7 @@ use Rattle.sequence.specs.declared.Placed.{Placed}
 use Rattle.law_reading.specs.State.{Room, State}
 use Rattle.law_reading.specs.Reading.{stepAt}
 
--- along one axis: the value that the sign and digits behind the letter at a place have in a format, which in incremental notation is
+-- along one axis: the value that the sign and digits after the letter at a place have in a format, which in incremental notation is
 -- added to the current one; "a missing X or Y keeps the current one"
 pub data Says (f : Format) (incremental : Bool) (letter : ℕ) (s : List ℕ) (at : ℕ) (old : ℤ) : ℤ → ℕ → Type 0 where
   digits : {v : ℤ} → eqb (getD s at 0) letter ≡ true → takenIn f s (at + 1) .coordinate ≡ coordinate.Value v →
@@ -39,7 +39,7 @@ pub record Goes (f : Format) (incremental : Bool) (s : List ℕ) (old new : Poin
   pub across : Says f incremental (code "X") s 0 (old .x) (new .x) between
   pub up : Says f incremental (code "Y") s between (old .y) (new .y) last
 
--- where the coordinates stand in the text of an operation: behind the G code that the old book may have before them, up to the D code
+-- where the coordinates stand in the text of an operation: after the G code that the old book may have before them, up to the D code
 unfoldable pub firstCoordinate : Book → List ℕ → ℕ
 firstCoordinate book t = cond (isOld book and byte "G" (getD t 0 0)) (pastDigits t 1) 0
 
@@ -75,9 +75,9 @@ Puts (operation.Draw x y o) old new ms = Draws old new ms
 Puts (operation.Move x y) old new ms = ms ≡ []
 Puts (operation.Flash x y) old new ms = Flashes new ms
 
--- an operation of a command that is come to in a state s, and done in a state u, which is s, or stands behind the code before the
+-- an operation of a command that is reached in a state s, and done in a state u, which is s, or stands after the code before the
 -- operation: its coordinates, in the format of FS and the notation that is set, say where it goes from the current point, what it leaves
--- lies there, and the current point is there behind it
+-- lies there, and the current point is there after it
 pub record Exact (book : Book) (room : Room) (file : List ℕ) (c : Placed) (o : Operation) (s u : State) : Type 0 where
   pub point : Point
   pub goes : Goes (s .graphics .header .format) (u .graphics .incremental) (coordinatesIn book (slice (c .from) (c .end) file)) (s .graphics .point .at) point

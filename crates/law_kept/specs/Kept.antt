@@ -1,6 +1,6 @@
 -- What it is to keep the rules, and which rule is the first broken: "Commands are taken in file order and the first at fault decides"
--- (01, Numbers the reader answers). `commandsOf` cuts the file into its commands and says what is at fault behind the last of them (1 to 4,
--- 30 and 18); `stepAt` says what a command is at fault with in a state, 0 for nothing, and the state behind it.
+-- (01, Numbers the reader answers). `commandsOf` cuts the file into its commands and says what is at fault after the last of them (1 to 4,
+-- 30 and 18); `stepAt` says what a command is at fault with in a state, 0 for nothing, and the state after it.
 use Prim.Native.Nat.{ℕ, _≤_}
 use mathlib.Core.Path.{_≡_}
 use mathlib.Core.List.{List, [], _∷_, _++_}
@@ -17,14 +17,14 @@ pub data Keeps (room : Room) (file : List ℕ) : State → List Placed → State
   one : {s t : State} {c : Placed} {cs : List Placed} → stepAt room file c s .fault ≡ 0 → Keeps room file (stepAt room file c s .next) cs t →
       Keeps room file s (c ∷ cs) t
 
--- a command of the file is come to, all before it being kept, in this state
+-- a command of the file is reached, all before it being kept, in this state
 pub record Reached (book : Book) (room : Room) (file : List ℕ) (c : Placed) (s : State) : Type 0 where
   pub before : List Placed
   pub after : List Placed
   pub order : commandsOf book file .commands ≡ before ++ c ∷ after
   pub kept : Keeps room file (begun book) before s
 
--- the whole file keeps the rules, and this is what is known behind it
+-- the whole file keeps the rules, and this is what is known after it
 pub record KeepsRules (book : Book) (room : Room) (file : List ℕ) (t : State) : Type 0 where
   pub commands : Keeps room file (begun book) (commandsOf book file .commands) t
   pub behind : commandsOf book file .fault .number ≡ 0
@@ -41,7 +41,7 @@ pub record BrokenBy (room : Room) (file : List ℕ) (cs : List Placed) (s : Stat
   pub some : 1 ≤ number
   pub stands : command .place ≡ place
 
--- all of them are kept, and the fault f of the bytes behind them is one
+-- all of them are kept, and the fault f of the bytes after them is one
 pub record BrokenBehind (room : Room) (file : List ℕ) (cs : List Placed) (f : Refusal) (s : State) (number place : ℕ) : Type 0 where
   pub state : State
   pub kept : Keeps room file s cs state

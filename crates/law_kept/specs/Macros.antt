@@ -26,8 +26,8 @@ pub record FirstAtFault (vs : List ℤ) (bs : List (List ℕ)) (number : ℕ) : 
   pub worked : Worked vs before variables
   pub fault : blockDone variables block .fault ≡ number
 
--- the number of blocks is that of the first at fault; a primitive is 9 where one of its expressions comes to nothing, and 10 only where
--- all come to something and its rule is not kept
+-- the number of blocks is that of the first at fault; a primitive is 9 where one of its expressions has no value, and 10 only where
+-- all have values and its rule is not kept
 pub record MacroOrder : Type 0 where
   pub first : (vs : List ℤ) (bs : List (List ℕ)) → 1 ≤ workedOut vs bs .fault → FirstAtFault vs bs (workedOut vs bs .fault)
   pub fine : (vs : List ℤ) (bs : List (List ℕ)) → workedOut vs bs .fault ≡ 0 → Worked vs bs (workedOut vs bs .variables)

@@ -11,7 +11,7 @@ use Rattle.scan.specs.Scan.{nextCommand}
 use Rattle.scan.specs.declared.Kind.{Kind}
 use Rattle.scan.specs.declared.Scan.the-variants as scan
 
--- the places from which a command is looked for: the start of the file, and behind each command
+-- the places from which a command is looked for: the start of the file, and after each command
 pub data Looked (book : Book) (file : List ℕ) : ℕ → Type 0 where
   start : Looked book file 0
   behind : {at : ℕ} {kind : Kind} {place from end next : ℕ} → Looked book file at → nextCommand book file at ≡ scan.Command kind place from end next → Looked book file next

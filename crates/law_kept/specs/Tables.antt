@@ -72,7 +72,7 @@ rulesOf room t Note s = []
 rulesOf room t End s = endRules (s .graphics) (s .level)
 rulesOf room t (Set x) s = settingRules (s .graphics) x
 rulesOf room t (Operate o) s = operationRules room o s
--- "The code takes effect first, then the operation in the state behind it": the rules of both (decision 516)
+-- "The code takes effect first, then the operation in the state after it": the rules of both (decision 516)
 rulesOf room t (Coded code o) s = settingRules (s .graphics) code ++ operationRules room o (settingStep code s .next)
 rulesOf room t (Select n) s = selectRules (s .graphics) (apertureWith n (s .apertures) .set)
 rulesOf room t (Define d) s = definitionRules room t d s

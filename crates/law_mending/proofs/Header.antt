@@ -75,7 +75,7 @@ is-formatted : (f : Format) → isFormat f ≡ true → not (eqb (f .integers) 0
 unfolding isFormat
 is-formatted f e = and-r _ _ e
 
--- behind a setting
+-- after a setting
 setting-format : (x : Setting) (g : Graphics) → SettingBounded x → isFormatted g ≡ true → isFormatted (afterSetting x g) ≡ true
 unfolding SettingBounded isFormatted afterSetting withHeader withNotation withMode withQuadrants withTransform withRegion withFormat withUnit withCoded
 setting-format setting.Linear g b h = h
@@ -165,7 +165,7 @@ module _ (room : Room) (t : List ℕ) (p : ℕ) where
   deed-header (deed.Delete name) s = refl
   deed-header deed.DeleteAll s = refl
 
-  -- the header behind a command is the one before, or that behind a setting
+  -- the header after a command is the one before, or that after a setting
   abbrev Behind : Command → State → Header → Type 0
   Behind (Set x) s h = h ≡ afterSetting x (s .graphics) .header
   Behind (Coded x o) s h = h ≡ afterSetting x (s .graphics) .header
@@ -191,7 +191,7 @@ module _ (room : Room) (t : List ℕ) (p : ℕ) where
   step-header (Contain b) s = bracket-header b s
   step-header (Attribute d) s = deed-header d s
 
-  -- what is known of a header, behind a command
+  -- what is known of a header, after a command
   carries : (K : Header → Type 0) (c : Command) (s : State) → ((x : Setting) → SettingBounded x → K (headerIn s) → K (afterSetting x (s .graphics) .header)) →
       Bounded t c → K (headerIn s) → K (headerIn (stepOf room t p c s .next))
   unfolding Bounded

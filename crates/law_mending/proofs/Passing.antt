@@ -1,4 +1,4 @@
--- A command that breaks no rule passes: an FS or MO is the first of its kind, and what is given stays given; and what may stand behind M02.
+-- A command that breaks no rule passes: an FS or MO is the first of its kind, and what is given stays given; and what may stand after M02.
 -- Assumes nothing.
 use Prim.Native.Nat.{ℕ, _+_, _≤_}
 use mathlib.Core.Path.{_≡_, refl}

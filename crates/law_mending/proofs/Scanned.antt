@@ -1,4 +1,4 @@
--- What the scanner finds is a complete command by extent: it begins behind the line ends, and its text stands between the same places.
+-- What the scanner finds is a complete command by extent: it begins after the line ends, and its text stands between the same places.
 -- Assumes nothing.
 use Prim.Native.Nat.{ℕ, _+_, _-_, _<_, _≤_}
 use mathlib.Core.Path.{_≡_, refl, sym, ap, _∙_}
@@ -101,7 +101,7 @@ unfolding kindOf sameBytes
 is-word b s e = rw (sameBytes, e) refl
 
 module _ {file : List ℕ} {at : ℕ} {kind : Kind} {start from end next : ℕ} (s : Scanned file at kind start from end next) where
-  -- the text begins behind the command's first place, and before its end
+  -- the text begins after the command's first place, and before its end
   from-start : start ≤ textFrom kind start
   unfolding textFrom
   from-start = go kind

@@ -38,7 +38,7 @@ use Rattle.law_mending.proofs.Opens.{closing-end, end-closing}
 use Rattle.law_mending.proofs.Tidy.{Tidy, tidy-more, tidy-last}
 use Rattle.law_mending.proofs.Passing.{passes, clean-behind}
 
--- the complete commands from a place on are the next one and those behind it
+-- the complete commands from a place on are the next one and those after it
 module _ (book : Book) (file : List ℕ) {at start next : ℕ} (c : Cuts file at start next) where
   behind-so : start + length (slice start next file) ≡ next
   behind-so = omega (arith, c .start-so, c .next-so)
@@ -74,7 +74,7 @@ module _ (book : Book) (room : Room) (file : List ℕ) (t : State) where
   abbrev From : ℕ → State → Type 0
   From at s = Tidy book file at (extentsFrom book at (pieces (drop at file))) s
 
-  -- a command, and what is read behind it
+  -- a command, and what is read after it
   module _ {at : ℕ} {kind : Kind} {start from end next : ℕ} (f : Format) (k : Scanned file at kind start from end next) (s : State) where
     abbrev said : Command
     said = commandOf book f kind (slice from end file)

@@ -14,7 +14,7 @@ use Rattle.mending.specs.Mended.{written}
 use Rattle.mend_call.specs.declared.Answer as code
 use Rattle.mend_call.specs.declared.Answer.the-variants as answer
 
--- zeros stand behind the file, and everywhere in the report; w is what was lent for the sheet, w′ what it is at the end
+-- zeros stand after the file, and everywhere in the report; w is what was lent for the sheet, w′ what it is at the end
 pub record Returned (book : Book) (s : State) (w w′ : Lent) (bytes : ℕ) (out : List ℕ) (words : ℕ) (noted head : List ℕ) (r : code.Answer) : Type 0 where
   pub answer : r ≡ answer.Mended (length (w .file)) 0 (unitIn (s .graphics .header)) (roundedIn book (w .file))
   pub file-left : out ≡ written bytes (w .file)

@@ -49,7 +49,7 @@ all-more (x ∷ xs) y e a room n h p t d m =
     let j : t + suc (length xs) ≡ t + 1 + length xs = omega arith in
     (d .0, all-more xs y e a room n h (suc p) (t + 1) (d .1) (rw (i, j) at m))
 
--- the stack and what is closed stay, behind them anything may change
+-- the stack and what is closed stay, after them anything may change
 pub record Above (e e′ : List ℕ) (room closed high : ℕ) : Type 0 where
   pub as-long : entryRoom e′ ≡ entryRoom e
   pub same-closed : (i : ℕ) → i < closed → entryOf e i ≡ entryOf e′ i
@@ -73,7 +73,7 @@ contour-begins s c e e′ a room n closed high start h t b left above d = record
   all = (d, tt);
 }
 
--- an edge more: the contour counts it, and it lies behind the others
+-- an edge more: the contour counts it, and it lies after the others
 pub contour-edge : (s : Sheet) (c y : Item) (es : List Item) (e e′ a : List ℕ) (room n closed high start h t : ℕ) → Drawing s c es e a room n closed high start h t →
     closed + (high + suc (length es)) < room → Above e e′ room closed high →
     Draw a n h t (entryOf e′ (room - suc high)) (withCount (suc (length es)) c) →

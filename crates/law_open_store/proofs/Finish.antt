@@ -1,4 +1,4 @@
--- The end: once the top level lies behind what is closed, the store is a sheet, and its parts are those that were written.
+-- The end: once the top level lies after what is closed, the store is a sheet, and its parts are those that were written.
 -- Assumes nothing.
 use Prim.Native.Nat.{ℕ, suc, _+_, _-_, _≤_, _<_}
 use mathlib.Core.Path.{_≡_, refl, _∙_}

@@ -1,4 +1,4 @@
--- A container whose entries have come to lie behind the closed ones is closed, and has the parts that it had while it was open.
+-- A container whose entries have come to lie after the closed ones is closed, and has the parts that it had while it was open.
 -- Assumes nothing.
 use Prim.Native.Nat.{ℕ, zero, suc, _+_, _-_, _≤_, _<_}
 use mathlib.Core.Path.{_≡_, refl, sym, ap, _∙_}

@@ -1,11 +1,11 @@
--- What closing a container leaves: its entries behind those of the closed ones, in order, and its opening entry as the sheet keeps it.
+-- What closing a container leaves: its entries after those of the closed ones, in order, and its opening entry as the sheet keeps it.
 use Prim.Native.Nat.{ℕ, suc, _+_, _-_, _<_}
 use mathlib.Core.Path.{_≡_}
 use mathlib.Core.List.{List}
 use Rattle.sheet.specs.Records.{entryOf, entryRoom}
 use Rattle.sheet.specs.declared.Entry.{Entry}
 
--- the entries from `start` on come to lie behind the closed ones; what is closed, and the stack below, stay
+-- the entries from `start` on then lie after the closed ones; what is closed, and the stack below, stay
 pub record Settled (e e′ : List ℕ) (room closed start high : ℕ) : Type 0 where
   pub as-long : entryRoom e′ ≡ entryRoom e
   pub same-closed : (i : ℕ) → i < closed → entryOf e i ≡ entryOf e′ i

@@ -1,4 +1,4 @@
--- While a contour is drawn: the store shows the sheet before it, and behind that lie the contour, with the edges so far counted, and its edges.
+-- While a contour is drawn: the store shows the sheet before it, and after that lie the contour, with the edges so far counted, and its edges.
 use Prim.Native.Nat.{ℕ, suc, _+_, _-_, _≤_}
 use mathlib.Core.Path.{_≡_}
 use mathlib.Core.Bool.{true}
@@ -13,7 +13,7 @@ use Rattle.sheet.specs.declared.Entry.{Entry}
 use Rattle.sheet.specs.declared.Role.the-variants.{Draws}
 use Rattle.law_open_store.specs.Open.{Built}
 
--- an entry, in order in a container of height h, that draws the item x behind t others
+-- an entry, in order in a container of height h, that draws the item x after t others
 pub record Draw (a : List ℕ) (n h t : ℕ) (r : Entry) (x : Item) : Type 0 where
   pub role : roleOf (r .kind) ≡ Draws
   pub before-is : r .before ≡ t

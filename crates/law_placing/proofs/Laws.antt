@@ -61,7 +61,7 @@ identity-right m = λ i. record {
   toggle = xor-right (m .toggle) i;
 }
 
--- behind the inverse, and before it, everything is where it was
+-- after the inverse, and before it, everything is where it was
 inverse-turn : (m : Placement) → plus (m .turn) (mirrored (m .flip) (inverse m .turn)) ≡ ahead
 unfolding inverse
 inverse-turn m =

@@ -31,7 +31,7 @@ swapped-twice true false k = unfold swapped in refl
 swapped-twice false true k = unfold swapped in refl
 swapped-twice false false k = unfold swapped in refl
 
--- what a test of kinds says is the same behind a flip, if it is of cw and ccw
+-- what a test of kinds says is the same after a flip, if it is of cw and ccw
 same-test : (P : ℕ → Bool) → P 2 ≡ P 3 → P 7 ≡ P 8 → (f : Bool) (k : ℕ) → P (swapped f k) ≡ P k
 unfolding swapped
 same-test P low high true k = by-kind (λ k. P (swapped true k) ≡ P k) (sym low) low (sym high) high (λ k e. ap P e) k

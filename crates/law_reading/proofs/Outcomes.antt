@@ -1,4 +1,4 @@
--- What an AD comes to is nothing, 9 or 10.
+-- The outcome of an AD is nothing, 9 or 10.
 -- Assumes nothing.
 use Prim.Native.Nat.{ℕ}
 use mathlib.Core.Path.{_≡_, refl}

@@ -1,4 +1,4 @@
--- Apertures and macros found, and what an AD comes to (01, Form and Macros; decisions 77 to 80).
+-- Apertures and macros found, and the outcome of an AD (01, Form and Macros; decisions 77 to 80).
 use Prim.Native.Nat.{ℕ, suc}
 use Prim.Native.Char.{code}
 use mathlib.Core.Bool.{Bool, false, cond, not}
@@ -73,7 +73,7 @@ isStandard name = leb (kindOf name) 4
 unfoldable pub valuesOf : List ℕ → List ℤ
 valuesOf s = map (λ t. sizeOf t .value .millionths) (pieces (code "X") s)
 
--- what an AD comes to: its fault, 0 for none, and the numbers that it keeps: "its parameters for a standard template, or for a macro
+-- the outcome of an AD: its fault, 0 for none, and the numbers that it keeps: "its parameters for a standard template, or for a macro
 -- one and the parameter count for each primitive"
 pub record Outcome : Type 0 where
   pub fault : ℕ
@@ -85,7 +85,7 @@ outcomeOf name s ms =
     (record { fault = cond (keeps (kindOf name) (asked none (valuesOf s))) 0 10; kept = valuesOf s })
     (let e : Effect = workedOut (variablesOf s) (blocksIn (blocksOf name ms)) in record { fault = e .fault; kept = e .written })
 
--- the aperture that an AD adds: its numbers stand behind those of the apertures before it
+-- the aperture that an AD adds: its numbers stand after those of the apertures before it
 unfoldable pub defined : ℕ → List ℕ → ℕ → List ℤ → Aperture
 defined n name first kept = record { number = n; kind = kindOf name; first = first; len = length kept; items = 0; height = 0 }
 

@@ -20,7 +20,7 @@ pub data Answer : Type 0 where
 abbrev pub stepAt : Room → List ℕ → Placed → State → Step
 stepAt room file c s = stepOf room (slice (c .from) (c .end) file) (c .place) (c .command) s
 
--- the commands from here on, and the fault of the bytes behind the last of them, 0 for none
+-- the commands from here on, and the fault of the bytes after the last of them, 0 for none
 unfoldable pub readOn : Room → List ℕ → List Placed → Refusal → State → Answer
 readOn room file [] f s = elim (eqb (f .number) 0) [ true ↦ accepted s | false ↦ refused (f .number) (f .place) ]
 readOn room file (c ∷ cs) f s =

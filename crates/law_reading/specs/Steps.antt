@@ -1,4 +1,4 @@
--- What each command does: its fault by the tables of the rules, 0 for none, and the state behind it (01, State).
+-- What each command does: its fault by the tables of the rules, 0 for none, and the state after it (01, State).
 use Prim.Native.Nat.{ℕ, _+_, _-_, _*_}
 use mathlib.Core.Bool.{Bool, cond, not}
 use mathlib.Core.List.{List, [], _∷_, _++_}
@@ -74,7 +74,7 @@ abbrev pub state : Graphics → Level → List Opened → List Aperture → List
 state g l o a m names n e marks =
     record { graphics = g; level = l; opened = o; apertures = a; macros = m; names = names; numbers = n; entries = e; marks = marks }
 
--- the graphics state behind a command, and the marks that it leaves at its place; n entries are used
+-- the graphics state after a command, and the marks that it leaves at its place; n entries are used
 unfoldable pub passed : Command → ℕ → ℕ → State → State
 passed c place n s =
     state (after c (s .graphics)) (s .level) (s .opened) (s .apertures) (s .macros) (s .names) (s .numbers) (s .entries + n)
@@ -198,7 +198,7 @@ operationStep room p (operation.Draw x y o) s = drawStep room p x y o s
 operationStep room p (operation.Move x y) s = moveStep x y s
 operationStep room p (operation.Flash x y) s = flashStep room p x y s
 
--- an operation behind a G code: "The code takes effect first, then the operation in the state behind it"; of their faults the one that
+-- an operation after a G code: "The code takes effect first, then the operation in the state after it"; of their faults the one that
 -- is tested first (decision 516)
 unfoldable pub codedStep : Room → ℕ → Setting → Operation → State → Step
 codedStep room p code o s =

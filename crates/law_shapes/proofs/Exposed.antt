@@ -1,5 +1,5 @@
 -- Of a store that a reading left, a lookup answers of each AD of the file what AD's rules worked out: its record stays to the end, the links lead to
--- it, and its numbers are cut into the primitives that its macro's blocks came to.
+-- it, and its numbers are cut into the primitives that its macro's blocks make.
 -- Assumes nothing.
 use Prim.Native.Nat.{ℕ, zero, suc, _+_, _-_, _*_, _≤_, _<_}
 use mathlib.Core.Path.{_≡_, refl, sym, ap, _∙_}
@@ -90,7 +90,7 @@ run-stands f p k (suc m) (suc i) h =
     let rest = run-stands f p (suc k) m i h in
     (omega (arith, rest .0), rw e (rest .1))
 
--- ---- what an AD comes to
+-- ---- the outcome of an AD
 
 standard-outcome : (name s : List ℕ) (ms : List Template) → isStandard name ≡ true → outcomeOf name s ms ≡ record { fault = cond (keeps (kindOf name) (asked none (valuesOf s))) 0 10; kept = valuesOf s }
 unfolding outcomeOf
@@ -268,7 +268,7 @@ module _ (file head e a m : List ℕ) (n : List ℤ) (t : State) (leaves : Leave
 
 -- ---- an AD of the file
 
--- the commands behind those that lead to a state lead on from it
+-- the commands after those that lead to a state lead on from it
 keeps-behind : {room : Room} {file : List ℕ} {s u t : State} (xs ys : List Placed) → Keeps room file s xs u → Keeps room file s (xs ++ ys) t → Keeps room file u ys t
 keeps-behind [] ys nothing k = k
 keeps-behind (x ∷ xs) ys (one e rest) (one f k) = keeps-behind xs ys rest k

@@ -92,7 +92,7 @@ module _ (q : Asked) where
   unfolding keeps
   keeps-few c e = rows-few (eqb c 1) (eqb c 4) (eqb c 5) (eqb c 7) (eqb c 20) (eqb c 21) e
 
--- all come to something and the rule is kept
+-- all have values and the rule is kept
 verdict-kept : (fine kept : Bool) → verdict fine kept ≡ 0 → kept ≡ true
 unfolding verdict
 verdict-kept true true e = refl

@@ -120,7 +120,7 @@ commands-low book file = go (fits file)
     go true = from-low book (suc (length file)) noFormat file 0
     go false = tt
 
--- of commands, those before one and behind it
+-- of commands, those before one and after it
 pub low-before : (xs ys : List Placed) → AllLow (xs ++ ys) → AllLow xs
 low-before [] ys h = tt
 low-before (x ∷ xs) ys h = (h .0, low-before xs ys (h .1))

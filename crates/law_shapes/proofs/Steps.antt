@@ -78,7 +78,7 @@ pub record Lasts (P : Said) : Type 0 where
   pub repeats : {known : List Aperture} {os : List Opened} {ns : List ℤ} (l : Level) → P known os ns → P known (opened.repeat l ∷ os) ns
   pub repeated : {known : List Aperture} {os : List Opened} {ns : List ℤ} (l : Level) → P known (opened.repeat l ∷ os) ns → P known os ns
 
--- no fault: the number was free, and the template came to no fault
+-- no fault: the number was free, and the template has no fault
 pub ad-free : (g : Graphics) (taken unknown full : Bool) (worked : ℕ) → apertureFault g (Rattle.base.specs.Or._or_ taken unknown) worked full ≡ 0 → taken ≡ false
 unfolding apertureFault
 ad-free g taken unknown full worked none = neither taken unknown (unbroken (lit≤ tt) (unbroken (lit≤ tt) none .1) .0) .0

@@ -1,5 +1,5 @@
 -- What a lookup answers of an AD of the file, in the words that a reading left: the AD's number, its template's kind and the numbers that AD's rules
--- keep; of a macro's aperture the primitives that the macro's blocks come to, one by one.
+-- keep; of a macro's aperture the primitives that the macro's blocks make, one by one.
 use Prim.Native.Nat.{ℕ, _+_}
 use mathlib.Core.Path.{_≡_}
 use mathlib.Core.Bool.{false}

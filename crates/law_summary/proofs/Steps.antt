@@ -111,7 +111,7 @@ repeat-ends (opened.repeat l ∷ os) s e k = go (subst (AllOpen (s .apertures)) 
 
 -- ---- each command
 
--- behind a command that changes no aperture and leaves marks of known ones
+-- after a command that changes no aperture and leaves marks of known ones
 marks-knows : {g g′ : Graphics} {known : List Aperture} {os : List Opened} {ms ns : List mark.Mark} → g′ .aperture ≡ g .aperture → g′ .mode ≡ g .mode →
     Knowing g known os ms → AllMarked known ns → Knowing g′ known os (ms ++ ns)
 marks-knows e m k w = record {
@@ -189,7 +189,7 @@ module _ (room : Room) (t : List ℕ) (p : ℕ) where
   unfolding settingStep withGraphics
   setting-knows x s k = graphics-knows (setting-aperture x (s .graphics)) (setting-mode x (s .graphics) (k .mode)) k
 
-  -- of a code and the operation behind it neither is at fault
+  -- of a code and the operation after it neither is at fault
   coded-knows : (x : Setting) (o : Operation) (s : State) → codedStep room p x o s .fault ≡ 0 → Knows s → Knows (codedStep room p x o s .next)
   unfolding codedStep
   coded-knows x o s f k = operation-knows o (settingStep x s .next) (sooner-first _ _ .none f .1) (setting-knows x s k)

@@ -22,7 +22,7 @@ use Rattle.law_summary.specs.Tools.{AllTooled}
 abbrev pub countOf : List ℕ → State → ℕ → ℕ
 countOf a s b = rowOf (Aperture (apertureOf a b .number)) (plain (s .marks)) .count
 
--- head, entries e and apertures a are left of a file whose reading came to the state s. Whatever rows and scratch are lent then, if they
+-- head, entries e and apertures a are left of a file whose reading ends in the state s. Whatever rows and scratch are lent then, if they
 -- have room, the call is done, and its rows are those of a pass over the plain expansion.
 pub record Summarised (head e a : List ℕ) (s : State) : Type 0 where
   pub done : (words scratch : ℕ) → roomy (aperturesUsed head) words scratch ≡ true → outcomeOf head e a words scratch ≡ outcome.Done

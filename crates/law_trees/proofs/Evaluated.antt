@@ -1,4 +1,4 @@
--- A written tree is read to its end, as what it comes to: one law for the rows of both ranks, since both are the same chain.
+-- A written tree is read to its end, as its outcome: one law for the rows of both ranks, since both are the same chain.
 -- Assumes nothing.
 use Prim.Native.Nat.{ℕ, zero, suc, _+_, _-_, _≤_}
 use mathlib.Core.Path.{_≡_, refl, sym, ap, _∙_}
@@ -49,7 +49,7 @@ module _ {L X : Type 0} (operator : Bool → Token) (led : L → List Token → 
       let b = operand-longer x ts in
       omega arith
 
-  -- what it comes to, and how the grammar reads its first operand and the others; `lower` is the rank below it
+  -- its outcome, and how the grammar reads its first operand and the others; `lower` is the rank below it
   module _ (rank lower : Token → Sign) (op : Bool → ℤ → ℤ → Reckoned) (ledWorth : L → Reckoned → Reckoned) (operandWorth : X → Reckoned)
       (start operand : List Token → Reading) (bound : ℕ)
       (goes : (second : Bool) (ts : List Token) → following (rank (operator second)) ts ≡ go second ts)
@@ -176,7 +176,7 @@ module _ {E : Type 0} (inner : E → List Token → List Token) (inner-longer : 
         (factor bound variables parentheses) (factor bound variables parentheses) bound times-goes (λ second. refl)
         (λ l x ts e h. factor-reads x ts h) (λ x ts e h. factor-reads x ts h) x ts e refl h
 
-    -- the first term, behind its sign
+    -- the first term, after its sign
     abbrev led : List Token → Reading
     led ts = leading (term bound variables parentheses) (following (plusMinus (head ts)) (tail ts)) ts
 
@@ -210,7 +210,7 @@ module _ (bound : ℕ) (variables : List ℤ) where
       sum-reads (innerWritten depth) (within-longer depth) (innerWorth variables depth) bound variables (expressionAt bound variables depth) (within-reads depth)
       e (Close ∷ ts) refl refl h
 
-  -- a tree is read up to what is no operator behind it
+  -- a tree is read up to what is no operator after it
   pub tree-reads : (depth : ℕ) (e : Expression depth) (ts : List Token) → plusMinus (head ts) ≡ sign.Nothing → timesOver (head ts) ≡ sign.Nothing →
       length (written depth e ts) ≤ bound → expressionAt bound variables (suc depth) (written depth e ts) ≡ kept (comesTo variables depth e) ts
   unfolding written comesTo expressionAt

@@ -1,4 +1,4 @@
--- Worked examples, by computation: texts, their trees, and what these come to where $1 is 1. Equal ranks go from the left, a sign acts on
+-- Worked examples, by computation: texts, their trees, and the outcome of these where $1 is 1. Equal ranks go from the left, a sign acts on
 -- the first term alone, a zero divisor is refused.
 -- Assumes nothing.
 use Prim.Native.Nat.{ℕ}

@@ -1,4 +1,4 @@
--- A written tree has good form: the walk over its tokens ends behind an operand, with no parenthesis more open than before, and has told of the tree's
+-- A written tree has good form: the walk over its tokens ends after an operand, with no parenthesis more open than before, and has told of the tree's
 -- numbers and of nothing else. One law for the rows of both ranks.
 -- Assumes nothing.
 use Prim.Native.Nat.{ℕ, zero, suc, _+_, _-_, _≤_}
@@ -34,7 +34,7 @@ unfolding _or_
 or-assoc true b c = refl
 or-assoc false b c = refl
 
--- the walk behind an operand of which f is told, and behind an operator
+-- the walk after an operand of which f is told, and after an operator
 grown : Walk → Form → Walk
 grown w f = record { formless = w .formless or f .formless; long = w .long or f .long; deep = w .deep or f .deep; depth = w .depth; operand = true; sign = false; rounded = w .rounded + f .rounded }
 

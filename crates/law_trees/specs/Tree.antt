@@ -5,7 +5,7 @@ use mathlib.Core.Bool.{Bool}
 use Rattle.command.specs.declared.Number.{Number}
 use Rattle.command.specs.declared.Size.{Size}
 
--- operands of one rank: a first one, behind what leads it; then what stands to the left, an operator, the second of its rank where the
+-- operands of one rank: a first one, after what leads it; then what stands to the left, an operator, the second of its rank where the
 -- flag is set, and one operand more
 pub data Row (L X : Type 0) : Type 0 where
   first : L → X → Row L X

@@ -1,5 +1,5 @@
--- What it is for a text to be an expression: a tree is written so, AM tells of the text what is told of the tree's numbers, and what the
--- text comes to for AD is what the tree does.
+-- What it is for a text to be an expression: a tree is written so, AM tells of the text what is told of the tree's numbers, and AD's
+-- value of the text is that of the tree.
 use Prim.Native.Nat.{ℕ}
 use mathlib.Core.Path.{_≡_}
 use mathlib.Core.List.{List, []}

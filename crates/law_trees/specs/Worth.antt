@@ -1,4 +1,4 @@
--- What a tree comes to: each operation on what stands to its left and its right, refused (9) where it refuses or one of the two is.
+-- The value of a tree: each operation on what stands to its left and its right, refused (9) where it refuses or one of the two is.
 use Prim.Native.Nat.{ℕ, zero, suc, _-_}
 use mathlib.Core.Bool.{Bool}
 use mathlib.Core.List.{List}

@@ -1,4 +1,4 @@
--- How a tree is written: its tokens, with ts behind them.
+-- How a tree is written: its tokens, with ts after them.
 use Prim.Native.Nat.{ℕ, zero, suc}
 use mathlib.Core.Bool.{Bool, cond}
 use mathlib.Core.List.{List, _∷_}

@@ -73,7 +73,7 @@ said-value file Silent = refl
 said-value file Deletes = refl
 said-value file (Sets place length) = refl
 
--- a command of a file without fault, behind these commands
+-- a command of a file without fault, after these commands
 module _ (book : Book) (file : List ℕ) (pre : List Placed) (c : Placed) (post : List Placed) (order : commandsOf book file .commands ≡ pre ++ (c ∷ post))
     (sound : commandsOf book file .fault .number ≡ 0) (below : Below (c .place) pre) where
   held-at : (name : List ℕ) → attributeOf book file kind.Object (c .place) name ≡ held (saidBy file kind.Object name pre)

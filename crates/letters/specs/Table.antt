@@ -26,7 +26,7 @@ pub record Row : Type 0 where
 abbrev pub row : ℕ → ℕ → Follow → Row
 row from to behind = record { from = from; to = to; behind = behind }
 
--- the second byte, and how many there are behind the lead; each byte behind the second is one from 80 to BF
+-- the second byte, and how many there are after the lead; each byte after the second is one from 80 to BF
 unfoldable pub table : List Row
 table =
     row 0xC2 0xDF (follow 0x80 0xBF 1)
@@ -63,7 +63,7 @@ takes f b = within (f .low) (f .high) b
 unfoldable pub fed : Follow → Follow
 fed f = follow 0x80 0xBF (f .left - 1)
 
--- a lead and so many bytes behind it, where they are there
+-- a lead and so many bytes after it, where they are there
 unfoldable pub wholeOf : ℕ → Bool → ℕ
 wholeOf zero there = 0
 wholeOf (suc left) there = cond there (suc (suc left)) 0

@@ -1,4 +1,4 @@
--- The list is written item by item: behind the first k items stand their entries.
+-- The list is written item by item: after the first k items stand their entries.
 -- Assumes nothing.
 use Prim.Native.Nat.{ℕ, zero, suc, _+_, _*_, _≤_, _<_}
 use mathlib.Core.Path.{_≡_, refl, sym, ap, _∙_, subst}

@@ -74,7 +74,7 @@ module _ (head e a : List ℕ) where
       let long = length-sheet head e a v in
       z ∙ rw v (past-slot (sheetItems head e a) i (omega arith))
 
-  -- where the call is refused, no item that can be answered stands at k or behind
+  -- where the call is refused, no item that can be answered stands at k or after
   pub none-behind : (k : ℕ) → (numberOf head e a k ≡ 0 → ⊥) → length (held head e a) ≤ k
   unfolding numberOf fetchOf held
   none-behind k nz = none-from (valid head e a) (sheetItems head e a) k nz

@@ -1,4 +1,4 @@
--- Forms gathered piece by piece: the next piece's, and those of the pieces behind it.
+-- Forms gathered piece by piece: the next piece's, and those of the pieces after it.
 -- Assumes nothing.
 use Prim.Native.Nat.{ℕ, _+_, _<_, _≤_}
 use mathlib.Core.Path.{_≡_}

@@ -1,4 +1,4 @@
--- An expression walked through token by token: the next one, and those behind it. No more parentheses are open than bytes were passed.
+-- An expression walked through token by token: the next one, and those after it. No more parentheses are open than bytes were passed.
 -- Assumes nothing.
 use Prim.Native.Nat.{ℕ, _+_, _-_, _<_, _≤_}
 use mathlib.Core.Path.{_≡_}

@@ -16,7 +16,7 @@ use Rattle.macro_form.specs.declared.Walk.{Walk}
 unfoldable pub start : Walk
 start = record { formless = false; long = false; deep = false; depth = 0; operand = false; sign = true; rounded = 0 }
 
--- a number or a variable: 4 behind an operand, or if it has not its form; 5 out of its range; a number that was rounded counts (02, [1])
+-- a number or a variable: 4 after an operand, or if it has not its form; 5 out of its range; a number that was rounded counts (02, [1])
 unfoldable pub afterOperand : Walk → Bool → Bool → Bool → Walk
 afterOperand w formless long rounded =
     record {

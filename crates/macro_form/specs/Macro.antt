@@ -30,7 +30,7 @@ headed t u q =
     judged (not (t ends "*" and (u begins "AM" and isName (slice 2 q u))) or f .formless) (f .long)
     (Define (Macro (span 2 q) (span (q + 1) (length u)) (f .deep) (f .rounded)))
 
--- without a `*` behind the name's there is no block
+-- without a `*` after the name's there is no block
 unfoldable pub macroOf : List ℕ → Command
 macroOf s =
     let t : List ℕ = withoutTrailing s in

@@ -1,4 +1,4 @@
--- The tokens from a place on: the first of them, and those behind it.
+-- The tokens from a place on: the first of them, and those after it.
 -- Assumes nothing.
 use Prim.Native.Nat.{ℕ, suc, _+_, _-_, _<_, _≤_}
 use mathlib.Core.Path.{_≡_, refl}
@@ -38,7 +38,7 @@ word-starts b s = go (words s)
     go [] = ([], [], refl)
     go (w ∷ ws) = by (joins b and numeral (getD w 0 0)) w ws
 
--- a byte that joins takes the run behind it into its word
+-- a byte that joins takes the run after it into its word
 word-run : (b : ℕ) (t : List ℕ) (at : ℕ) → joins b ≡ true →
     words (b ∷ t) ≡ (b ∷ take (run t at - at) t) ∷ words (drop (run t at - at) t)
 unfolding words onto firstIn _and_
@@ -66,7 +66,7 @@ word-one b t j = go (words t)
     go (w ∷ ws) = rw j
 
 module _ (s : List ℕ) (at : ℕ) where
-  -- one word, and those behind it
+  -- one word, and those after it
   words-next : at < length s → words (drop at s) ≡ slice at (wordEnd s at) s ∷ words (drop (wordEnd s at) s)
   unfolding wordEnd
   words-next h = go (joins (getD s at 0)) refl
@@ -85,7 +85,7 @@ module _ (s : List ℕ) (at : ℕ) where
           rw (slice-take at end s, n, drop-next s at h, word-run (getD s at 0) (drop (at + 1) s) (at + 1) e, drop-drop (end - (at + 1)) (at + 1) s, m)
       go false e = rw (slice-take at (at + 1) s, one, drop-next s at h, word-one (getD s at 0) (drop (at + 1) s) e)
 
-  -- one token, and those behind it
+  -- one token, and those after it
   pub tokens-next : at < length s → tokens (drop at s) ≡ lexed s at .token ∷ tokens (drop (lexed s at .next) s)
   unfolding tokens lexed
   tokens-next h = rw (lt-ltb at (length s) h, words-next h)
@@ -94,7 +94,7 @@ module _ (s : List ℕ) (at : ℕ) where
   unfolding tokens words
   tokens-end h = rw (drop-of-length-le s h)
 
-  -- the next token stands behind this one
+  -- the next token stands after this one
   pub lexed-further : at < length s → at + 1 ≤ lexed s at .next
   unfolding lexed wordEnd
   lexed-further h = rw (lt-ltb at (length s) h) (go (joins (getD s at 0)))

@@ -47,7 +47,7 @@ tokenOf w =
 unfoldable pub tokens : List ℕ → List Token
 tokens s = map tokenOf (words s)
 
--- the word at a place ends where the run of digits and points behind its first byte does, if they belong to it
+-- the word at a place ends where the run of digits and points after its first byte does, if they belong to it
 unfoldable pub wordEnd : List ℕ → ℕ → ℕ
 wordEnd s at = cond (joins (getD s at 0)) (first (λ b. not (numeral b)) s (at + 1)) (at + 1)
 

@@ -11,11 +11,11 @@ use Rattle.text.specs.Text.{byte}
 unfoldable pub numeral : ℕ → Bool
 numeral b = isDigit b or byte "." b
 
--- a numeral behind it belongs to its word
+-- a numeral after it belongs to its word
 unfoldable pub joins : ℕ → Bool
 joins b = numeral b or byte "$" b
 
--- a byte before the words behind it
+-- a byte before the words after it
 unfoldable pub onto : ℕ → List (List ℕ) → List (List ℕ)
 onto b [] = (b ∷ []) ∷ []
 onto b (w ∷ ws) = cond (joins b and numeral (getD w 0 0)) ((b ∷ w) ∷ ws) ((b ∷ []) ∷ w ∷ ws)

@@ -1,4 +1,4 @@
--- A primitive's parameters, worked out one by one: what those from here on leave, behind what was left so far, is what all of them leave.
+-- A primitive's parameters, worked out one by one: what those from here on leave, after what was left so far, is what all of them leave.
 -- Assumes nothing.
 use Prim.Native.Nat.{ℕ, _+_, _<_, _≤_}
 use Prim.Native.Char.{code}
@@ -58,7 +58,7 @@ module _ (all : Values) (l₀ l : List ℤ) (p₀ p : Pen) (q : Asked) (at : ℕ
   unfolding gathered pens laid
   gathering-ends fine g = (g .fine, g .asks, g .pen, g .stores)
 
--- the next parameter, and those behind it
+-- the next parameter, and those after it
 module _ (variables : List ℤ) (t : List ℕ) (at : ℕ) where
   pub values-next : (w : Worth) → at < length t → Comes variables (withoutLeading (slice (at + 1) (place (code ",") t (at + 1)) t)) w →
       valuesOf variables (parametersIn (drop at t)) ≡ onward (reckonedAs w) (valuesOf variables (parametersIn (drop (place (code ",") t (at + 1)) t)))

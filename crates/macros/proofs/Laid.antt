@@ -52,7 +52,7 @@ laid-set l p (y ∷ zs) i z h =
     laid-set (set l (p .at) y) (penned (length l) p) zs i z (penned-on (length l) i p h)
     ∙ rw (set-comm l (p .at) i y z n, length-set l i z)
 
--- so a number may be written behind those that follow it
+-- so a number may be written after those that follow it
 pub laid-last : (l : List ℤ) (p : Pen) (y z : ℤ) (zs : List ℤ) → set (laid (set l (p .at) y) (penned (length l) p) zs) (p .at) z ≡ laid l p (z ∷ zs)
 unfolding laid
 laid-last l p y z zs = go (ltb (p .at) (length l)) refl

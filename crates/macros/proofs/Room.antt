@@ -1,4 +1,4 @@
--- Where the numbers fit, they stand in the room one after the other and the pen behind them; where they do not, the pen stands at the end of
+-- Where the numbers fit, they stand in the room one after the other and the pen after them; where they do not, the pen stands at the end of
 -- the room and is over: 17 is given exactly where more numbers are used than there is room for.
 -- Assumes nothing.
 use Prim.Native.Nat.{ℕ, _+_, _<_, _≤_}
@@ -52,7 +52,7 @@ module _ (room : ℕ) where
           let q : n ≡ room = omega arith in
           rw (penned-out n false l, q) (pens-over zs)
 
--- where they fit they stand between what was there before them and what was there behind them
+-- where they fit they stand between what was there before them and what was there after them
 pub laid-fit : (l : List ℤ) (n : ℕ) (zs : List ℤ) → n + length zs ≤ length l →
     laid l (at-place n false) zs ≡ take n l ++ (zs ++ drop (n + length zs) l)
 unfolding laid

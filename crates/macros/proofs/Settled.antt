@@ -32,7 +32,7 @@ zeros (suc n) (suc k) = zeros n k
 pub fits-none : (n : ℕ) → Fits (replicate n (pos 0))
 fits-none n = record { each = zeros n }
 
--- the next parameter, and those behind it
+-- the next parameter, and those after it
 module _ (m : ℕ) (s : List ℕ) (at i : ℕ) (l : List ℤ) where
   pub given-next : at < length s →
       given i l (pieces m (drop at s))

@@ -1,4 +1,4 @@
--- A macro's blocks, worked out one by one: what those from here on do, behind what was done so far, is what all of them do.
+-- A macro's blocks, worked out one by one: what those from here on do, after what was done so far, is what all of them do.
 -- Assumes nothing.
 use Prim.Native.Nat.{ℕ, _+_, _-_, _^_, _<_, _≤_}
 use Prim.Native.Char.{code}

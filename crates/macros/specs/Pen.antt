@@ -7,7 +7,7 @@ use lib.IntN.{ℤ}
 use lib.ListN.{length, set}
 use Rattle.macros.specs.declared.Pen.{Pen}
 
--- behind one number more; past the room nothing is written
+-- after one number more; past the room nothing is written
 unfoldable pub penned : ℕ → Pen → Pen
 penned room p = cond (ltb (p .at) room) (record { at = p .at + 1; over = p .over }) (record { at = p .at; over = true })
 

@@ -1,4 +1,4 @@
--- What the answers say, with the numbers before (l) and behind (l′).
+-- What the answers say, with the numbers before (l) and after (l′).
 use Prim.Native.Nat.{ℕ, _^_, _<_}
 use mathlib.Core.Path.{_≡_}
 use mathlib.Core.Bool.{false, cond}

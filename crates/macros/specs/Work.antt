@@ -26,7 +26,7 @@ parametersIn = pieces (code ",")
 abbrev pub blocksIn : List ℕ → List (List ℕ)
 blocksIn = pieces (code "*")
 
--- what expressions come to, up to the first that comes to nothing
+-- the values of expressions, up to the first that has none
 pub record Values : Type 0 where
   pub fine : Bool
   pub values : List ℤ
@@ -39,7 +39,7 @@ unfoldable pub valuesOf : List ℤ → List (List ℕ) → Values
 valuesOf variables [] = record { fine = true; values = [] }
 valuesOf variables (t ∷ ts) = onward (valueOf variables (withoutLeading t)) (valuesOf variables ts)
 
--- what a block does: its fault, 0 for none; the variables behind it; the numbers that it leaves: before the parameters, which
+-- what a block does: its fault, 0 for none; the variables after it; the numbers that it leaves: before the parameters, which
 -- are in millionths, one that says the code and how many they are
 pub record Effect : Type 0 where
   pub fault : ℕ

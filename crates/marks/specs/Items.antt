@@ -29,7 +29,7 @@ drawn g end o place = record {
   outer = place;
 }
 
--- "contours and edges have angle 0, scale 1, no flip", and aperture 0; edges are numbered as the kinds of D01, behind the contour
+-- "contours and edges have angle 0, scale 1, no flip", and aperture 0; edges are numbered as the kinds of D01, after the contour
 unfoldable pub edge : Graphics → Point → Offset → ℕ → Item
 edge g end o place = record {
   kind = kind.contour + kindDrawn g end;

@@ -54,7 +54,7 @@ bracketMarks bracket.RepeatEnd = mark.finish ∷ []
 -- every other command leaves nothing
 unfoldable pub marksOf : Command → Graphics → ℕ → List Mark
 marksOf (Operate o) g place = operationMarks o g place
--- in the state behind the code
+-- in the state after the code
 marksOf (Coded code o) g place = operationMarks o (afterSetting code g) place
 marksOf (Contain b) g place = bracketMarks b
 marksOf (Broken flaw) g place = []

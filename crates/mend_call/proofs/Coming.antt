@@ -1,4 +1,4 @@
--- What mending comes to, by what the pass wrote and by what the reader says of it.
+-- The outcome of mending, by what the pass wrote and by what the reader says of it.
 -- Assumes nothing.
 use Prim.Native.Nat.{ℕ}
 use mathlib.Core.Path.{_≡_, refl, sym, ap, _∙_, subst}

@@ -17,7 +17,7 @@ use Rattle.mend_call.specs.Outcome.{Outcome, accepted, refused}
 use Rattle.mend_call.specs.declared.Answer as code
 use Rattle.mend_call.specs.declared.Answer.the-variants as answer
 
--- the mended file, its changes and its sheet, zeros behind each; w is what was lent for the sheet, w′ what it is at the end
+-- the mended file, its changes and its sheet, zeros after each; w is what was lent for the sheet, w′ what it is at the end
 pub record Given (book : Book) (s : State) (w w′ : Lent) (bytes : ℕ) (out : List ℕ) (words : ℕ) (noted head : List ℕ) (r : code.Answer) : Type 0 where
   pub answer : r ≡ answer.Mended (length (mended book (w .file))) (length (changes book (w .file))) (unitIn (s .graphics .header)) (roundedIn book (mended book (w .file)))
   pub file-left : out ≡ written bytes (mended book (w .file))

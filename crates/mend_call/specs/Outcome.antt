@@ -1,4 +1,4 @@
--- What mending a file comes to (02, [13]; decision 546): the sheet of the mended file, or a number.
+-- The outcome of mending a file (02, [13]; decision 546): the sheet of the mended file, or a number.
 use Prim.Native.Nat.{ℕ}
 use mathlib.Core.Bool.{Bool, cond}
 use mathlib.Core.List.{List}

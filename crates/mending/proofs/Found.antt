@@ -1,4 +1,4 @@
--- The next complete command as a part of the file, and the cut behind it.
+-- The next complete command as a part of the file, and the cut after it.
 -- Assumes nothing.
 use Prim.Native.Nat.{ℕ, suc, _+_, _-_, _≤_}
 use mathlib.Core.Path.{_≡_, refl, sym, ap, _∙_}

@@ -36,7 +36,7 @@ keptFrom book file fs mo at (piece gap c ∷ ps) =
       ]
     ]
 
--- two parts that meet are one, and a part with what stands behind it is the rest
+-- two parts that meet are one, and a part with what stands after it is the rest
 pub slices-join : (file : List ℕ) (a b c : ℕ) → a ≤ b → b ≤ c → slice a b file ++ slice b c file ≡ slice a c file
 slices-join file a b c h k =
     let e : c - a ≡ b - a + (c - b) = omega arith in
@@ -66,7 +66,7 @@ repeat-percent fs mo c e = go (matches (text "%FS") fs c) refl
     go true f = opens-percent 70 83 c (and-l _ _ f)
     go false f = opens-percent 77 79 c (and-l _ _ (rw (repeats, f, false-or) at e))
 
--- so the next `%` behind its first ends it
+-- so the next `%` after its first ends it
 repeat-closes : {file : List ℕ} {at : ℕ} {gap c : List ℕ} {ps : List Piece} → Found file at gap c ps → (d : List ℕ) × (c ≡ 37 ∷ d) →
     place (code "%") file (at + length gap + 1) + 1 ≡ at + length gap + length c
 repeat-closes {file} {at} {gap} {c} f d =

@@ -31,7 +31,7 @@ unfolding onto
 past-onto p at b [] = refl
 past-onto p at b (piece gap c ∷ ps) = let e : at + suc (length c) ≡ at + 1 + length c = omega arith in ap (Command p) e
 
--- it ends behind the first m
+-- it ends after the first m
 past-inside : (m p : ℕ) (s : List ℕ) (at : ℕ) →
     past p at (cut (inside m) s) ≡ cond (ltb (firstIn (λ b. eqb b m) s at) (at + length s)) (Command p (firstIn (λ b. eqb b m) s at + 1)) Rest
 unfolding cut skips closes mark firstIn
@@ -76,7 +76,7 @@ module _ (file : List ℕ) where
       go ih true e = rw (e, firstIn, cut) (apart-extent at b (pieces s) ∙ ih)
       go ih false e = rw (e, firstIn) (rw h refl)
 
-  -- and what stands behind them is none
+  -- and what stands after them is none
   unbroken : (s : List ℕ) (at : ℕ) → drop at file ≡ s → firstIn (λ b. not (isBreak b)) s at < at + length s →
       isBreak (getD file (firstIn (λ b. not (isBreak b)) s at) 0) ≡ false
   unfolding firstIn
@@ -105,7 +105,7 @@ module _ (file : List ℕ) where
       begins-unbroken : isBreak (getD file start 0) ≡ false
       begins-unbroken = unbroken (drop at file) at refl (omega (arith, length-drop at file, first-from (λ b. not (isBreak b)) file at))
 
-      -- the command that begins there, behind its first byte
+      -- the command that begins there, after its first byte
       behind-first : {m : ℕ} → closes between (getD file start 0) ≡ false → mark between (getD file start 0) ≡ m →
           extentOf at (pieces (drop at file)) ≡ cond (ltb (place m file (start + 1)) (length file)) (Command start (place m file (start + 1) + 1)) Rest
       unfolding cut skips

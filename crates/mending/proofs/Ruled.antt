@@ -23,7 +23,7 @@ use Rattle.scan.specs.declared.Kind.the-variants.{Extended}
 use Rattle.mending.specs.Changes.{textOf}
 use Rattle.mending.specs.Laws.{unbroken, ruledText, oneBlock}
 
--- where CR and LF may stand: behind `*` and nowhere else
+-- where CR and LF may stand: after `*` and nowhere else
 may-behind : (b : ℕ) → mayBreak Extended 42 b ≡ isBreak b
 unfolding mayBreak breaksAfter among _or_
 may-behind b = and-true (isBreak b)
@@ -32,7 +32,7 @@ may-not : (last b : ℕ) → eqb last 42 ≡ false → mayBreak Extended last b 
 unfolding mayBreak breaksAfter among _or_
 may-not last b e = rw e (and-false (isBreak b))
 
--- behind `*`: CR and LF alone leave nothing
+-- after `*`: CR and LF alone leave nothing
 nothing-left : (s : List ℕ) → unbroken 42 s ≡ [] → dropTrailing isBreak s ≡ []
 unfolding unbroken dropTrailing keptBefore
 nothing-left [] e = refl

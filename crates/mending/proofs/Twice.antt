@@ -30,7 +30,7 @@ end-closing : (book : Book) → closing book (text "M02*") ≡ true
 unfolding closing sameBytes _or_
 end-closing book = refl
 
--- a kept command in the mended file m, behind line ends that are left over
+-- a kept command in the mended file m, after line ends that are left over
 module _ (m : List ℕ) (p : ℕ) {left gap c : List ℕ} (b : Breaks between left) (g : Breaks between gap) (w : Whole between c) (x : List ℕ)
     (e : drop p m ≡ left ++ (gap ++ (c ++ x))) where
   kept-bytes : drop p m ≡ (left ++ gap) ++ c ++ x
@@ -81,7 +81,7 @@ module _ (book : Book) (m fs mo : List ℕ) (p : ℕ) {left gap c : List ℕ} (b
         commands = rw (kept-piece m p b g w x e, extentsFrom, h) (λ i. (n i, c) ∷ v i);
       }
 
--- from the place p of the mended file on, where what is kept from `at` on stands behind line ends that are left over
+-- from the place p of the mended file on, where what is kept from `at` on stands after line ends that are left over
 still : (book : Book) (m file fs mo : List ℕ) (at : ℕ) (ps : List Piece) → pieces (drop at file) ≡ ps →
     (left : List ℕ) → Breaks between left → (p gone : ℕ) → p + length left + gone ≡ at →
     drop p m ≡ left ++ keptFrom book file fs mo at ps → Still book fs mo m p (remaining book fs mo gone at (extentsFrom book at ps))

@@ -1,4 +1,4 @@
--- A sound file has no changes: none of its commands repeats an earlier one, and M02 stands with nothing behind it.
+-- A sound file has no changes: none of its commands repeats an earlier one, and M02 stands with nothing after it.
 -- Assumes nothing.
 use Prim.Native.Nat.{ℕ, suc, _+_, _-_}
 use mathlib.Core.Path.{_≡_, refl, ap, _∙_}
@@ -25,7 +25,7 @@ use Rattle.mending.specs.Rebuilt.{rebuilt, mended}
 use Rattle.mending.proofs.Or.{or-l, or-r, false-or}
 use Rattle.mending.proofs.Twice.{rebuilt-none}
 
--- a command that matches neither the first before nor c matches the first behind c
+-- a command that matches neither the first before nor c matches the first after c
 match-behind : (w t c d : List ℕ) → matches w t d ≡ false → (opens w c and matches w (textOf c) d) ≡ false → matches w (firstOf w t c) d ≡ false
 unfolding firstOf
 match-behind w t c d e f = go (eqb (length t) 0 and opens w c) refl

@@ -26,7 +26,7 @@ pub data Change : Type 0 where
 unfoldable pub opens : List ℕ → List ℕ → Bool
 opens w c = sameBytes (take (length w) c) w
 
--- the text of an extended command: the bytes between its two `%`, without the CR and LF behind its last block
+-- the text of an extended command: the bytes between its two `%`, without the CR and LF after its last block
 unfoldable pub textOf : List ℕ → List ℕ
 textOf c = dropTrailing isBreak (slice 1 (length c - 1) c)
 

@@ -47,7 +47,7 @@ unfoldable pub onto : ℕ → List Piece → List Piece
 onto b [] = []
 onto b (piece gap c ∷ ps) = piece gap (b ∷ c) ∷ ps
 
--- the complete commands of these bytes; what stands behind the last of them is in none
+-- the complete commands of these bytes; what stands after the last of them is in none
 unfoldable pub cut : Site → List ℕ → List Piece
 cut w [] = []
 cut w (b ∷ s) =

@@ -1,4 +1,4 @@
--- What the reading of a file needs of the names, command by command: at a TF, whether its name was set before; behind any command that is no
+-- What the reading of a file needs of the names, command by command: at a TF, whether its name was set before; after any command that is no
 -- fault, what is known of the names set by then.
 -- Assumes nothing.
 use Prim.Native.Nat.{ℕ, _+_, _-_, _≤_}

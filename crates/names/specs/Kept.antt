@@ -30,7 +30,7 @@ noted s used (Free link) = cond (hasRoom s used) (New (used + 1)) Full
 unfoldable pub notedOf : List ℕ → List ℕ → ℕ → ℕ → ℕ → Noted
 notedOf file s used from to = noted s used (named file s used (slice from to file))
 
--- the table behind it
+-- the table after it
 unfoldable pub keptAt : List ℕ → ℕ → ℕ → ℕ → Search → List ℕ
 keptAt s used from to (At i) = s
 keptAt s used from to (Free link) = added s used link (macroWords (nameAt from to))

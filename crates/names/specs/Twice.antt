@@ -1,5 +1,5 @@
--- Where a name of a file attribute is set twice (01, number 19), told by the file as it is cut into commands: what stands behind a fault
--- or behind M02 is looked at too, and no reader comes there (decision 254).
+-- Where a name of a file attribute is set twice (01, number 19), told by the file as it is cut into commands: what stands after a fault
+-- or after M02 is looked at too, and no reader comes there (decision 254).
 use Prim.Native.Nat.{ℕ, zero, suc, _+_}
 use mathlib.Core.Bool.{true, false}
 use mathlib.Core.List.{List, [], _∷_}

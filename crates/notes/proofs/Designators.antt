@@ -128,7 +128,7 @@ module _ (file s : List ℕ) (used : ℕ) (t : Designators file s used) where
           subst (λ (x : List ℕ). Kept file s x used d (record { word = 0; used = used })) (sym same)
           (record { grown = grown-none 1; is = λ room b q. absurd (let h = ltb-false used (length s / recordWidth) full in omega arith) })
 
-  -- behind a command
+  -- after a command
   pub hears-silent : (old : ℕ) → Hears file s s used old Silent (record { word = old; used = used })
   unfolding later setBy
   hears-silent old = record { grown = grown-none 0; follows = λ room said h. h }

@@ -27,7 +27,7 @@ use Rattle.layer.specs.Said.{valueSaid}
 use Rattle.notes.specs.Spans.{SpanIs, Follows}
 use Rattle.notes.specs.Functions.{functionIs, functionNumber, FunctionFollows}
 
--- where the first comma stands, in a value or behind it
+-- where the first comma stands, in a value or after it
 abbrev comma : List ℕ → ℕ
 comma v = place (code ",") v 0
 
@@ -71,7 +71,7 @@ module _ (file : List ℕ) (at n : ℕ) where
             ∙ sym (field-first v);
       }
 
-  -- the value behind its first comma is a value too
+  -- the value after its first comma is a value too
   behind-comma : comma v < length v → afterByte (code ",") v ≡ take (length v - (comma v + 1)) (drop (at + comma v + 1) file)
   unfolding afterByte
   behind-comma l =
@@ -114,7 +114,7 @@ module _ (file : List ℕ) (at n : ℕ) {v : List ℕ} {k : ℕ} (same : v ≡ t
       let m : length (take n (drop at file)) ≤ comma (take n (drop at file)) = let e = ap length same in let f = comma-is in omega arith in
       rw (e, second-none file at n m) (nowhere-is file)
 
--- ---- behind a command
+-- ---- after a command
 
 module _ (file : List ℕ) (i : ℕ) (p : Span) where
   pub silent : Follows file i p p Silent

@@ -41,7 +41,7 @@ pub record Kept (file s s′ : List ℕ) (used : ℕ) (d : List ℕ) (r : Design
   pub grown : Grown file s s′ used (r .used) 1
   pub is : used < length s / recordWidth → (b : List ℕ) → field 0 (values.held b) ≡ d → Denotes (nameOf file s′) (r .used) (r .word) (values.held b)
 
--- a value that is noted by `old` before a command that says `say` is noted by the word of r behind it, where there is room
+-- a value that is noted by `old` before a command that says `say` is noted by the word of r after it, where there is room
 pub record Hears (file s s′ : List ℕ) (used old : ℕ) (say : Saying) (r : Designated) : Type 0 where
   pub grown : Grown file s s′ used (r .used) (setBy say)
   pub follows : used + setBy say ≤ length s / recordWidth → (said : Saying) → Denotes (nameOf file s) used old (valueSaid file said) →

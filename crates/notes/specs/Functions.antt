@@ -15,6 +15,6 @@ functionIs s = cond (s is "ComponentMain") 1 (cond (s is "ComponentPin") 2 (cond
 unfoldable pub functionNumber : Value → ℕ
 functionNumber v = functionIs (field 0 v)
 
--- before a command that says s, and behind it
+-- before a command that says s, and after it
 pub record FunctionFollows (file : List ℕ) (old r : ℕ) (s : Saying) : Type 0 where
   pub follows : (said : Saying) → old ≡ functionNumber (valueSaid file said) → r ≡ functionNumber (valueSaid file (later said s))

@@ -15,6 +15,6 @@ pub record SpanIs (file : List ℕ) (p : Span) (s : List ℕ) : Type 0 where
   pub inside : p .to ≤ length file
   pub is : slice (p .from) (p .to) file ≡ s
 
--- field i lies at p before a command that says s, and at q behind it
+-- field i lies at p before a command that says s, and at q after it
 pub record Follows (file : List ℕ) (i : ℕ) (p q : Span) (s : Saying) : Type 0 where
   pub follows : (said : Saying) → SpanIs file p (field i (valueSaid file said)) → SpanIs file q (field i (valueSaid file (later said s)))

@@ -1,4 +1,4 @@
--- What is known before the first command, and that what is known behind the last is what the pass leaves.
+-- What is known before the first command, and that what is known after the last is what the pass leaves.
 -- Assumes nothing.
 use Prim.Native.Nat.{ℕ, _+_, _*_, _/_, _≤_, _<_}
 use mathlib.Core.Path.{_≡_, refl, sym, ap, _∙_, subst}

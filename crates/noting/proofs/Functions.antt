@@ -1,4 +1,4 @@
--- What an aperture is for, by the commands before and behind: the first AD with its number decides.
+-- What an aperture is for, by the commands before and after: the first AD with its number decides.
 -- Assumes nothing.
 use Prim.Native.Nat.{ℕ}
 use mathlib.Core.Path.{_≡_, refl, sym, ap, _∙_}

@@ -1,4 +1,4 @@
--- What is heard behind a command, from what it says of each name.
+-- What is heard after a command, from what it says of each name.
 -- Assumes nothing.
 use Prim.Native.Nat.{ℕ, _+_, _/_, _≤_, _<_}
 use mathlib.Core.Path.{_≡_, refl, ap, _∙_, subst}
@@ -36,7 +36,7 @@ use Rattle.noting.specs.declared.Both.{Both}
 use Rattle.noting.specs.declared.Heard.{Heard}
 use Rattle.noting.specs.declared.Noting.{Noting}
 
--- two growths, one behind the other
+-- two growths, one after the other
 grown-then : {file s m t : List ℕ} {u v w a b : ℕ} → Grown file s m u v a → Grown file m t v w b → Grown file s t u w (a + b)
 grown-then f g =
     let fm = f .more in

@@ -1,4 +1,4 @@
--- What is known between two commands, cs being those before; and that it is known behind one more.
+-- What is known between two commands, cs being those before; and that it is known after one more.
 -- Assumes nothing.
 use Prim.Native.Nat.{ℕ, _+_, _*_, _/_, _≤_, _<_}
 use mathlib.Core.Path.{_≡_, refl, sym, ap, _∙_}
@@ -89,7 +89,7 @@ set-few Silent = omega arith
 set-few Deletes = omega arith
 set-few (Sets place length) = omega arith
 
--- the table of apertures behind a command
+-- the table of apertures after a command
 puts-numbered : (m : Made) (s s′ : List ℕ) (used used′ function : ℕ) → Numbered s used → Puts m s s′ used used′ function → Numbered s′ used′ × (length s′ ≡ length s) × (used′ ≤ used + aperturesBy m)
 unfolding Puts aperturesBy
 puts-numbered Item s s′ used used′ function t p = (rw (p .0, p .1) t, ap length (p .0), let q = p .1 in omega arith)

@@ -30,7 +30,7 @@ use Rattle.noting.specs.declared.Both.{Both}
 use Rattle.noting.specs.declared.Heard.{Heard}
 use Rattle.noting.specs.declared.Noting.{Noting}
 
--- what `.AperFunction` makes of an aperture behind these commands
+-- what `.AperFunction` makes of an aperture after these commands
 abbrev pub functionBy : List ℕ → List Placed → ℕ
 functionBy file cs = functionNumber (valueSaid file (saidBy file kind.Aperture (text ".AperFunction") cs))
 
@@ -48,14 +48,14 @@ placedAt n place =
       mount = n .mount;
     }
 
--- the notes behind a command: one more of D01 and D03
+-- the notes after a command: one more of D01 and D03
 unfoldable pub notedAs : Made → List ℕ → ℕ → Note → List ℕ
 notedAs Item s i n = withNote s i n
 notedAs (Aperture m) s i n = s
 notedAs (File name value) s i n = s
 notedAs Nothing s i n = s
 
--- an aperture more, with what it is for, where its number is new and there is room; s′ is the table behind it, of used′ records
+-- an aperture more, with what it is for, where its number is new and there is room; s′ is the table after it, of used′ records
 pub record Put (s s′ : List ℕ) (used used′ number function : ℕ) : Type 0 where
   pub numbered : Numbered s′ used′
   pub long : length s′ ≡ length s
@@ -73,7 +73,7 @@ Puts (Aperture number) s s′ used used′ function = Put s s′ used used′ nu
 Puts (File name value) s s′ used used′ function = (s′ ≡ s) × (used′ ≡ used)
 Puts Nothing s s′ used used′ function = (s′ ≡ s) × (used′ ≡ used)
 
--- both designators behind a command
+-- both designators after a command
 pub record HearsBoth (file s s′ : List ℕ) (used : ℕ) (n : Note) (c : Placed) (r : Both) : Type 0 where
   pub settings : r .settings ≡ setsOf file c ".C" + setsOf file c ".P"
   pub grown : Grown file s s′ used (r .used) (r .settings)

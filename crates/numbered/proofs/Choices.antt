@@ -1,4 +1,4 @@
--- Which book two numbers name, and what the calls come to by it: one law for each way out.
+-- Which book two numbers name, and the outcome of the calls by it: one law for each way out.
 -- Assumes nothing.
 use Prim.Native.Nat.{ℕ}
 use mathlib.Core.Path.{_≡_, refl}

@@ -1,4 +1,4 @@
--- What mending comes to by the book that a number names: by that book, or by none.
+-- The outcome of mending by the book that a number names: by that book, or by none.
 -- Assumes nothing.
 use Prim.Native.Nat.{ℕ}
 use mathlib.Core.Path.{_≡_, refl}

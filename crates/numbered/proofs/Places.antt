@@ -1,4 +1,4 @@
--- What the call for a placement list comes to by the book that a number names: by that book, or by none.
+-- The outcome of the call for a placement list by the book that a number names: by that book, or by none.
 -- Assumes nothing.
 use Prim.Native.Nat.{ℕ}
 use mathlib.Core.Path.{_≡_}

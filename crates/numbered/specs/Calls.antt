@@ -1,4 +1,4 @@
--- What the calls on a file come to by the book that is named: those of the book; or 101, a number of ours, before all else (decision 420).
+-- The outcome of the calls on a file by the book that is named: those of the book; or 101, a number of ours, before all else (decision 420).
 use Prim.Native.Nat.{ℕ}
 use mathlib.Core.List.{List}
 use Rattle.sequence.specs.Rounded.{roundedIn}

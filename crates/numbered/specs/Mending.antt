@@ -1,4 +1,4 @@
--- What mending comes to by the book that is named; or 101, a number of ours, before all else (02, [13]; decision 420).
+-- The outcome of mending by the book that is named; or 101, a number of ours, before all else (02, [13]; decision 420).
 use Prim.Native.Nat.{ℕ}
 use mathlib.Core.List.{List}
 use Rattle.progress.specs.Lent.{Lent, roomOf}

@@ -1,4 +1,4 @@
--- What the call for a placement list comes to by the book that is named; or 101, a number of ours, before all else (02, [4]; decision 420).
+-- The outcome of the call for a placement list by the book that is named; or 101, a number of ours, before all else (02, [4]; decision 420).
 use Prim.Native.Nat.{ℕ}
 use mathlib.Core.Path.{_≡_}
 use mathlib.Core.List.{List}

@@ -53,7 +53,7 @@ less p e = record {
 pub less-within : (p : Point) → Less p → Within (10 ^ 12) p
 less-within p h = record { across = omega (arith, h .across); up = omega (arith, h .up) }
 
--- an operation behind FS that breaks not 5: where it goes from and to
+-- an operation after FS that breaks not 5: where it goes from and to
 pub record Reaches (g : Graphics) (x y : Axis) : Type 0 where
   pub from : Less (g .point .at)
   pub to : Less (target g x y)

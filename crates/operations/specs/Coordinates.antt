@@ -25,7 +25,7 @@ given sign (coordinate.Value v) = record { given = true; formless = false; long 
 unfoldable pub missing : Field
 missing = record { given = false; formless = false; long = false; signed = false; value = pos 0 }
 
--- the field of a letter at a place: the letter, then a coordinate; and the place behind it
+-- the field of a letter at a place: the letter, then a coordinate; and the place after it
 unfoldable pub fieldAt : Format → ℕ → List ℕ → ℕ → TakenField
 fieldAt format letter s at =
     let taken : Taken = takenIn format s (at + 1) in

@@ -66,7 +66,7 @@ operationIn number format s =
 unfoldable pub operates : Written → Command
 operates w = judged (w .formless) (w .long) (Operate (w .operation))
 
--- one behind a G code of the old book
+-- one after a G code of the old book
 unfoldable pub coded : Setting → Written → Command
 coded g w = judged (w .formless) (w .long) (Coded g (w .operation))
 

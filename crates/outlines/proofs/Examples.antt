@@ -72,7 +72,7 @@ newer-firsts : firsts ascii outside ("X0Y0D01" ∷ "G36" ∷ "X0Y0D02" ∷ "X1Y1
 unfolding beginsContour regionAfter outlineOf newerOutline isOld isOldEdition pick sameBytes _and_ _or_
 newer-firsts = refl
 
--- G36 and a contour's first D01 in one command, G37 and a D01 behind the region
+-- G36 and a contour's first D01 in one command, G37 and a D01 after the region
 old-firsts : firsts film outside ("G36X0Y0D02" ∷ "G1X1Y1D1" ∷ "D1" ∷ "D2" ∷ "X4D1" ∷ "G37X0Y0D01" ∷ "G36X1Y1D1" ∷ "X2D01" ∷ [])
     ≡ false ∷ true ∷ false ∷ false ∷ true ∷ false ∷ true ∷ false ∷ []
 unfolding beginsContour regionAfter outlineOf wordOutline isOld isOldEdition wordOf otherOf miscellaneousOf generalOf codedOf operateOf commentOf isEnd operationLength operationIn endsInOne codeOf laterCodes isDigit pick firstIn among sameBytes _and_ _or_

@@ -5,7 +5,7 @@ use Rattle.base.specs.Or.{_or_}
 use Rattle.outlines.specs.declared.Outline.{Outline}
 use Rattle.outlines.specs.declared.Region.{Region}
 
--- behind a command: whether a region is open, and whether a D01 came since the last G36 or D02. The code before an operation takes effect first
+-- after a command: whether a region is open, and whether a D01 came since the last G36 or D02. The code before an operation takes effect first
 unfoldable pub regionAfter : Region → Outline → Region
 regionAfter r o =
     record {

@@ -1,4 +1,4 @@
--- One step of the pass over the items: whether a main repeats is told by its designator's record, and behind it the record says that it has one.
+-- One step of the pass over the items: whether a main repeats is told by its designator's record, and after it the record says that it has one.
 -- Assumes nothing.
 use Prim.Native.Nat.{ℕ, zero, suc, _+_, _*_, _-_, _≤_, _<_}
 use mathlib.Core.Path.{_≡_, refl, sym, ap, _∙_, subst}
@@ -92,7 +92,7 @@ module _ {e a : List ℕ} {top : Container} {notes : List ℕ} {operations : ℕ
         ap (λ (r : Role). stepFault o (metOf p) (eqb (wordOf names (mainAs r (s .note)) mainWord) 1)) (w .role)
         ∙ again-as (p .role) (s .note) (p .texts) o (metOf p) refl (w .means)
 
-  -- behind an item that is not at fault
+  -- after an item that is not at fault
   other-marked : k < length ps → isMain (p .role) ≡ false → Marked l names (suc k)
   unfolding _and_
   other-marked h e = record {

@@ -1,4 +1,4 @@
--- The pass that finds the first item at fault: behind it each designator says whether it has a main.
+-- The pass that finds the first item at fault: after it each designator says whether it has a main.
 use Prim.Native.Nat.{ℕ, _+_, _*_, _≤_, _<_}
 use mathlib.Core.Path.{_≡_}
 use mathlib.Core.List.{List}

@@ -224,7 +224,7 @@ fn no_outline() -> Outline
     }
 }
 
-// The first item at fault. Behind it, where there is none, each designator says whether it has a main.
+// The first item at fault. After it, where there is none, each designator says whether it has a main.
 pub fn faults(
     e: &[u64],
     a: &[u64],

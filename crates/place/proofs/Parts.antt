@@ -1,4 +1,4 @@
--- Parts written one behind the other, and the items that they put out.
+-- Parts written one after the other, and the items that they put out.
 -- Assumes nothing.
 use Prim.Native.Nat.{ℕ, zero, suc, _+_, _<_}
 use mathlib.Core.Path.{_≡_, refl, sym, ap, _∙_}
@@ -11,7 +11,7 @@ use Rattle.place.specs.Copies.{copies}
 use Rattle.place.specs.Parts.{Parts, none, item, flashed, repeated, _then_, itemsIn, pieces}
 use Rattle.place.specs.declared.Item.{Item}
 
--- items one behind the other
+-- items one after the other
 unfoldable pub inRow : List Item → Parts
 inRow [] = none
 inRow (t ∷ ts) = item t (inRow ts)
@@ -47,7 +47,7 @@ pieces-cong f g p q (suc n) h =
     let ih = pieces-cong f g (suc p) (suc q) n (λ i l. let a : p + suc i ≡ suc p + i = omega arith in let b : q + suc i ≡ suc q + i = omega arith in rw (a, b) at (h (suc i) (omega arith))) in
     cc
 
--- the items of parts one behind the other
+-- the items of parts one after the other
 pub items-then : (ps qs : Parts) → itemsIn (ps then qs) ≡ itemsIn ps ++ itemsIn qs
 unfolding itemsIn _then_
 items-then none qs = refl

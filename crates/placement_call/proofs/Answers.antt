@@ -31,7 +31,7 @@ use Rattle.placement_list.specs.declared.Answer.{Answer}
 use Rattle.placement_list.proofs.Lists.{refusal-lists}
 use Rattle.placement_call.specs.Placement.{Work, isTightFor, isTight, partsIn, refusalIn, refusalFor, listFor, Places}
 
--- behind 34 and the notes' room it is the list's
+-- after 34 and the notes' room it is the list's
 judged : (pins room : ℕ) (ps : List Part) → judgedOf pins room ps ≡ refusalOf true (isShort false pins ps) room ps
 unfolding judgedOf refusalOf isShort _or_ _and_
 judged pins room ps = go (isSound ps) (ltb pins (listedPins ps))

@@ -74,7 +74,7 @@ pub record Places (book : Book) (l l′ : Lent) (head : List ℕ) (w : Work) (ro
   pub number : r .number ≡ refusalFor book (l .file) w room (reading.reading book (roomOf l) (l .file)) .number
   pub place : r .place ≡ refusalFor book (l .file) w room (reading.reading book (roomOf l) (l .file)) .place
   pub bytes : r .bytes ≡ length (listFor book (l .file) w room (reading.reading book (roomOf l) (l .file)))
-  -- the whole list, and zeros behind: "Each zeroes the output"
+  -- the whole list, and zeros after: "Each zeroes the output"
   pub output : out ≡ written room (listFor book (l .file) w room (reading.reading book (roomOf l) (l .file)))
   -- the sheet's words are as a reading leaves them
   pub answer : reader.Answer

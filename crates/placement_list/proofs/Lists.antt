@@ -95,7 +95,7 @@ module _ {e a : List ℕ} {top : Container} {notes : List ℕ} {operations : ℕ
 pub pen-end : {b a : List ℕ} {q : Pen} {s : List ℕ} → Wrote b a (record { at = 0; full = false }) q s → q .full ≡ false → q .at ≡ length s
 pen-end w e = w .stands e .end ∙ zero-add _
 
--- behind the last record
+-- after the last record
 pub finished-lists : (pins : ℕ) (ps : List Part) {out m out′ : List ℕ} {q : Pen} {r : Answer} → out ≡ replicate (length out) 0 → faultOf ps .number ≡ 0 → ltb pins (listedPins ps) ≡ false →
     Wrote out m (record { at = 0; full = false }) q (listOf ps) →
     (q .full ≡ true → (r ≡ answered 17 0 0) × (out′ ≡ replicate (length m) 0)) × (q .full ≡ false → (r ≡ answered 0 0 (q .at)) × (out′ ≡ m)) →

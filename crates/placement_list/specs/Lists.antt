@@ -1,4 +1,4 @@
--- What the list of a component layer comes to, behind 34 and the room for the notes (02, [4]; decisions 589 to 591).
+-- The outcome of the list of a component layer, after 34 and the room for the notes (02, [4]; decisions 589 to 591).
 use Prim.Native.Nat.{ℕ}
 use mathlib.Core.Path.{_≡_}
 use mathlib.Core.Bool.{cond, not}
@@ -27,7 +27,7 @@ judgedOf pins room ps =
     (cond (ltb pins (listedPins ps)) (fault 17 0)
     (cond (ltb room (length (listOf ps))) (fault 17 0) (fault 0 0)))
 
--- the answer, and the output: the list, and zeros behind it; a refusal leaves zeros alone
+-- the answer, and the output: the list, and zeros after it; a refusal leaves zeros alone
 pub record Lists (f : Fault) (ps : List Part) (room : ℕ) (out : List ℕ) (r : Answer) : Type 0 where
   pub number : r .number ≡ f .number
   pub place : r .place ≡ f .place

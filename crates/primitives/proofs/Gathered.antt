@@ -34,7 +34,7 @@ added-last zs z =
       last = amount (getD (back i) 0 (pos 0));
     }
 
--- those from here on, behind those before
+-- those from here on, after those before
 unfoldable pub gathered : Asked → List ℤ → Asked
 gathered q [] = q
 gathered q (z ∷ zs) = gathered (added q (amount z)) zs

@@ -30,7 +30,7 @@ asked absent zs =
       last = nth (reverse zs) 0;
     }
 
--- with one parameter more behind them (`added-last`)
+-- with one parameter more after them (`added-last`)
 unfoldable pub added : Asked → Amount → Asked
 added q a =
     record {

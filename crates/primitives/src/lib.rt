@@ -1,4 +1,4 @@
-// The rules of a macro's primitives (10), on what their parameters came to.
+// The rules of a macro's primitives (10), on the outcome of their parameters.
 ghost use mathlib.Core.Path.{_≡_};
 ghost use mathlib.Core.Bool.{cond};
 ghost use mathlib.Core.List.{[]};

@@ -1,4 +1,4 @@
--- A search over records in use that a list holds one behind the other: what it finds is what the list has first.
+-- A search over records in use that a list holds one after the other: what it finds is what the list has first.
 -- Assumes nothing.
 use Prim.Native.Nat.{ℕ, zero, suc, _+_, _<_}
 use mathlib.Core.Path.{_≡_, refl}

@@ -1,4 +1,4 @@
--- Records in use, one behind the other in a list: as many, and one more at its end.
+-- Records in use, one after the other in a list: as many, and one more at its end.
 -- Assumes nothing.
 use Prim.Native.Nat.{ℕ, suc, _+_, _<_}
 use mathlib.Core.Path.{_≡_, refl, ap, _∙_}

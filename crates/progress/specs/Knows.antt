@@ -1,4 +1,4 @@
--- What the lent words and the progress hold of what reading knows between two commands (crates/law_reading), and what a step comes to.
+-- What the lent words and the progress hold of what reading knows between two commands (crates/law_reading), and the outcome of a step.
 use Prim.Native.Nat.{_+_, _^_, _≤_}
 use mathlib.Core.Path.{_≡_}
 use mathlib.Core.Bool.{true}
@@ -42,12 +42,12 @@ pub record Known (lends : Lent → Type 0) (p : Progress) : Type 0 where
   pub is : lends lent
   pub knows : Knows lent p state
 
--- the step's number and what is known behind it, or the number of its fault
+-- the step's number and what is known after it, or the number of its fault
 unfoldable pub Follows : (Progress → State → Type 0) → Step → Stepped → Type 0
 Follows K t (Next p) = (t .fault ≡ 0) × K p (t .next)
 Follows K t (Fault n) = (t .fault ≡ n) × (1 ≤ n)
 
--- from p on, r is what the step comes to, whatever true of what is lent reading knows; `left` is what is lent behind it
+-- from p on, r is the outcome of the step, whatever true of what is lent reading knows; `left` is what is lent after it
 abbrev pub StepsTo : (Room → State → Step) → (Lent → Type 0) → (Lent → Lent) → Progress → Stepped → Type 0
 StepsTo step lends left p r = (w : Lent) (s : State) → lends w → Knows w p s → Follows (Knows (left w)) (step (roomOf w) s) r
 

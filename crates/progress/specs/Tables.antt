@@ -1,5 +1,5 @@
--- The words of the rooms for apertures, macros and numbers, and what reading knows of them: the records in use, one behind the other,
--- and 0 behind them.
+-- The words of the rooms for apertures, macros and numbers, and what reading knows of them: the records in use, one after the other,
+-- and 0 after them.
 use Prim.Native.Nat.{ℕ, _-_, _*_, _≤_, _<_}
 use mathlib.Core.Path.{_≡_}
 use mathlib.Core.Bool.{true, false, cond}

@@ -1,4 +1,4 @@
--- What the call comes to, by how the commands end.
+-- The outcome of the call, by how the commands end.
 -- Assumes nothing.
 use Rattle.running.specs.Units.{unitIn}
 use Prim.Native.Nat.{ℕ, _+_, _≤_}
@@ -94,7 +94,7 @@ unfolding Reads
 reads-long book w w′ head q z = subst (λ (x : Answer). Reads (roundedIn book (w .file)) x w w′ head (answer.Refused 1 0)) (sym (reading-long book w q)) (refl, z)
 
 module _ (book : Book) (w₀ w : Lent) (head : List ℕ) (r : End) (short : fits (w₀ .file) ≡ true) (long : AsLong w₀ w) (ends : Ends book (answerOf book w₀) w r) where
-  -- a refusal, and every room cleared behind it
+  -- a refusal, and every room cleared after it
   pub reads-refused : {f : Refusal} (w′ : Lent) → r ≡ Fault f → Zeroed w w′ head → Reads (roundedIn book (w₀ .file)) (reading book (roomOf w₀) (w₀ .file)) w₀ w′ head (answer.Refused (f .number) (f .place))
   unfolding Ends Reads
   reads-refused {f} w′ q z =

@@ -1,4 +1,4 @@
--- What the call for a reading comes to: the answer of the definition (crates/law_reading), and the lent words behind it.
+-- The outcome of the call for a reading: the answer of the definition (crates/law_reading), and the lent words after it.
 use Rattle.running.specs.Units.{unitIn}
 use Prim.Native.Nat.{ℕ}
 use mathlib.Core.Path.{_≡_}

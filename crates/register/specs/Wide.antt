@@ -38,7 +38,7 @@ unfoldable pub relinked : Bool → ℕ → ℕ → ℕ
 relinked true links new = links / half * half + new
 relinked false links new = new * half + links % half
 
--- what a search comes to, as `index` tells it
+-- the outcome of a search, as `index` tells it
 unfoldable pub searchOf : Found → Search
 searchOf (At i) = search.At i
 searchOf (Free at high) = search.Free (linkWord at high)

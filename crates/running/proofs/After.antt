@@ -120,7 +120,7 @@ unit-set (setting.Mirror x y) g h = h
 unit-set (setting.Rotation a rounded) g h = h
 unit-set (setting.Scale a rounded) g h = h
 
--- the names behind a command with this text that is no fault: TF sets a new one
+-- the names after a command with this text that is no fault: TF sets a new one
 unfoldable pub Named : List ℕ → List (List ℕ) → List (List ℕ) → Sets → Type 0
 Named t names names′ Nothing = names′ ≡ names
 Named t names names′ (Name name) = (names′ ≡ part t name ∷ names) × (isAmong (part t name) names ≡ false)

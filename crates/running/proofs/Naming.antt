@@ -1,4 +1,4 @@
--- The names set so far, and what becomes of them with a command: it is told rightly whether it sets one again, and behind it the names are
+-- The names set so far, and what becomes of them with a command: it is told rightly whether it sets one again, and after it the names are
 -- known that are set by then.
 -- Assumes nothing.
 use Rattle.formats.specs.declared.Format.{Format}

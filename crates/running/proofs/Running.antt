@@ -41,7 +41,7 @@ use Rattle.running.proofs.Counting.{allOf, Counted, counted-last, count
 use Rattle.running.proofs.Naming.{NamesAt}
 
 -- from `at` on, after this format of FS; s is what is known, so many names are set and so many decimals rounded, and what is left
--- to read comes to the answer
+-- to read gives the answer
 pub record Running (book : Book) (file : List ℕ) (room : Room) (answer : Answer) (w : Lent) (p : Progress) (n : Format) (at set rounded : ℕ) (s : State) : Type 0 where
   pub within : at ≤ length file
   pub knows : Knows w p s

@@ -62,11 +62,11 @@ pub record AsLong (w w′ : Lent) : Type 0 where
 abbrev pub walked : Book → List ℕ → Sequence
 walked book file = commandsFrom book (suc (length file)) noFormat file 0
 
--- what it comes to in the rooms that are lent
+-- its outcome in the rooms that are lent
 unfoldable pub answerOf : Book → Lent → Answer
 answerOf book w = readOn (roomOf w) (w .file) (walked book (w .file) .commands) (walked book (w .file) .fault) (begun book)
 
--- at M02: what it came to, then what follows it; so many decimals were rounded
+-- at M02: its outcome, then what follows it; so many decimals were rounded
 unfoldable pub settled : Stepped → ℕ → Refusal → ℕ → End
 settled (stepped.Fault n) place f rounded = Fault (record { number = n; place = place })
 settled (stepped.Next p) place f rounded = elim (eqb (f .number) 0) [ true ↦ Sheet p rounded | false ↦ Fault f ]

@@ -122,7 +122,7 @@ fn judge(book: Book, file: &[u8], c: Placed, set: usize, repeat: Repeat) -> Judg
     }
 }
 
-// How the commands end at M02, what it came to being r and the fault of what follows it f.
+// How the commands end at M02, its outcome being r and the fault of what follows it f.
 fn settled(r: Stepped, place: usize, f: Refusal, rounded: usize) -> End
     ensures { λ x. ⌜ x ≡ settled r place f rounded ⌝ }
 {

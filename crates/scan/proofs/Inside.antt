@@ -70,7 +70,7 @@ module _ (book : Book) (n place : ℕ) (kind : Kind) (field : ℕ → Bool) wher
       let ne : eqb i at ≡ false = ne-eqb i at (λ e. omega arith) in
       w i (omega arith) ∙ ap (λ t. isNew (book .letters) and t) (reach-next book part b s at i ne)
 
-  -- what the walk comes to, a letter being begun where left is not 0
+  -- the outcome of the walk, a letter being begun where left is not 0
   abbrev pub Comes : Part → ℕ → ℕ → ℕ → ℕ → ℕ → List ℕ → ℕ → Type 0
   Comes part last low high left lead s at =
       run book n place (Inside (stand kind part last (follow low high left) lead)) s at
@@ -95,7 +95,7 @@ module _ (book : Book) (n place : ℕ) (kind : Kind) (field : ℕ → Bool) wher
     abbrev Rest : Type 0
     Rest = (last low high left lead : ℕ) → Ready (partAfter book part b) low left lead s (at + 1) → Comes (partAfter book part b) last low high left lead s (at + 1)
 
-    -- behind a byte
+    -- after a byte
     module _ {low left lead : ℕ} (r : Ready part low left lead (b ∷ s) at) where
       ready-on : (low left lead : ℕ) → (0 < left → 0x80 ≤ low) → (0 < left → lead < at + 1) → Ready (partAfter book part b) low left lead s (at + 1)
       ready-on low left lead f g =

@@ -1,5 +1,5 @@
 -- In a command of which no field comes any more, a byte from 32 to 126 that does not end it changes nothing but the last byte. So the
--- walk goes on from behind such bytes as from before them.
+-- walk goes on from after such bytes as from before them.
 -- Assumes nothing.
 use Prim.Native.Nat.{ℕ, zero, suc, _+_, _-_, _<_, _≤_}
 use mathlib.Core.Path.{_≡_, refl, ap, sym, _∙_}
@@ -50,7 +50,7 @@ module _ (end : ℕ) (file : List ℕ) (i : ℕ) {to : ℕ} (q : printableTo end
   next = sym (first-at (stops end) file i (goes-on .0) (goes-on .1)) ∙ q
 
 module _ (book : Book) (file : List ℕ) (place : ℕ) where
-  -- the walk behind the byte at i
+  -- the walk after the byte at i
   abbrev behind : Kind → ℕ → Scan
   behind kind i = walked book file place (idle kind Over (getD file i 0)) (i + 1)
 

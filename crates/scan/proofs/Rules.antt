@@ -31,7 +31,7 @@ unfolding letterHere letterIn wholeOf
 low-none b s h true = rw (lead-none b h)
 low-none b s h false = refl
 
--- a byte that is bad where no letter may stand is not behind one that is bad where letters may
+-- a byte that is bad where no letter may stand is not after one that is bad where letters may
 module _ (kind : Kind) (none field : ℕ → Bool) (shut : (i : ℕ) → none i ≡ false) where
   not-here : (s : List ℕ) (at : ℕ) → letterHere (none at) s ≡ 0
   unfolding letterHere

@@ -1,4 +1,4 @@
--- The walk byte by byte finds the next command: from between commands on it comes to what `nextCommand` says.
+-- The walk byte by byte finds the next command: from between commands on it ends in what `nextCommand` says.
 -- Assumes nothing.
 use Rattle.base.specs.Or.{_or_}
 use Prim.Native.Nat.{ℕ, suc, _+_, _≤_}
@@ -57,7 +57,7 @@ module _ (book : Book) (n at b : ℕ) (s : List ℕ) (long : n ≡ at + length (
             sees = λ i h. ap (λ (t : Bool). isNew (book .letters) and t) (sym (word-field book b s at i f));
           }
 
-  -- behind the `%` of an extended command
+  -- after the `%` of an extended command
   module _ (f : eqb b 37 ≡ true) where
     pub sees-mark : (kind : Kind) → Sees book n at kind field Mark s (at + 1)
     unfolding inField
@@ -129,7 +129,7 @@ module _ (book : Book) (n at b : ℕ) (r : List ℕ) (long : n ≡ at + length (
       ∙ comes book n at Macro (inField book all at) r (at + 1 + 1 + 1) Over 77 0 0 0 0 ready-macro
       ∙ sym (λ i. cutBy Macro n at (end-behind i) (bad-behind i)))
 
--- behind `%`, whatever comes
+-- after `%`, whatever comes
 marked : (book : Book) (n at b : ℕ) (s : List ℕ) → n ≡ at + length (b ∷ s) → eqb b 37 ≡ true →
     run book n at (Inside (fresh Extended Mark)) s (at + 1) ≡ commandIn book n (b ∷ s) at
 unfolding sameBytes

@@ -1,4 +1,4 @@
--- What a leap over bytes of a command comes to: the walk goes on from behind it as from before it.
+-- The outcome of a leap over bytes of a command: the walk goes on after it as before it.
 use Prim.Native.Nat.{ℕ, _≤_}
 use mathlib.Core.Path.{_≡_}
 use mathlib.Core.List.{List}
@@ -10,7 +10,7 @@ use Rattle.scan.specs.declared.Scan.{Scan}
 use Rattle.scan.specs.declared.Stand.{Stand}
 use Rattle.scan.specs.declared.Way.the-variants.{Inside}
 
--- what the walk comes to, from inside a command on
+-- the outcome of the walk, from inside a command on
 abbrev pub walked : Book → List ℕ → ℕ → Stand → ℕ → Scan
 walked book file place s at = run book (length file) place (Inside s) (drop at file) at
 

@@ -23,7 +23,7 @@ use Rattle.scan.specs.declared.Stand.{Stand}
 use Rattle.scan.specs.declared.Way.{Way}
 use Rattle.scan.specs.declared.Way.the-variants.{Between, Inside, Complete, Bad}
 
--- the kind behind a byte: `%AM` begins a macro
+-- the kind after a byte: `%AM` begins a macro
 unfoldable pub kindAfter : Kind → Part → ℕ → Kind
 kindAfter kind part b = cond (opensMacro part b) Macro kind
 
@@ -38,7 +38,7 @@ idle kind part last = stand kind part last nothing 0
 abbrev pub fresh : Kind → Part → Stand
 fresh kind part = idle kind part 0
 
--- behind a byte, with what must follow it and the place of the lead
+-- after a byte, with what must follow it and the place of the lead
 unfoldable pub moved : Book → Stand → ℕ → Follow → ℕ → Stand
 moved book s b follow lead =
     stand (kindAfter (s .kind) (s .part) b) (partAfter book (s .part) b) (cond (printable b) b (s .last)) follow lead
@@ -57,7 +57,7 @@ within book s b at =
     (cond (permitted (s .kind) (s .last) b) (Inside (moved book s b nothing 0))
     (beyond book s b at))
 
--- a byte behind a lead
+-- a byte after a lead
 unfoldable pub following : Book → Stand → ℕ → Way
 following book s b = cond (takes (s .follow) b) (Inside (moved book s b (fed (s .follow)) (s .lead))) (Bad (s .lead))
 

@@ -55,7 +55,7 @@ use Rattle.sequence.specs.declared.Placed.{Placed}
 abbrev at : ℕ → ℕ → ℕ → Command → Placed
 at place from end c = record { place = place; from = from; end = end; command = c }
 
--- two places before the point and three behind it, trailing zeros left out
+-- two places before the point and three after it, trailing zeros left out
 abbrev trailing : Places
 trailing = record { integers = 2; decimals = 3; trailing = true; incremental = false }
 

@@ -1,5 +1,5 @@
 -- The two rules of letters over a file's commands (02, request [8]): what the old rule lists, the new rule lists too, up to a 2 of the old
--- rule, behind which the new one may go on; and a file of bytes below 127 is cut alike under both.
+-- rule, after which the new one may go on; and a file of bytes below 127 is cut alike under both.
 -- Assumes nothing.
 use Prim.Native.Nat.{ℕ, zero, suc, _<_}
 use mathlib.Core.Path.{_≡_, refl, ap, sym, _∙_}

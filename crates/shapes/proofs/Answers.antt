@@ -1,4 +1,4 @@
--- What a call for a run comes to, one law for each way out.
+-- The outcome of a call for a run, one law for each way out.
 -- Assumes nothing.
 use Prim.Native.Nat.{ℕ, _+_, _≤_, _<_}
 use mathlib.Core.Path.{_≡_, refl, sym, ap, _∙_}

@@ -1,4 +1,4 @@
--- Numbers cut into primitives, from the front: the first, and those behind it.
+-- Numbers cut into primitives, from the front: the first, and those after it.
 -- Assumes nothing.
 use Prim.Native.Nat.{ℕ, zero, suc, _+_, _-_, _≤_, _<_}
 use mathlib.Core.Path.{_≡_, refl, sym, ap, _∙_}

@@ -85,7 +85,7 @@ module _ (ps : List Primitive) (k : ℕ) where
   pub slots-past : (words : ℕ) → length ps ≤ k → slots ps k words ≡ replicate words 0
   slots-past words l = sym (filled-past words 0 (omega arith) (omega arith)) ∙ sym (filled-none words)
 
-  -- what is left behind the first k, from its start
+  -- what is left after the first k, from its start
   pub slots-behind : (words : ℕ) → slots (drop k ps) 0 words ≡ slots ps k words
   unfolding slots slot
   slots-behind words =

@@ -64,7 +64,7 @@ judged used n r =
     ∷ [])
     (judgedTemplate r)
 
--- what the links come to
+-- where the links lead
 unfoldable pub foundBy : List ℕ → List ℕ → List ℤ → Led → Lookup
 foundBy head a n (l.At i) = judged (numbersUsed head) n (apertureOf a i)
 foundBy head a n l.Nobody = Unknown

@@ -1,5 +1,5 @@
 -- A command over the graphics state alone, told what a reading's state knows of it, is the step of that reading: its fault, and the
--- graphics state behind it.
+-- graphics state after it.
 -- Assumes nothing.
 use Prim.Native.Nat.{ℕ}
 use mathlib.Core.Path.{_≡_, refl, sym, ap, _∙_}
@@ -59,7 +59,7 @@ use Rattle.law_reading.proofs.Outcomes.{Verdict, fine, nine, ten, outcome-verdi
 use Rattle.state_call.specs.Stepped.{workedNumber, operationFault, codedFault, definitionFault, bracketFault, deedFault, faultOf, behind, steppedOf}
 use Rattle.state_call.specs.Knowing.{workedOf, ofDefinition, ofBracket, ofDeed, knownOf}
 
--- what an AD comes to is told whole by its case
+-- the outcome of an AD is told whole by its case
 worked-back : (n : ℕ) → Verdict n → workedNumber (workedOf n) ≡ n
 unfolding workedNumber workedOf
 worked-back n fine = refl
@@ -115,7 +115,7 @@ module _ (room : Room) (t : List ℕ) (p : ℕ) (s : State) where
   fault-of (Contain b) = bracket-fault b
   fault-of (Attribute d) = deed-fault d
 
-  -- ---- the graphics state behind
+  -- ---- the graphics state after
 
   operation-behind : (o : Operation) → after (Operate o) (s .graphics) ≡ operationStep room p o s .next .graphics
   unfolding after operationStep drawStep moveStep flashStep passed withLevel withGraphics

@@ -29,7 +29,7 @@ facts n a taken unknown worked full = record { entries = n; aperture = a; taken 
 abbrev pub roomAlone : ℕ → Known
 roomAlone n = facts n noAperture false false Fine false
 
--- what the parameters of an AD come to, by the number of their fault
+-- the outcome of the parameters of an AD, by the number of their fault
 unfoldable pub workedOf : ℕ → Worked
 workedOf n = cond (eqb n 9) Undefined (cond (eqb n 10) Unruly Fine)
 

@@ -1,4 +1,4 @@
--- "One command changes one graphics state" (01, State): its number, and the state behind it (decision 273). Every rule is judged here, by
+-- "One command changes one graphics state" (01, State): its number, and the state after it (decision 273). Every rule is judged here, by
 -- the graphics state, what stands open, the command, and what only the stores know of it (decision 470).
 use Prim.Native.Nat.{ℕ}
 use mathlib.Core.Bool.{cond}
@@ -53,7 +53,7 @@ operationFault g l (operation.Draw x y o) k = drawFault g l (k .entries) x y o
 operationFault g l (operation.Move x y) k = moveFault g x y
 operationFault g l (operation.Flash x y) k = flashFault g l (k .entries) x y
 
--- "The code takes effect first, then the operation in the state behind it"; of their faults the one that is tested first (02, [9];
+-- "The code takes effect first, then the operation in the state after it"; of their faults the one that is tested first (02, [9];
 -- decision 516)
 unfoldable pub codedFault : Graphics → Level → Setting → Operation → Known → ℕ
 codedFault g l code o k = sooner (settingFault g code) (operationFault (afterSetting code g) l o k)
@@ -88,7 +88,7 @@ faultOf g l (Define d) k = definitionFault g d k
 faultOf g l (Contain b) k = bracketFault g l b k
 faultOf g l (Attribute d) k = deedFault g d k
 
--- the state behind a command that breaks none: Dn selects the aperture that it names
+-- the state after a command that breaks none: Dn selects the aperture that it names
 unfoldable pub behind : Graphics → Command → Known → Graphics
 behind g (Select n) k = withAperture (k .aperture) g
 behind g (Broken flaw) k = after (Broken flaw) g

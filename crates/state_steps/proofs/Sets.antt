@@ -1,4 +1,4 @@
--- What a command that keeps the rooms comes to, whatever is known.
+-- The outcome of a command that keeps the rooms, whatever is known.
 -- Assumes nothing.
 use Prim.Native.Nat.{ℕ}
 use mathlib.Core.Path.{_≡_, sym, ap, subst, _∙_}

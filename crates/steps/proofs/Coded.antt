@@ -1,4 +1,4 @@
--- An operation behind a G code steps as reading says: the state behind the code is known as the one before it is.
+-- An operation after a G code steps as reading says: the state after the code is known as the one before it is.
 -- Assumes nothing.
 use Prim.Native.Nat.{ℕ, zero, suc, _≤_}
 use mathlib.Core.Path.{_≡_, refl, sym, ap, subst, _∙_}
@@ -48,7 +48,7 @@ sooner-none a = go (eqb a 0) refl
     go true e = sym (eqb-true a 0 e)
     go false e = refl
 
--- the state behind a code, as the code comes to it
+-- the state after a code, as the code comes to it
 pub behind-is : (w : Lent) (p : Progress) (s : State) → Knows w p s → (code : Setting) {g : Graphics} {q : Progress}
     → g ≡ afterSetting code (p .graphics) → q ≡ withGraphics g p → Knows w q (settingStep code s .next)
 unfolding settingStep
@@ -102,7 +102,7 @@ joined-strikes K t p fault (Next q) f = go (eqb fault 0) refl
         some : (n : ℕ) → (n ≡ 0 → ⊥) → 1 ≤ n
         some n ne = omega arith
 
--- what is known before a command is known behind its code
+-- what is known before a command is known after its code
 pub known-behind : (c : Command) (lends : Lent → Type 0) (p : Progress) → Known lends p → Known lends (behindCode c p)
 unfolding behindCode
 known-behind (command.Coded code o) lends p k = record {

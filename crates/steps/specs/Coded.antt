@@ -1,4 +1,4 @@
--- The operation of a command, alone or behind a G code: "of the faults of the code and of the operation .. the one tested first decides"
+-- The operation of a command, alone or after a G code: "of the faults of the code and of the operation .. the one tested first decides"
 -- (decision 516).
 use Prim.Native.Nat.{ℕ}
 use mathlib.Core.Bool.{cond}
@@ -41,7 +41,7 @@ codeFault g (command.Define d) = 0
 codeFault g (command.Contain b) = 0
 codeFault g (command.Attribute d) = 0
 
--- how far reading has come behind that code
+-- how far reading has come after that code
 unfoldable pub behindCode : Command → Progress → Progress
 behindCode (command.Coded code o) p = withGraphics (afterSetting code (p .graphics)) p
 behindCode (command.Operate o) p = p
@@ -54,7 +54,7 @@ behindCode (command.Define d) p = p
 behindCode (command.Contain b) p = p
 behindCode (command.Attribute d) p = p
 
--- the code's fault, 0 for none, and what the operation came to in the state behind the code
+-- the code's fault, 0 for none, and the outcome of the operation in the state after the code
 unfoldable pub joined : ℕ → Struck → Struck
 joined fault (Fault n) = Fault (sooner fault n)
 joined fault (Next s) = cond (eqb fault 0) (Next s) (Fault fault)

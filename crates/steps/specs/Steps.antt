@@ -38,15 +38,15 @@ AgainBy text d again s = (name value : Span) → d ≡ SetFile name value → ag
 unfoldable pub Again : List ℕ → Placed → Bool → State → Type 0
 Again file c again s = (d : Deed) → c .command ≡ Attribute d → AgainBy (slice (c .from) (c .end) file) d again s
 
--- w before the step, w′ behind it
+-- w before the step, w′ after it
 abbrev pub Reads : Lent → Lent → Progress → Placed → Bool → Stepped → Type 0
 Reads w w′ p c again r = (s : State) → Knows w p s → Again (w .file) c again s → Follows (Knows w′) (stepAt (roomOf w) (w .file) c s) r
 
--- the step of an operation behind a code with this fault
+-- the step of an operation after a code with this fault
 abbrev pub behindFault : ℕ → Step → Step
 behindFault fault t = does (sooner fault (t .fault)) (t .next)
 
--- e before it, e′ behind it: the operation of a command, from p on; a command that has none leaves the entries
+-- e before it, e′ after it: the operation of a command, from p on; a command that has none leaves the entries
 unfoldable pub Operates : ℕ → ℕ → Held → List ℕ → List ℕ → Progress → Struck → Type 0
 Operates fault place (Operation o) e e′ p r = StrikesTo (λ room s. behindFault fault (operationStep room place o s)) (λ w. w .entries ≡ e) (withEntries e′) p r
 Operates fault place Nothing e e′ p r = (r ≡ Other) × (e′ ≡ e)

@@ -1,4 +1,4 @@
--- A contour begun, and an edge more: what is known behind a D01 in a region.
+-- A contour begun, and an edge more: what is known after a D01 in a region.
 -- Assumes nothing.
 use Prim.Native.Nat.{ℕ, suc, _+_, _-_, _/_, _≤_, _<_}
 use mathlib.Core.Path.{_≡_, refl, sym, ap, _∙_}

@@ -1,4 +1,4 @@
--- What is known behind a D01 that breaks no rule: outside a region, at the first of a contour, and at the others.
+-- What is known after a D01 that breaks no rule: outside a region, at the first of a contour, and at the others.
 -- Assumes nothing.
 use Prim.Native.Nat.{ℕ, suc, _+_, _-_, _≤_, _<_, _^_}
 use mathlib.Core.Path.{_≡_, refl, sym, _∙_}
@@ -256,7 +256,7 @@ module _ (e : List ℕ) (p : Progress) (place : ℕ) (x y : Axis) (o : Offset) (
       let few = known-items e p k in
       (draw-has-room, (few, contour-low _ _ _ _ _ _ d, rw (k .is) at (contour-few _ _ _ _ _ _ d 1000000000000 few)))
 
-  -- what the contour's first edge asks for, behind the contour
+  -- what the contour's first edge asks for, after the contour
   pub contour-asks : {u : Item} {e₁ : List ℕ} {b₁ : Builder} → startsContour (p .graphics .region) ≡ true → u ≡ contour (p .graphics) place →
       (b₁ ≡ grown (p .builder) 1 (p .builder .height)) × (e₁ ≡ pushed e (p .builder .high) (itemEntry (p .builder .items) u)) →
       (b₁ .closed + b₁ .high < entryRoom e₁)

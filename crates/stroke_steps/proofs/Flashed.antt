@@ -1,4 +1,4 @@
--- What is known behind a D03 that breaks no rule: with a block, and with another aperture.
+-- What is known after a D03 that breaks no rule: with a block, and with another aperture.
 -- Assumes nothing.
 use Prim.Native.Nat.{ℕ, _+_, _-_, _%_, _≤_, _<_, _^_}
 use mathlib.Core.Path.{_≡_, refl, sym, ap, _∙_}

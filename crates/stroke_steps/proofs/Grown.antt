@@ -1,4 +1,4 @@
--- What is known behind a step that puts entries on the stack and leaves all around it as it was.
+-- What is known after a step that puts entries on the stack and leaves all around it as it was.
 -- Assumes nothing.
 use Prim.Native.Nat.{ℕ, suc, _+_, _-_, _≤_, _<_, _^_}
 use mathlib.Core.Path.{_≡_, refl, ap, _∙_}
@@ -38,7 +38,7 @@ pub record Moves (c : Command) (s : State) : Type 0 where
   pub aperture : after c (s .graphics) .aperture ≡ s .graphics .aperture
   pub inside : after c (s .graphics) .region .contour ≡ true → after c (s .graphics) .region .on ≡ true
 
--- the store behind the command, which puts n entries with so many items, and makes a block h high at least
+-- the store after the command, which puts n entries with so many items, and makes a block h high at least
 pub record Grows (w : Lent) (p : Progress) (s : State) (c : Command) (place n items h : ℕ) (e′ : List ℕ) (b′ : Builder) (at : ℕ) : Type 0 where
   pub as-long : entryRoom e′ ≡ entryRoom (w .entries)
   pub below : (q : ℕ) → q < p .builder .start → entryOf (w .entries) (entryRoom (w .entries) - suc q) ≡ entryOf e′ (entryRoom (w .entries) - suc q)

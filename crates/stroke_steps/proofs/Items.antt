@@ -1,4 +1,4 @@
--- One item put: what is known behind a D01 outside a region, and behind a D03 with an aperture that is no block.
+-- One item put: what is known after a D01 outside a region, and after a D03 with an aperture that is no block.
 -- Assumes nothing.
 use Prim.Native.Nat.{ℕ, suc, _+_, _-_, _≤_, _<_}
 use mathlib.Core.Path.{_≡_, refl, sym}

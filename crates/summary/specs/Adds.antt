@@ -87,6 +87,6 @@ pub record TopReady (e a : List ℕ) (n : ℕ) (k : Container) (s : List ℕ) : 
 pub record Gathered (e a : List ℕ) (n : ℕ) (k : Container) (s : List ℕ) : Type 0 where
   pub rows : (b : ℕ) → b < n → rowAt s b ≡ topRow e [] (askedBy a b) k
 
--- the rows kept of n records, as words, and zeros behind them
+-- the rows kept of n records, as words, and zeros after them
 unfoldable pub putRows : List ℕ → ℕ → ℕ → List ℕ
 putRows s n words = run (λ b. rowWords (rowAt s b)) 0 n ++ replicate (words - n * rowWidth) 0

@@ -29,7 +29,7 @@ use Rattle.summary_by_aperture.proofs.Kept.{words-long}
 drop-zeros : (n m : ℕ) → drop n (replicate {A = ℕ} (n + m) 0) ≡ replicate m 0
 drop-zeros n m = rw (← replicate-append-replicate {A = ℕ} n m 0) (drop-at (replicate n 0) (replicate m 0) n (length-replicate n 0))
 
--- words w stored behind a list, where zeros were
+-- words w stored after a list, where zeros were
 pub put-behind : (l w : List ℕ) (at words : ℕ) → length l ≡ at → at + length w ≤ words →
     stored (l ++ replicate (words - at) 0) at w ≡ l ++ w ++ replicate (words - (at + length w)) 0
 unfolding stored

@@ -1,4 +1,4 @@
--- The rows of the blocks are kept in the order of the list: a block stands behind the lower ones, whose rows are kept then.
+-- The rows of the blocks are kept in the order of the list: a block stands after the lower ones, whose rows are kept then.
 -- Assumes nothing.
 use Prim.Native.Nat.{ℕ, suc, _+_, _-_, _*_, _/_, _≤_, _<_}
 use mathlib.Core.Path.{_≡_, refl, sym, subst, _∙_}
@@ -28,7 +28,7 @@ use Rattle.summary_by_aperture.proofs.Rows.{run-is, run-close, run-read
 use Rattle.summary_by_aperture.proofs.Listed.{listed-same}
 
 module _ (head e a : List ℕ) (q : Asked) where
-  -- the list of 6 words a record, and one behind all rows
+  -- the list of 6 words a record, and one after all rows
   listed-kept : (s : List ℕ) (b i : ℕ) (r : Row) → aperturesUsed head ≤ length s / 8 → b < aperturesUsed head →
       listedAt (stored s (b * 6) (keptWords r)) (aperturesUsed head) i ≡ listedAt s (aperturesUsed head) i
   listed-kept s b i r room l = let k = kept-long r in stored-above s (b * 6) (keptWords r) (omega arith) (aperturesUsed head * 6 + i) (omega arith)

@@ -1,4 +1,4 @@
--- The blocks of a sheet listed once, the lowest first, in the words of scratch behind the rows (decision 530): a block stands behind all
+-- The blocks of a sheet listed once, the lowest first, in the words of scratch after the rows (decision 530): a block stands after all
 -- lower ones.
 use Prim.Native.Nat.{ℕ, _+_, _*_, _≤_, _<_}
 use mathlib.Core.Path.{_≡_}
@@ -27,7 +27,7 @@ countAt a h n = sums (λ b. flagWord (isAt a h b)) 0 n
 unfoldable pub countLower : List ℕ → ℕ → ℕ → ℕ
 countLower a h n = sums (λ b. flagWord (isLower a h b)) 0 n
 
--- the word of the list's i-th block, behind the rows of n records; the block at the end of a list of m
+-- the word of the list's i-th block, after the rows of n records; the block at the end of a list of m
 abbrev pub listedAt : List ℕ → ℕ → ℕ → ℕ
 listedAt s n i = getD s (n * keptWidth + i) 0
 

@@ -29,7 +29,7 @@ pub put-none : (s : List ℕ) (used link : ℕ) (w : List ℕ) → length s / re
 unfolding added hasRoom
 put-none s used link w h = let e = le-ltb used (length s / recordWidth) h in (sym e, rw e)
 
--- the words of a record that is put behind those in use
+-- the words of a record that is put after those in use
 module _ (s : List ℕ) (used : ℕ) (w : List ℕ) (wide : length w ≡ recordWidth) (room : used < length s / recordWidth) where
   fits : used * recordWidth + length w ≤ length s
   fits = omega arith
@@ -81,7 +81,7 @@ module _ (s : List ℕ) (used : ℕ) (w : List ℕ) (wide : length w ≡ recordW
     pub word-kept : (j r : ℕ) → j < used → r < 6 → getD (added s used link w) (j * recordWidth + r) 0 ≡ getD s (j * recordWidth + r) 0
     word-kept j r l h = put-word j r h ∙ more-below (j * recordWidth + r) (omega arith)
 
-    -- behind it nothing changes
+    -- after it nothing changes
     link-inside : (n : ℕ) → n ≡ used → link < suc used * recordWidth
     unfolding lastLink
     link-inside zero q =

@@ -48,6 +48,6 @@ module _ (a : List ℕ) (used link : ℕ) (r : Aperture) (room : used < aperture
   pub aperture-kept : (i : ℕ) → i < used → apertureOf a′ i ≡ apertureOf a i
   aperture-kept i l = aperture-same-words a′ a i (λ m h. word-kept a used (apertureWords r) wide room (n .tree) (r .number) link (number-ends a used (r .number) link free) i m l h)
 
-  -- behind the new record the table is as it was
+  -- after the new record the table is as it was
   pub aperture-behind : (k : ℕ) → suc used * apertureWidth ≤ k → getD a′ k 0 ≡ getD a k 0
   aperture-behind = added-behind a used (apertureWords r) wide room (n .tree) (r .number) link (number-ends a used (r .number) link free)

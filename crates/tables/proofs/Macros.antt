@@ -65,6 +65,6 @@ module _ (file m : List ℕ) (used link : ℕ) (r : Macro) (room : used < macroR
       let p : getD m′ (i * macroWidth) 0 ≡ getD m (i * macroWidth) 0 = rw (add-zero (i * macroWidth)) at (kept 0 (omega arith)) in
       λ x. record { from = p x; to = kept 1 (omega arith) x; first = kept 2 (omega arith) x; end = kept 3 (omega arith) x }
 
-  -- the table is as long, and behind the new record as it was
+  -- the table is as long, and after the new record as it was
   pub macro-behind : (k : ℕ) → suc used * macroWidth ≤ k → getD m′ k 0 ≡ getD m k 0
   macro-behind = added-behind m used w wide room (n .tree) (keyOf name) link (name-ends file m used name link free)

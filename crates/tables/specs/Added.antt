@@ -7,11 +7,11 @@ use lib.ListN.{length, set}
 use Rattle.index.specs.Tree.{recordWidth}
 use Rattle.sheet.specs.Records.{stored}
 
--- room for a whole record behind those in use (01, 17: "room used up")
+-- room for a whole record after those in use (01, 17: "room used up")
 unfoldable pub hasRoom : List ℕ → ℕ → Bool
 hasRoom s used = ltb used (length s / recordWidth)
 
--- its words behind those in use, and the link at which the search for it ended leads to it; without room nothing changes.
+-- its words after those in use, and the link at which the search for it ended leads to it; without room nothing changes.
 -- For the first record that link is one of its own, and stays 0.
 unfoldable pub added : List ℕ → ℕ → ℕ → List ℕ → List ℕ
 added s used link w = cond (hasRoom s used) (set (stored s (used * recordWidth) w) link used) s

@@ -13,7 +13,7 @@ use Rattle.decimal.specs.declared.answers.Amount.{Amount}
 use Rattle.primitives.specs.Rules.{wholeBetween}
 use Rattle.primitives.specs.declared.Asked.{Asked}
 
--- so many parameters, and perhaps a hole diameter above 0 behind them
+-- so many parameters, and perhaps a hole diameter above 0 after them
 unfoldable pub withHole : ℕ → Asked → Amount → Bool
 withHole n q hole = eqb (q .count) n or (eqb (q .count) (n + 1) and aboveZero hole)
 

@@ -25,7 +25,7 @@ use Rattle.operations.specs.Operations.{operationOf}
 unfoldable pub commentOf : List ℕ → Command
 commentOf s = pick (among s (code "%")) notForm Note
 
--- Dn, of what stands behind its D
+-- Dn, of what stands after its D
 unfoldable pub selectOf : List ℕ → Command
 selectOf t = let n : Number = apertureNumber t in judged (n .formless) (n .long) (Select (n .value))
 

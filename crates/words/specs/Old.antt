@@ -48,7 +48,7 @@ settingOf g =
     ∷ [])
     Incremental
 
--- an operation alone, or behind a G code
+-- an operation alone, or after a G code
 unfoldable pub operated : ℕ → Written → Command
 operated g w = pick (eqb g 0) (operates w) (coded (settingOf g) w)
 

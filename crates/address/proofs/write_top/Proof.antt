@@ -1,4 +1,4 @@
--- `address::write_top` meets its contract: what begins the address is written, and what lies below behind it.
+-- `address::write_top` meets its contract: what begins the address is written, and what lies below after it.
 use Rattle.address.specs.Starting.{InFlash, InCopy, Starts}
 use Rattle.address.proofs.Written.{two-words, one-word, alone-written, flash-writes, flash-written, copy-writes, copy-fits, copy-written}
 use lib.ListN.{length, set, length-set}

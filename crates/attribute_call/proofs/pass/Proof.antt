@@ -1,4 +1,4 @@
--- `attribute_call::pass` meets its contract. The loop's invariant: what is found and heard so far, with the commands from here on, comes to the answer.
+-- `attribute_call::pass` meets its contract. The loop's invariant: what is found and heard so far, with the commands from here on, gives the answer.
 -- Assumes nothing.
 use borrow.Author.Needs.{needs}
 use Prim.Native.Nat.{_-_, _≤_}

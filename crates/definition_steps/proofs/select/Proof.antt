@@ -1,4 +1,4 @@
--- `definition_steps::select` meets its contract: a Dn that keeps its rules is known behind it, any other has reading's fault.
+-- `definition_steps::select` meets its contract: a Dn that keeps its rules is known after it, any other has reading's fault.
 use Rattle.definition_steps.proofs.Selecting.{select-refused, select-goes}
 use borrow.Author.Needs.{needs}
 use Rattle.definition_steps.proofs.select.Statement.{statement}

@@ -1,4 +1,4 @@
--- `definition_steps::standard` meets its contract: the loop's invariant: what the parameters from here on leave, behind what was left so far, is what all of them leave.
+-- `definition_steps::standard` meets its contract: the loop's invariant: what the parameters from here on leave, after what was left so far, is what all of them leave.
 -- Assumes nothing.
 use Prim.Native.Char.{code}
 use Prim.Native.Nat.{_+_, _-_}

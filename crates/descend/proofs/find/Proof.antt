@@ -1,4 +1,4 @@
--- `descend::find` meets its contract. The loop's invariant: the entry at `low` begins at or before item n, and the one at `high`, if the container has it, behind.
+-- `descend::find` meets its contract. The loop's invariant: the entry at `low` begins at or before item n, and the one at `high`, if the container has it, after.
 use Rattle.sheet.specs.Records.{entryRoom, entryOf}
 use native.Mathlib.Omega.{arith}
 use mathlib.Core.Path.{_≡_}

@@ -1,4 +1,4 @@
--- `digits::without_trailing_zeros` meets its contract: the bytes behind n are zeros, and dropping them first makes no difference.
+-- `digits::without_trailing_zeros` meets its contract: the bytes after n are zeros, and dropping them first makes no difference.
 use Prim.Native.Nat.{_≤_}
 use mathlib.Core.Path.{_≡_, sym, ap, _∙_}
 use lib.ListN.{length, take}

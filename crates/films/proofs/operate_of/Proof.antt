@@ -1,4 +1,4 @@
--- `films::operate_of` meets its contract: the operation of the text behind the code decides.
+-- `films::operate_of` meets its contract: the operation of the text after the code decides.
 -- Assumes nothing.
 use mathlib.Core.Path.{_≡_, refl, sym, ap, _∙_}
 use lib.ListN.{drop}
@@ -10,7 +10,7 @@ use borrow.Author.Needs.{needs}
 use Rattle.films.proofs.operate_of.Statement.{statement}
 use Rattle.films.proofs.operate_of.Tie as tie
 
--- the operation of the text behind the code
+-- the operation of the text after the code
 operation : (c : tie.After-operation-in) → c .operation-in .result ≡ operationIn (drop (c .before .before .before .args .from) (c .before .before .before .args .s .now))
 operation c = c .operation-in .ensures ∙ ap operationIn (c .before .from-on .ensures)
 

@@ -21,7 +21,7 @@ use Rattle.index.proofs.Seek.{Seeking, seek-start, seek-on, seek-none, 
 use Rattle.index.proofs.search_name.Statement.{statement}
 use Rattle.index.proofs.search_name.Tie as tie
 
--- the search stands at record `at`, d bits of the key behind it
+-- the search stands at record `at`, d bits of the key after it
 record Standing (file s : List ℕ) (used from to d link at : ℕ) : Type 0 where
   pub seeking : Seeking s (λ i. sameBytes (nameOf file s i) (slice from to file)) used (keyOf (slice from to file)) (keyOf (slice from to file) / 2 ^ d) at
   pub leading : link ≡ linkOf at (keyOf (slice from to file) / 2 ^ d)

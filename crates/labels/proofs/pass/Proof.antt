@@ -1,4 +1,4 @@
--- `labels::pass` meets its contract: the loop keeps that what is found so far, with the commands from here on, comes to the answer.
+-- `labels::pass` meets its contract: the loop keeps that what is found so far, with the commands from here on, gives the answer.
 -- Assumes nothing.
 use Rattle.labels.proofs.Turns.{last-lies, more-lies}
 use Rattle.labels.proofs.Left.{outcome, pass-starts, pass-more, pass-stops}

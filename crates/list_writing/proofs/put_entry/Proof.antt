@@ -1,4 +1,4 @@
--- `list_writing::put_entry` meets its contract: the main's record, and its pins' behind it.
+-- `list_writing::put_entry` meets its contract: the main's record, and its pins' after it.
 -- Assumes nothing.
 use Rattle.list_writing.proofs.Putting.{penned}
 use Rattle.law_components.proofs.Written.{behind}

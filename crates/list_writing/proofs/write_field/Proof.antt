@@ -1,4 +1,4 @@
--- `list_writing::write_field` meets its contract: a tab, and the text behind it.
+-- `list_writing::write_field` meets its contract: a tab, and the text after it.
 -- Assumes nothing.
 use Rattle.law_components.proofs.Written.{behind}
 use borrow.Author.Needs.{needs}

@@ -1,4 +1,4 @@
--- `list_writing::write_point` meets its contract: two numbers, each behind a tab.
+-- `list_writing::write_point` meets its contract: two numbers, each after a tab.
 -- Assumes nothing.
 use mathlib.Core.Path.{ap}
 use native.Mathlib.Omega.{arith}

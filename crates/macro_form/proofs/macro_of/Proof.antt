@@ -1,4 +1,4 @@
--- `macro_form::macro_of` meets its contract: whether a `*` stands behind the name picks the case of `macroOf`.
+-- `macro_form::macro_of` meets its contract: whether a `*` stands after the name picks the case of `macroOf`.
 -- Assumes nothing.
 use Rattle.macro_form.specs.Macro.{headed, macroOf}
 use Rattle.base.proofs.Choose.{row-holds, row-fails}

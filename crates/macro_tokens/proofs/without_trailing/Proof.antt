@@ -1,4 +1,4 @@
--- `macro_tokens::without_trailing` meets its contract: the bytes behind n are line ends, and dropping them first makes no difference.
+-- `macro_tokens::without_trailing` meets its contract: the bytes after n are line ends, and dropping them first makes no difference.
 -- Assumes nothing.
 use Prim.Native.Nat.{_≤_}
 use mathlib.Core.Path.{_≡_, sym, ap, _∙_}

@@ -1,4 +1,4 @@
--- `macros::blocks` meets its contract: the loop's invariant: what the blocks from here on do, behind what was done so far, is what all of them do.
+-- `macros::blocks` meets its contract: the loop's invariant: what the blocks from here on do, after what was done so far, is what all of them do.
 -- Assumes nothing.
 use Rattle.macros.specs.Work.{workedOut, blocksIn}
 use Rattle.macros.proofs.Working.{Working, working-starts, working-goes, working-stops, working-ends}

@@ -1,4 +1,4 @@
--- `macros::values` meets its contract: the loop's invariant: what the parameters from here on leave, behind what was left so far, is what all of them leave.
+-- `macros::values` meets its contract: the loop's invariant: what the parameters from here on leave, after what was left so far, is what all of them leave.
 -- Assumes nothing.
 use Rattle.macros.specs.Work.{valuesOf, parametersIn}
 use Rattle.macros.proofs.Gathering.{Gathering, gathering-starts, gathering-step, gathering-stop, gathering-end}

@@ -1,4 +1,4 @@
--- `notes::second_field` meets its contract: behind the first comma there is a value again, and its first field is the second.
+-- `notes::second_field` meets its contract: after the first comma there is a value again, and its first field is the second.
 -- Assumes nothing.
 use mathlib.Core.Path.{ap, _∙_}
 use native.Mathlib.Omega.{arith}

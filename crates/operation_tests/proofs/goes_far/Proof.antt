@@ -1,4 +1,4 @@
--- `operation_tests::goes_far` meets its contract: before FS nothing is far; behind it the point and the target are asked.
+-- `operation_tests::goes_far` meets its contract: before FS nothing is far; after it the point and the target are asked.
 -- Assumes nothing.
 use mathlib.Core.Path.{sym, _∙_}
 use Rattle.base.specs.And.{_and_}

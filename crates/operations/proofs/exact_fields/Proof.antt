@@ -1,4 +1,4 @@
--- `operations::exact_fields` meets its contract: each field is read behind the one before it.
+-- `operations::exact_fields` meets its contract: each field is read after the one before it.
 -- Assumes nothing.
 use Rattle.operations.specs.Coordinates.{fieldsIn}
 use borrow.Author.Needs.{needs}

@@ -1,4 +1,4 @@
--- `operations::field_at` meets its contract: the byte at the place says whether the field is there, and what stands behind it what it is.
+-- `operations::field_at` meets its contract: the byte at the place says whether the field is there, and what stands after it what it is.
 -- Assumes nothing.
 use Prim.Native.Nat.{_<_}
 use mathlib.Core.Path.{sym}

@@ -22,7 +22,7 @@ use Rattle.register.proofs.Wide.{inside}
 use Rattle.register.proofs.find.Statement.{statement}
 use Rattle.register.proofs.find.Tie as tie
 
--- the search stands at record `at`, d bits of the key behind it
+-- the search stands at record `at`, d bits of the key after it
 record Standing (file s : List ℕ) (used from to d at : ℕ) (high : Bool) : Type 0 where
   pub seeking : Seeking s (λ i. sameBytes (nameOf file s i) (slice from to file)) used (keyOf (slice from to file)) (keyOf (slice from to file) / 2 ^ d) at
   pub leading : high ≡ isHigh (keyOf (slice from to file) / 2 ^ d)

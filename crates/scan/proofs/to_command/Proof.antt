@@ -1,4 +1,4 @@
--- `scan::to_command` meets its contract: its text begins at its place or behind it, so inside the numbers of the machine.
+-- `scan::to_command` meets its contract: its text begins at its place or after it, so inside the numbers of the machine.
 -- Assumes nothing.
 use native.Mathlib.Omega.{arith}
 use borrow.Author.Needs.{needs}

@@ -1,4 +1,4 @@
--- `scan::walk_from` meets its contract. The loop's invariant: the bytes from here on come to what the whole walk comes to.
+-- `scan::walk_from` meets its contract. The loop's invariant: the bytes from here on have the outcome of the whole walk.
 -- Assumes nothing.
 use Prim.Native.Nat.{_-_, _≤_}
 use mathlib.Core.Path.{_≡_, refl, sym, _∙_}

@@ -28,7 +28,7 @@ stands-requires c κs = (c .loop-test .taken, c .before .before .pre .1)
 primitive-at-requires : tie.Need-primitive-at-requires Inv-loop μ-loop
 primitive-at-requires c κs = omega (arith, c .before .before .loop-test .taken, c .before .before .before .before .pre .1)
 
--- where the next primitive stands: behind this one, and before the end
+-- where the next primitive stands: after this one, and before the end
 next : (c : tie.After-struct-known Inv-loop μ-loop) →
     let p = c .before .primitive-at .result in p .first + p .count ≡ behind (call (c .before) .args .numbers .now) (c .before .before .before .before .before .loop .at)
 next c =

@@ -1,4 +1,4 @@
--- `shapes::fill` meets its contract. The loop's invariant: j slots are filled, the rest is 0, and the primitives from here on are those behind the first j.
+-- `shapes::fill` meets its contract. The loop's invariant: j slots are filled, the rest is 0, and the primitives from here on are those after the first j.
 -- Assumes nothing.
 use Rattle.shapes.proofs.Slots.{filled, filled-none, filled-more, filled-whole, filled-past}
 use Rattle.shapes.proofs.Wholes.{whole-ends, whole-list, whole-on, list-first, list-next, list-past}
@@ -48,7 +48,7 @@ mul-put c = let i = c .before .before .before .before .loop .inv in omega (arith
 put-requires : tie.Need-put-requires Inv-loop μ-loop
 put-requires c κs = let i = c .before .before .before .before .loop .inv in omega (arith, i .1, i .5, c .before .before .before .loop-test .taken)
 
--- where the next primitive stands: behind this one, and before the end
+-- where the next primitive stands: after this one, and before the end
 next : (c : tie.After-struct-known Inv-loop μ-loop) → let the-loop = at-loop (c .before .before .before) in let p = c .before .before .before .before .before .primitive-at .result in
     p .first + p .count ≡ behind (the-loop .before .before .args .numbers .now) (the-loop .loop .at)
 next c =

@@ -30,7 +30,7 @@ returns c =
 primitive-at-requires : tie.Need-primitive-at-requires Inv-loop μ-loop
 primitive-at-requires c κs = omega (arith, c .if1 .left, c .before .before .loop .inv .0 .inside)
 
--- where the next primitive stands: behind this one, and before the end
+-- where the next primitive stands: after this one, and before the end
 next : (c : tie.After-struct-known Inv-loop μ-loop) →
     let p = c .before .primitive-at .result in p .first + p .count ≡ behind (c .before .before .before .before .before .args .numbers .now) (c .before .before .before .before .loop .at)
 next c =

@@ -1,4 +1,4 @@
--- `state_call::behind` meets its contract: Dn selects, and what any other command changes is `after`.
+-- `state_call::after` meets its contract: Dn selects, and what any other command changes is `after`.
 -- Assumes nothing.
 use mathlib.Core.Path.{sym, ap, _∙_}
 use Rattle.changes.specs.After.{after}

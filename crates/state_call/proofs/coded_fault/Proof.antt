@@ -1,4 +1,4 @@
--- `state_call::coded_fault` meets its contract: the operation is judged in the state behind the code, and of the two faults `sooner` decides.
+-- `state_call::coded_fault` meets its contract: the operation is judged in the state after the code, and of the two faults `sooner` decides.
 -- Assumes nothing.
 use mathlib.Core.Path.{_≡_, ap, _∙_}
 use borrow.Author.Needs.{needs}

@@ -1,4 +1,4 @@
--- `state_call::definition_fault` meets its contract: of an AD by what its parameters come to, of an AM by its own.
+-- `state_call::definition_fault` meets its contract: of an AD by the outcome of its parameters, of an AM by its own.
 -- Assumes nothing.
 use mathlib.Core.Path.{sym, ap, _∙_}
 use Rattle.command_rules.specs.Rules.{apertureFault}

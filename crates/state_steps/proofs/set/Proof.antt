@@ -1,4 +1,4 @@
--- `state_steps::set` meets its contract: by the fault that is found, or the graphics state behind the command.
+-- `state_steps::set` meets its contract: by the fault that is found, or the graphics state after the command.
 use Rattle.state_steps.proofs.Sets.{set-refuses, set-goes-on}
 use Rattle.state_steps.proofs.Keeps.{state-reached}
 use mathlib.Core.Path.{sym, _∙_}

@@ -1,4 +1,4 @@
--- `words::setting_of` meets its contract: each test is that of a row of `settingOf`; behind the third the rest of the table answers.
+-- `words::setting_of` meets its contract: each test is that of a row of `settingOf`; after the third the rest of the table answers.
 -- Assumes nothing.
 use mathlib.Core.Path.{refl, sym, _∙_}
 use borrow.Author.Tests.{eq-eqb, ne-eqb}
