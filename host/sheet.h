@@ -225,7 +225,7 @@ uint64_t sheet_item(const uint64_t *head, const uint64_t *entries, size_t entrie
 
 /* Items k, k + 1, .. of a sheet: the cheap way to take many, since the store is looked at once.
  *   items, items_words    room for items_words / SHEET_ITEM_WORDS items, slot after slot
- * Answers 0 (slots past the total, and words behind the last whole slot, are 0); or 21, 20, in this order, and zeros. Words that hold
+ * Answers 0 (slots past the total, and words after the last whole slot, are 0); or 21, 20, in this order, and zeros. Words that hold
  * no item are answered like any others, and are 0 (decision 281). */
 uint64_t sheet_items(const uint64_t *head, const uint64_t *entries, size_t entries_words, const uint64_t *apertures,
                      size_t apertures_words, uint64_t k, uint64_t *items, size_t items_words);
@@ -268,11 +268,11 @@ static inline size_t sheet_rows_for(size_t apertures) { return apertures + 1; }
 static inline size_t sheet_scratch_for(size_t apertures) { return apertures * SHEET_SCRATCH_WORDS; }
 
 /* The summary of a sheet: row b for the items of the whole expansion that have the number of aperture record b, zeros for a block and for
- * an aperture that is not used; behind the rows of all records one for all contours and edges. It is worked out from the store: copies
+ * an aperture that is not used; after the rows of all records one for all contours and edges. It is worked out from the store: copies
  * and blocks cost nothing for each item that they put out.
  *   scratch, scratch_words    sheet_scratch_for(apertures) words, with anything in them, and nothing said of them afterwards
  *   rows, rows_words          room for rows_words / SHEET_ROW_WORDS rows, sheet_rows_for(apertures) at least
- * Answers 0 (words behind the last row are 0; of a sheet that a reading left the counts add up to the total); or 21, 17, in this order,
+ * Answers 0 (words after the last row are 0; of a sheet that a reading left the counts add up to the total); or 21, 17, in this order,
  * and zeros in rows. 17 is for too few rows and for too little scratch. */
 uint64_t sheet_summary(const uint64_t *head, const uint64_t *entries, size_t entries_words, const uint64_t *apertures,
                        size_t apertures_words, uint64_t *scratch, size_t scratch_words, uint64_t *rows, size_t rows_words);
@@ -339,7 +339,7 @@ uint64_t sheet_shape_record(const uint64_t *head, const uint64_t *apertures, siz
 
 /* Primitives i, i + 1, .. of the aperture with a number, in the order of the macro's blocks.
  *   primitives, primitives_words    room for primitives_words / SHEET_PRIMITIVE_WORDS primitives, slot after slot
- * Answers 0 (slots past the last, and words behind the last whole slot, are 0; runs join as those of items do); or 21, 8, 20 where i is
+ * Answers 0 (slots past the last, and words after the last whole slot, are 0; runs join as those of items do); or 21, 8, 20 where i is
  * not below its primitives, in this order, and zeros. */
 uint64_t sheet_primitives(const uint64_t *head, const uint64_t *apertures, size_t apertures_words, const int64_t *numbers,
                           size_t numbers_count, uint64_t number, size_t i, uint64_t *primitives, size_t primitives_words);
@@ -385,8 +385,8 @@ uint64_t sheet_label(uint64_t edition, uint64_t letters, const uint8_t *file, si
 uint64_t sheet_signature(uint64_t edition, uint64_t letters, const uint8_t *file, size_t file_bytes, uint64_t *place, uint8_t *digest);
 
 /* What mending changes (document 02, [13]), and where in the file: a later FS or MO with the text of the first is dropped, from its `%`;
- * a missing `M02*` is added behind the last complete command; what follows that command is dropped; what follows M02 is dropped, from
- * behind its `*`. */
+ * a missing `M02*` is added after the last complete command; what follows that command is dropped; what follows M02 is dropped, from
+ * after its `*`. */
 enum sheet_change { SHEET_DROP_REPEAT = 1, SHEET_ADD_END = 2, SHEET_DROP_TAIL = 3, SHEET_DROP_AFTER_END = 4 };
 
 /* How many bytes to lend for the mended file of a file of n bytes, and how many changes it has at most: a repeat has 4 bytes at least

@@ -30,7 +30,7 @@ awk -v room="$room" '
 cut -f 1 "$room/want" >"$room/names"
 echo "films: $(wc -l <"$room/names") films of one line"
 
-# A reader's answers to those: the wanted words, and behind those of an accepted film its counts.
+# A reader's answers to those: the wanted words, and after those of an accepted film its counts.
 answered() { # READER PROGRAM
     local reader=$1
     shift

@@ -24,7 +24,7 @@ static uint64_t *fenced(size_t words)
     return (uint64_t *)(void *)(p + pages * page - bytes);
 }
 
-/* Rooms with guard words in front, since behind them is a fence. */
+/* Rooms with guard words in front, since after them is a fence. */
 enum { ENTRIES = 64, APERTURES = 32, MACROS = 16, NUMBERS = 200, GUARDS = 4, SLOTS = 3000 };
 static const uint64_t garbage = UINT64_C(0xa5a5a5a5a5a5a5a5), guard = UINT64_C(0x5aff00ff00ff005a);
 
@@ -299,7 +299,7 @@ static void any_order(const struct lent *l)
         state ^= state << 13, state ^= state >> 7, state ^= state << 17;
         uint64_t k = state % total, n = state / total % 90 + 1;
         soil(one, SHEET_ITEM_WORDS + 2);
-        expect(item_at(l, k, one) == 0 && one[15] == garbage, "an item, and nothing behind it", k);
+        expect(item_at(l, k, one) == 0 && one[15] == garbage, "an item, and nothing after it", k);
         expect(memcmp(one, all + k * 15, 120) == 0, "an item is that of the run", k);
         uint64_t here = n < total - k ? n : total - k;
         soil(some, 100 * SHEET_ITEM_WORDS);
@@ -415,7 +415,7 @@ static uint64_t summary_of(const struct lent *l, uint64_t *scratch, size_t scrat
 
 enum { ROWS = (APERTURES + 2) * SHEET_ROW_WORDS + 2, SCRATCH = APERTURES * SHEET_SCRATCH_WORDS };
 
-/* The summary of a store: 21 and zeros, or the rows of a pass over its expansion, and zeros behind them. */
+/* The summary of a store: 21 and zeros, or the rows of a pass over its expansion, and zeros after them. */
 static void summed(const struct lent *l, const struct put *out)
 {
     static uint64_t *scratch, *rows;
@@ -525,7 +525,7 @@ static void addresses(const struct lent *l)
            "no sheet, no address", 0);
     k = garbage;
     expect(sheet_item_number(l->head, l->entries, 0, l->apertures, l->a, w, &k) == SHEET_NOT_SHEET && k == 0, "no sheet, no item", k);
-    expect(w[SHEET_ADDRESS_WORDS] == garbage, "nothing is written behind an address", 0);
+    expect(w[SHEET_ADDRESS_WORDS] == garbage, "nothing is written after an address", 0);
 }
 
 /* The layer's summary with exactly the room that it asks for, and with each room one word too small: 17, and zeros. */
@@ -717,7 +717,7 @@ static void most_entries(void)
 }
 
 /* 150,000 names, more than the look keeps at a time in little room (decision 255): none of them set twice, or one, at any distance, with
- * all of the rest in the file between or behind. The answer is the same in any room. */
+ * all of the rest in the file between or after. The answer is the same in any room. */
 static void many_names(void)
 {
     enum { NAMES = 150000, EACH = 12 };

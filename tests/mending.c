@@ -125,7 +125,7 @@ static void mends(struct book book, const char *file, const char *mended, uint64
 
     m = mended_in(book, f, count, enough);
     expect(m.number == SHEET_ACCEPTED && zeros(m.file, n, m.file_room) && zeros(m.report, 16 * (size_t)changes, m.report_words * 8),
-           "zeros behind", count);
+           "zeros after", count);
     give_back_mended(&m);
 }
 

@@ -13,7 +13,7 @@ static uint64_t with_byte(uint64_t hash, uint64_t byte)
     return (hash ^ (byte & 255)) * 0x100000001b3;
 }
 
-/* The next string of the same length; 0 behind the last. */
+/* The next string of the same length; 0 after the last. */
 static int next(uint8_t *file, size_t length)
 {
     while (length > 0)

@@ -70,6 +70,6 @@ expect "16,777,216 bytes" "$room/file" "signed $long"
 echo >>"$room/file"
 expect "one byte more" "$room/file" "signed $long"
 printf '\001' >>"$room/file"
-expect "a bad byte behind that" "$room/file" "refused 2 16777217"
+expect "a bad byte after that" "$room/file" "refused 2 16777217"
 
 [ "$faults" -eq 0 ]
