@@ -14,7 +14,7 @@ fault() {
     faults=$((faults + 1))
 }
 
-for name in listing verify mend imager; do
+for name in listing verify placement mend imager; do
     [ -x "$prefix/bin/$name" ] || fault "no bin/$name"
     [ -f "$prefix/share/man/man1/$name.1" ] || fault "no manual page of $name"
 done
@@ -26,6 +26,8 @@ done
 cp examples/*.gbr "$room"
 cp tests/install.c tests/shapes.c tests/shapes/strip.expected "$room"
 cp crates/listing/stdout "$room/want"
+cp crates/placement/stdin "$room/parts.gbr"
+cp crates/placement/stdout "$room/parts"
 
 # From here on nothing of the repository is used.
 emulator=$(host/build --emulator)
@@ -33,6 +35,7 @@ cd "$room"
 "$prefix/bin/listing" <strip.gbr | cmp -s - want || fault "listing answers otherwise"
 "$prefix/bin/imager" list <strip.gbr | cmp -s - want || fault "imager answers otherwise"
 [[ $("$prefix/bin/verify" <signed.gbr) == signed* ]] || fault "verify answers otherwise"
+"$prefix/bin/placement" <parts.gbr | cmp -s - parts || fault "placement answers otherwise"
 "$prefix/bin/mend" <strip.gbr 2>/dev/null | cmp -s - strip.gbr || fault "mend answers otherwise"
 
 export PKG_CONFIG_PATH=$prefix/lib/pkgconfig
