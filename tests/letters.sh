@@ -12,11 +12,15 @@ trap 'rm -rf "$room"' EXIT
 
 longest=${emulator:+2}
 longest=${longest:-4}
-${emulator:+"$emulator"} "$made/letters" "$longest" >"$room/proved" &
-proved=$!
+${emulator:+"$emulator"} "$made/letters" "$longest" 1 >"$room/first" &
+first=$!
+${emulator:+"$emulator"} "$made/letters" "$longest" 2 >"$room/rest" &
+rest=$!
 "$second" letters "$longest" --letters new >"$room/second"
-wait "$proved"
-echo "letters: $(awk -F '\t' '{ all += $3; good += $4 } END { print all " strings of up to " NR " bytes, " good " of them letters" }' "$room/proved")"
+wait "$first"
+wait "$rest"
+sort -n -k 2,2 -k 3,3 "$room/first" "$room/rest" >"$room/proved"
+echo "letters: $(awk -F '\t' '{ all += $4; good += $5 } END { print all " strings of up to " $2 " bytes, " good " of them letters" }' "$room/proved")"
 if ! cmp -s "$room/proved" "$room/second"; then
     echo "letters: the readers differ"
     diff "$room/proved" "$room/second"

@@ -26,23 +26,26 @@ pub fn short(longest: usize, terms: Terms, out: &mut dyn Write) -> io::Result<()
 }
 
 /// The strings of bytes from 128 up, each as a field: `%TFa,` string `*%` is a file without M02, refused with 2 at the fault or with 3. A
-/// line per length: how many strings, how many of them without fault, and the hash as above.
+/// line per length and half, 1 for the strings whose first byte is below 192: how many strings, how many of them without fault, and the hash
+/// as above.
 pub fn letters(longest: usize, terms: Terms, out: &mut dyn Write) -> io::Result<()> {
     const HEAD: &[u8] = b"%TFa,";
     for length in 1..=longest {
-        let mut hash = Fnv::new();
-        let (mut count, mut good): (u64, u64) = (0, 0);
         let mut file = [HEAD, &vec![128; length], b"*%"].concat();
-        loop {
-            let (number, place) = answered(&file, terms);
-            hash.write_all(&[number, place])?;
-            count += 1;
-            good += u64::from(number != 2);
-            if !next(&mut file[HEAD.len()..][..length], 128) {
-                break;
+        for (half, past) in [(1, Some(192)), (2, None)] {
+            let mut hash = Fnv::new();
+            let (mut count, mut good): (u64, u64) = (0, 0);
+            loop {
+                let (number, place) = answered(&file, terms);
+                hash.write_all(&[number, place])?;
+                count += 1;
+                good += u64::from(number != 2);
+                if !next(&mut file[HEAD.len()..][..length], 128) || past == Some(file[HEAD.len()]) {
+                    break;
+                }
             }
+            writeln!(out, "letters\t{length}\t{half}\t{count}\t{good}\t{:016x}", hash.0)?;
         }
-        writeln!(out, "letters\t{length}\t{count}\t{good}\t{:016x}", hash.0)?;
     }
     Ok(())
 }
@@ -55,7 +58,7 @@ fn answered(file: &[u8], terms: Terms) -> (u8, u8) {
     }
 }
 
-/// The next string of the same length of bytes from the least up; false behind the last.
+/// The next string of the same length of bytes from the least up; false after the last.
 fn next(text: &mut [u8], least: u8) -> bool {
     for byte in text.iter_mut().rev() {
         if *byte < 255 {
