@@ -1,4 +1,6 @@
 // The address of an item, and the item that an address names, by descent: no copy is written out. Each undoes the other.
+#![tactic(auto)]
+
 ghost use Rattle.std.specs.Prelude.{◌≡◌, ◌≤◌, ◌+◌, suc, ◌/◌, ◌%◌, ◌<◌, cond, true, length, get_or, drop, replicate, []};
 ghost use Rattle.base.specs.Run.{sums};
 ghost use Rattle.sheet.specs.Records.{entry_room, role_of};
@@ -133,7 +135,7 @@ fn further_on(b: u64, t: Named) -> Named
 }
 
 // One step of a search: what is named, or the container to go down into and the items before it.
-#[derive(Drop)]
+#[derive(Clone, Copy)]
 pub enum Look {
     Is(Named),
     Below(u64, Container),
@@ -259,7 +261,7 @@ fn seek_top(head: &[u64; 8], e: &[u64], a: &[u64], w: &[u64]) -> Named
 }
 
 // What a call for the item of an address answers: document 02's number, and the item.
-#[derive(Drop)]
+#[derive(Clone, Copy)]
 pub struct Reply {
     pub number: u64,
     pub item: u64,
@@ -287,7 +289,7 @@ pub fn item_of(head: &[u64; 8], e: &[u64], a: &[u64], address: &[u64; 10]) -> Re
 // From an item of a sheet to its address, by descent: no copy is written out.
 
 // One step down to an item: it is drawn at a position, or is an item of the block that is flashed there.
-#[derive(Drop)]
+#[derive(Clone, Copy)]
 pub enum Stand {
     Here(u64),
     Below(u64, Container, u64),
@@ -329,7 +331,7 @@ fn write(e: &[u64], a: &[u64], k: Container, n: u64, out: &mut [u64])
 
 // Where an item's address begins: it is drawn at a position of the top level, or lies in the block that is flashed there,
 // or in a copy of a body whose positions go on from those before it.
-#[derive(Drop)]
+#[derive(Clone, Copy)]
 pub enum Start {
     Alone(u64),
     Flash(u64, Container, u64),

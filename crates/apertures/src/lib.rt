@@ -1,4 +1,6 @@
 // Commands that make apertures: AD and AB. Their text is that of one data block, without its `*`.
+#![tactic(auto)]
+
 ghost use Rattle.std.specs.Prelude.{◌≡◌, drop};
 ghost use Rattle.apertures.specs.Blocks.{block_start, block_of};
 ghost use Rattle.apertures.specs.Definitions.{definition, aperture_of};
@@ -7,7 +9,7 @@ ghost use Rattle.apertures.specs.Parameters.{parameters_of};
 use command::{Bracket, Command, Definition, Flaw, Size, Span};
 
 // The parameters of an AD: whether one is no decimal, whether one is too long, how many there are, and how many were rounded.
-#[derive(Drop)]
+#[derive(Clone, Copy)]
 pub struct Parameters {
     pub formless: bool,
     pub long: bool,

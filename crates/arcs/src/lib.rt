@@ -1,4 +1,6 @@
 // The arc of a D01: its centre, in multi quadrant mode given, in single quadrant mode chosen; when it has none; and the kind of item drawn.
+#![tactic(auto)]
+
 ghost use Rattle.std.specs.Prelude.{◌≡◌, cond};
 ghost use Rattle.points.specs.Points.{same_point};
 ghost use Rattle.graphics.specs.Graphics.{origin};

@@ -1,4 +1,6 @@
 // The attribute call: the value of an attribute at a command of a file.
+#![tactic(auto)]
+
 ghost use Rattle.std.specs.Prelude.{◌≡◌, take, length, suc};
 ghost use Rattle.std.proofs.Math.Seq.{slice};
 ghost use Rattle.base.specs.Choose.{pick};
@@ -16,14 +18,14 @@ use sequence::{Placed, Turn};
 // What a command says of an attribute that is asked, and where the attribute is taken.
 
 // The kind that is asked: TA or TO.
-#[derive(Drop)]
+#[derive(Clone, Copy)]
 pub enum Kind {
     Aperture,
     Object,
 }
 
 // What a command says of the name that is asked.
-#[derive(Drop)]
+#[derive(Clone, Copy)]
 pub enum Saying {
     Silent,
     Deletes,
@@ -127,7 +129,7 @@ fn taken_at(kind: Kind, t: &[u8]) -> bool
 // The commands in file order, and what holds at the one that is asked for.
 
 // Document 01's number, 0 where the name is held, and the place and length of its value in the file.
-#[derive(Drop)]
+#[derive(Clone, Copy)]
 pub struct Answer {
     pub number: u64,
     pub place: usize,
@@ -135,7 +137,7 @@ pub struct Answer {
 }
 
 // What the commands so far say of the name; what a region that is open carries of it; where the next command stands.
-#[derive(Drop)]
+#[derive(Clone, Copy)]
 pub struct Heard {
     pub said: Saying,
     pub carried: Saying,
@@ -143,7 +145,7 @@ pub struct Heard {
 }
 
 // What is answered at the command asked, once it is met.
-#[derive(Drop)]
+#[derive(Clone, Copy)]
 pub enum Found {
     NotYet,
     Is(Answer),

@@ -1,4 +1,6 @@
 // Commands that set and delete attributes: TF, TA, TO and TD. A text is that of one data block, without its `*`.
+#![tactic(auto)]
+
 ghost use Rattle.std.specs.Prelude.{◌≡◌, length};
 ghost use Rattle.attribute_commands.specs.Attributes.{value_of, attribute_of, deletion_of};
 

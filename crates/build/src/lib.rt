@@ -1,5 +1,7 @@
 // Marks into the store as they come: items, flashes and openings, a contour's edges, closings and the end. docs/SHEET.md has the layout,
 // decisions 231 and 232 what lies where meanwhile.
+#![tactic(auto)]
+
 ghost use Rattle.std.specs.Prelude.{◌≡◌, ◌+◌, ◌≤◌, ◌<◌, suc, ◌-◌, ◌*◌, ◌∷◌, [], ◌++◌, length, take, replicate};
 ghost use Rattle.sheet.specs.Records.{entry_room, entry_of, aperture_width, aperture_room, stored};
 ghost use Rattle.build.specs.Stack.{has_room, pushed, Turned};
@@ -57,7 +59,7 @@ fn turn_over(e: &mut [u64], lo: usize, hi: usize, n: usize)
 
 // How far the store is built: entries closed and on the stack; where the innermost container starts, its height and its items so far.
 // The top level has height 10, the body of a repeat 9, a block 1 to 8.
-#[derive(Drop)]
+#[derive(Clone, Copy)]
 pub struct Builder {
     pub closed: usize,
     pub high: usize,

@@ -1,4 +1,6 @@
 // What each command changes of the graphics state.
+#![tactic(auto)]
+
 ghost use Rattle.std.specs.Prelude.{◌≡◌, nat_abs, ◌+ℤ◌, ◌≤◌, ◌^◌};
 ghost use Rattle.points.specs.Points.{pt, Within};
 ghost use Rattle.graphics.specs.Orientation.{angle_of};

@@ -1,4 +1,6 @@
 // What a command says: the answer of every recogniser.
+#![tactic(auto)]
+
 ghost use Rattle.std.specs.Prelude.{◌≡◌};
 ghost use Rattle.base.specs.Bytes.{same_bytes};
 ghost use Rattle.base.specs.Choose.{pick};
@@ -12,21 +14,21 @@ use formats::Format;
 use points::Point;
 
 // A part of the command's text.
-#[derive(Drop)]
+#[derive(Clone, Copy)]
 pub struct Span {
     pub from: usize,
     pub to: usize,
 }
 
 // X or Y of an operation, in millionths.
-#[derive(Drop)]
+#[derive(Clone, Copy)]
 pub enum Axis {
     Missing,
     At(i64),
 }
 
 // I and J of a D01, together, and whether one of them has a sign.
-#[derive(Drop)]
+#[derive(Clone, Copy)]
 pub enum Offset {
     Missing,
     By { offset: Point, signed: bool },
@@ -34,7 +36,7 @@ pub enum Offset {
 
 // A number of a command as it is written: whether it is none (4), whether it is too long or outside its range (5), and its value,
 // which is 0 without one.
-#[derive(Drop)]
+#[derive(Clone, Copy)]
 pub struct Number {
     pub formless: bool,
     pub long: bool,
@@ -42,7 +44,7 @@ pub struct Number {
 }
 
 // A decimal of a command, likewise, and whether it was rounded.
-#[derive(Drop)]
+#[derive(Clone, Copy)]
 pub struct Size {
     pub formless: bool,
     pub long: bool,
@@ -51,7 +53,7 @@ pub struct Size {
 }
 
 // Why a command cannot be read.
-#[derive(Drop)]
+#[derive(Clone, Copy)]
 pub enum Flaw {
     // 4: unknown, or not of its form
     NotForm,
@@ -62,7 +64,7 @@ pub enum Flaw {
 }
 
 // What sets a part of the graphics state. LR and LS say how many of their decimals were rounded.
-#[derive(Drop)]
+#[derive(Clone, Copy)]
 pub enum Setting {
     // G01, G02, G03
     Linear,
@@ -98,7 +100,7 @@ pub enum Setting {
 }
 
 // D01, D02 and D03.
-#[derive(Drop)]
+#[derive(Clone, Copy)]
 pub enum Operation {
     Draw { x: Axis, y: Axis, centre: Offset },
     Move { x: Axis, y: Axis },
@@ -106,7 +108,7 @@ pub enum Operation {
 }
 
 // What defines an aperture or a macro, and how many of its decimals were rounded.
-#[derive(Drop)]
+#[derive(Clone, Copy)]
 pub enum Definition {
     // AD
     Aperture {
@@ -125,7 +127,7 @@ pub enum Definition {
 }
 
 // What opens and closes a block or a repeat.
-#[derive(Drop)]
+#[derive(Clone, Copy)]
 pub enum Bracket {
     // AB
     BlockStart(u64),
@@ -142,7 +144,7 @@ pub enum Bracket {
 }
 
 // What is done to an attribute. One without a comma has its value at 0 to 0.
-#[derive(Drop)]
+#[derive(Clone, Copy)]
 pub enum Deed {
     // TF, TA, TO
     SetFile { name: Span, value: Span },
@@ -154,7 +156,7 @@ pub enum Deed {
 }
 
 // A command by its role. Spans are in the command's text: a word command's without its `*`, an extended one's between its two `%`.
-#[derive(Drop)]
+#[derive(Clone, Copy)]
 pub enum Command {
     // 4, 30 or 5
     Broken(Flaw),

@@ -1,4 +1,6 @@
 // The rules of every command but D01, D02 and D03: the number of the first that is broken, 0 where all are kept.
+#![tactic(auto)]
+
 ghost use Rattle.std.specs.Prelude.{◌≡◌};
 ghost use Rattle.command_rules.specs.Bounds.{is_count, is_repeat};
 ghost use Rattle.command_rules.specs.Settings.{setting_fault};

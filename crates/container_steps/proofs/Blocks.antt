@@ -1,7 +1,7 @@
 -- A block that opens: its fault, and what is known after it.
 -- Assumes nothing.
 use Prim.Native.Nat.{ℕ, suc, ◌+◌, ◌-◌, ◌≤◌, ◌<◌}
-use mathlib.Core.Path.{◌≡◌, refl, sym, ap, ◌∙◌}
+use mathlib.Core.Path.{◌≡◌, refl, sym, ap, subst, ◌∙◌}
 use mathlib.Core.Bool.{Bool, true, false, not}
 use mathlib.Core.List.{List, [], ◌∷◌, ◌++◌}
 use native.Mathlib.Nat.{le_refl}
@@ -172,8 +172,9 @@ module _ (w : Lent) (s : State) (p : Progress) (k : Knows w p s) (place n : ℕ)
             level = rw one k.level;
             counts = k.counts;
           },
-          around_kept w.entries w.apertures leaves records (entry_room w.entries) p.builder.high p.apertures openers (λ i l. sym (kept i l))
-              s.opened p.apertures p.apertures p.builder.start p.builder.height p.builder.height p.depth p.copies p.sheet below (le_refl _) (le_refl _) (stays_as_high _) k.around,
+          subst (λ (room : ℕ). Around leaves records room p.apertures s.opened p.builder.start p.builder.height p.depth p.copies p.sheet) (sym long)
+              (around_kept w.entries w.apertures leaves records (entry_room w.entries) p.builder.high p.apertures openers (λ i l. sym (kept i l))
+              s.opened p.apertures p.apertures p.builder.start p.builder.height p.builder.height p.depth p.copies p.sheet below (le_refl _) (le_refl _) (stays_as_high _) k.around),
         )
 
     shows_then : Shows (s.marks ++ begin (block n) ∷ []) leaves records (entry_room leaves) (p.apertures + 1) (inner p.builder 1)

@@ -1,4 +1,6 @@
 // AB and SR, opening and closing: each is tested by its rules, then the entries, the table of apertures and the progress follow.
+#![tactic(auto)]
+
 ghost use Rattle.std.specs.Prelude.{◌≡◌, ℕ, length};
 ghost use Rattle.law_reading.specs.Steps.{block_start_step, block_end_step, repeat_start_step, repeat_end_step};
 ghost use Rattle.law_bounds.specs.Bounded.{Repeats};

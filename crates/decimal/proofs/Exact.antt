@@ -19,7 +19,7 @@ use Rattle.ints.proofs.Bounded.{abs_signed}
 use Rattle.digits.specs.Digits.{all_digits, value_of}
 use Rattle.digits.specs.Sign.{has_minus, after_sign}
 use Rattle.digits.specs.Zeros.{drop_leading_zeros, drop_trailing_zeros}
-use Rattle.digits.proofs.Digits.{digit_bounds, first_digit, other_digits}
+use Rattle.digits.proofs.Strings.{digit_bounds, first_digit, other_digits}
 use Rattle.digits.proofs.Zeros.{leading_value}
 use Rattle.decimal.specs.Decimal.{is_decimal, in_millionths, is_rounded, amount_of, numeral_of, decimal_of}
 use Rattle.decimal.specs.Exact.{Worth, Writes}

@@ -9,7 +9,7 @@ use native.Mathlib.Omega.{arith}
 use lib.ListN.{length}
 use lib.Pow.{pow-add}
 use Rattle.digits.specs.Digits.{all_digits, value_of}
-use Rattle.digits.proofs.Digits.{value_bound, bound_at}
+use Rattle.digits.proofs.Strings.{value_bound, bound_at}
 use Rattle.decimal.specs.Kept.{in_six}
 
 -- j digits after a point, in millionths

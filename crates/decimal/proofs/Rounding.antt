@@ -16,7 +16,7 @@ use borrow.Author.Tests.{leb-true, leb-false}
 use Rattle.base.proofs.And.{true_and}
 use Rattle.base.proofs.Lists.{drop_next}
 use Rattle.digits.specs.Digits.{all_digits, value_of}
-use Rattle.digits.proofs.Digits.{value_bound, digit_at, first_digit, other_digits}
+use Rattle.digits.proofs.Strings.{value_bound, digit_at, first_digit, other_digits}
 use Rattle.decimal.specs.Decimal.{nearest, in_millionths}
 use Rattle.decimal.specs.Kept.{in_six, carry_of}
 

@@ -1,12 +1,12 @@
 // What a written decimal says. Document 01's number of each case stands in specs/.
 
 // What a decimal is worth, in millionths.
-#[derive(Drop)]
+#[derive(Clone, Copy)]
 pub struct Amount {
     pub millionths: i64,
 }
 
-#[derive(Drop)]
+#[derive(Clone, Copy)]
 pub enum Decimal {
     NotForm,
     TooLong,

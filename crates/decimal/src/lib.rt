@@ -1,4 +1,6 @@
 // Decimals: digits with an optional point, to the nearest millionth.
+#![tactic(auto)]
+
 ghost use Rattle.std.specs.Prelude.{◌≡◌, true, ◌≤◌, ◌^◌, length, take, drop};
 ghost use Rattle.std.proofs.Math.Seq.{slice};
 ghost use Rattle.digits.specs.Digits.{all_digits};

@@ -1,4 +1,6 @@
 // Dn, AD and AM: an aperture selected, and apertures and macros defined in their lent words.
+#![tactic(auto)]
+
 ghost use Rattle.std.specs.Prelude.{◌≡◌, ◌≤◌, length};
 ghost use Rattle.std.proofs.Math.Seq.{slice};
 ghost use Rattle.templates.specs.Templates.{kind_of};

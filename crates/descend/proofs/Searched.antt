@@ -5,7 +5,6 @@ use mathlib.Core.Path.{◌≡◌}
 use mathlib.Core.List.{List}
 use native.Mathlib.Nat.{add-zero}
 use native.Mathlib.Omega.{arith}
-use Rattle.base.specs.Run.{sums}
 use Rattle.base.proofs.Run.{sums_snoc}
 use Rattle.sheet.specs.Records.{entry_of}
 use Rattle.sheet.specs.Valid.{size_at}

@@ -1,4 +1,6 @@
 // The total, one item, and a run of items of a sheet, by descent: no copy is written out.
+#![tactic(auto)]
+
 ghost use Rattle.std.specs.Prelude.{◌≡◌, ◌≤◌, ◌<◌, ◌+◌, length, replicate};
 ghost use Rattle.place.specs.Item.{item_width};
 ghost use Rattle.sheet.specs.Records.{entry_of, entry_room, stored};
@@ -38,7 +40,7 @@ pub fn find(e: &[u64], k: Container, n: u64) -> usize
 
 // One step of the descent: the item itself, or which item of which lower container it is, and how that is put out: by a copy of a
 // repeat, or by the flash of a block at a place.
-#[derive(Drop)]
+#[derive(Clone, Copy)]
 pub enum Step {
     Here(Item),
     Copied(Container, u64, Pose),
@@ -95,14 +97,14 @@ pub fn item_at(e: &[u64], a: &[u64], left: u64, k: Container, n: u64) -> Item
 }
 
 // The number of items.
-#[derive(Drop)]
+#[derive(Clone, Copy)]
 pub enum Total {
     Is(u64),
     NotSheet,
 }
 
 // An item.
-#[derive(Drop)]
+#[derive(Clone, Copy)]
 pub enum Answer {
     Is(Item),
     Past,
@@ -134,7 +136,7 @@ pub fn sheet_item(head: &[u64; 8], e: &[u64], a: &[u64], n: u64) -> Answer
 }
 
 // The outcome of a call for a run of items.
-#[derive(Drop)]
+#[derive(Clone, Copy)]
 pub enum Fetch {
     Done,
     Past,

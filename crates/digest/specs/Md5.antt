@@ -1,5 +1,5 @@
 -- The digest of a message of bytes: RFC 1321, section 3, step by step.
-use Rattle.std.specs.Prelude.{ℕ, zero, suc, ◌+◌, ◌-◌, ◌*◌, ◌/◌, ◌%◌, ◌^◌, List, ◌∷◌, ◌++◌, length, take, drop, replicate}
+use Rattle.std.specs.Prelude.{ℕ, zero, suc, ◌-◌, ◌*◌, ◌/◌, ◌%◌, ◌^◌, List, ◌∷◌, ◌++◌, length, take, drop, replicate}
 use Rattle.digest.specs.declared.Words.{Words}
 use Rattle.digest.specs.Rounds.{words, block}
 use Rattle.digest.specs.Bytes.{bytes_of}

@@ -1,4 +1,5 @@
 // MD5 of a message that comes in runs of any length: RFC 1321.
+#![tactic(auto)]
 
 mod table;
 
@@ -20,7 +21,7 @@ use table::T;
 // MD5's work on one block of 64 bytes: RFC 1321, section 3.4. Rounds, and the operations of a round, are counted from 0.
 
 // The four words that a digest goes by, from block to block.
-#[derive(Drop)]
+#[derive(Clone, Copy)]
 pub struct Words {
     pub a: u32,
     pub b: u32,
@@ -200,7 +201,7 @@ fn block(w: Words, x: &[u8]) -> Words
 
 // Where a digest stands between two runs: the words after the whole blocks, the bytes of the block that is not full yet with zeros
 // after them, and how many bytes there were, modulo 2^64.
-#[derive(Drop)]
+#[derive(Clone, Copy)]
 pub struct State {
     words: Words,
     rest: [u8; 64],

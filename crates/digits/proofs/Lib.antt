@@ -1,5 +1,5 @@
-pub mod Coordinate
-pub mod Digits
+pub mod Coordinates
+pub mod Strings
 pub mod Past
 pub mod Sign
 pub mod Sizes

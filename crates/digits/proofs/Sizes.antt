@@ -11,7 +11,7 @@ use Rattle.digits.specs.declared.answers.Coordinate.{Coordinate}
 use Rattle.digits.specs.declared.answers.Natural.{Natural}
 use Rattle.digits.specs.declared.answers.Coordinate.TheVariants as coordinate
 use Rattle.digits.specs.declared.answers.Natural.TheVariants as natural
-use Rattle.digits.proofs.Digits.{value_bound, bound_at, number_digits}
+use Rattle.digits.proofs.Strings.{value_bound, bound_at, number_digits}
 
 -- a value, if it is one, is below 10 ^ 12 in size
 abbrev SmallCoordinate : Coordinate → Type 0

@@ -9,7 +9,7 @@ use Rattle.digits.specs.Coordinate.{whole_of}
 use Rattle.digits.specs.Natural.{natural_of}
 use Rattle.digits.specs.declared.answers.Coordinate.TheVariants as coordinate
 use Rattle.digits.specs.declared.answers.Natural.TheVariants as natural
-use Rattle.digits.proofs.Digits.{value_bound, bound_at, number_digits}
+use Rattle.digits.proofs.Strings.{value_bound, bound_at, number_digits}
 use Rattle.digits.proofs.Zeros.{leading_digits, leading_value, leading_large}
 
 -- what stands after the sign of a coordinate

@@ -7,7 +7,7 @@ use Rattle.base.proofs.And.{and_i}
 use Rattle.digits.specs.Digits.{is_digit, all_digits, value_of}
 use Rattle.base.specs.Trimmed.{drop_leading, kept_before, drop_trailing}
 use Rattle.digits.specs.Zeros.{drop_leading_zeros, drop_trailing_zeros}
-use Rattle.digits.proofs.Digits.{digit_bounds, first_digit, other_digits}
+use Rattle.digits.proofs.Strings.{digit_bounds, first_digit, other_digits}
 
 -- ---- leading zeros
 

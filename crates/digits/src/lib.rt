@@ -1,4 +1,6 @@
 // Strings of digits, and the whole numbers that they write: coordinates, and numbers of digits alone.
+#![tactic(auto)]
+
 ghost use Rattle.std.specs.Prelude.{◌≡◌, ◌+◌, ◌≤◌, min, true, length};
 ghost use Rattle.std.proofs.Math.Seq.{slice};
 ghost use Rattle.digits.specs.Digits.{is_digit, Writes, past_digits, all_digits, is_number, value_of, digits_in};

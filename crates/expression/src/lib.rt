@@ -1,4 +1,6 @@
 // The value of a macro's expression: an expression may hold a term, a term a factor, a factor an expression in parentheses.
+#![tactic(auto)]
+
 ghost use Rattle.std.specs.Prelude.{◌≡◌, ◌-◌, ◌<◌, ◌^◌, pos, nat_abs, length, drop, get_or};
 ghost use Rattle.macro_tokens.specs.Tokens.{tokens};
 ghost use Rattle.expression.specs.Grammar.{leaf_of, is_close, plus_minus, times_over, sum_by, product_by, closed, factor_at, term_at, expression_at};
@@ -10,13 +12,13 @@ use macro_tokens::Token;
 use reckon::Reckoned;
 
 // The variables $1 to $64, in millionths.
-#[derive(Drop)]
+#[derive(Clone, Copy)]
 pub struct Variables {
     pub values: [i64; 64],
 }
 
 // What a factor begins with.
-#[derive(Drop)]
+#[derive(Clone, Copy)]
 pub enum Leaf {
     Nothing,
     Value(Amount),
@@ -24,7 +26,7 @@ pub enum Leaf {
 }
 
 // Which of the two operators of a rank a token is.
-#[derive(Drop)]
+#[derive(Clone, Copy)]
 pub enum Sign {
     Nothing,
     First,
@@ -32,7 +34,7 @@ pub enum Sign {
 }
 
 // What was read up to `next` has a value, or is refused.
-#[derive(Drop)]
+#[derive(Clone, Copy)]
 pub struct Worked {
     pub fine: bool,
     pub value: Amount,
@@ -40,7 +42,7 @@ pub struct Worked {
 }
 
 // An operator, and where its operand stands; or none, and where it would.
-#[derive(Drop)]
+#[derive(Clone, Copy)]
 pub struct Operator {
     pub any: bool,
     pub second: bool,

@@ -1,4 +1,6 @@
 // Of two faults of one command, the one whose rule is tested first.
+#![tactic(auto)]
+
 ghost use Rattle.std.specs.Prelude.{◌≡◌};
 ghost use Rattle.faults.specs.Order.{rank_of, tested_before, sooner};
 

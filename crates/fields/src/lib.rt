@@ -1,4 +1,6 @@
 // Where the field of a command is, told byte by byte, no byte ahead being known.
+#![tactic(auto)]
+
 ghost use Rattle.std.specs.Prelude.{◌≡◌, cond};
 ghost use Rattle.fields.specs.Parts.{begins_text, is_field, is_over, part_after, opens_macro};
 
@@ -6,7 +8,7 @@ use book::Book;
 
 // How much of a command's text is known: nothing yet; `G`; `G0`; the `G4` of the old book; nothing after `%`; `%A`; `%T`; `%TF`, `%TA` or
 // `%TO` before the comma; inside a field; that no field comes any more.
-#[derive(Drop)]
+#[derive(Clone, Copy)]
 pub enum Part {
     Start,
     CodeG,

@@ -1,5 +1,7 @@
 // Word commands of the old book: which code stands in front, and what is left after it; and the extended commands that it has and that
 // are not read.
+#![tactic(auto)]
+
 ghost use Rattle.std.specs.Prelude.{◌≡◌, length, take};
 ghost use Rattle.base.specs.Bytes.{same_bytes};
 ghost use Rattle.base.specs.Choose.{pick};
@@ -9,7 +11,7 @@ ghost use Rattle.films.specs.Parameters.{is_refused};
 ghost use Rattle.films.specs.Words.{comment_of, operate_of, coded_of, general_of, miscellaneous_of, other_of, word_of};
 
 // What a word command says. Codes are their numbers: 1 for G01, 3 for D03; places are in the command's text, which has no `*`.
-#[derive(Drop)]
+#[derive(Clone, Copy)]
 pub enum Word {
     // 4: unknown, or not of its form
     NotForm,

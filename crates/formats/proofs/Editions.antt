@@ -1,11 +1,11 @@
 -- What the newer edition's FS says, it says in the old one too.
 -- Assumes nothing.
 use Prim.Native.Nat.{ℕ, ◌-◌, ◌≤◌}
-use mathlib.Core.Path.{◌≡◌, refl, sym, ap, subst, ◌∙◌}
-use mathlib.Core.Bool.{Bool, true, false, not}
-use mathlib.Core.List.{List, [], ◌∷◌, ◌++◌}
+use mathlib.Core.Path.{◌≡◌, refl, ap, ◌∙◌}
+use mathlib.Core.Bool.{Bool, true, false}
+use mathlib.Core.List.{List, ◌∷◌, ◌++◌}
 use native.Mathlib.Omega.{arith}
-use lib.Dec.{leb, eqb}
+use lib.Dec.{leb}
 use lib.ListN.{get_or}
 use borrow.Author.Tests.{leb-true}
 use Rattle.base.specs.And.{◌and◌}
@@ -20,7 +20,6 @@ use Rattle.text.specs.Text.{text, among}
 use Rattle.formats.specs.Format.{newer}
 use Rattle.formats.specs.Texts.{newer_format, of_form, old_format}
 use Rattle.formats.specs.declared.Format.{Format}
-use Rattle.formats.specs.declared.Said.{Said}
 use Rattle.formats.specs.declared.Said.TheVariants.{NotForm, Is}
 
 abbrev form : ℕ → List ℕ

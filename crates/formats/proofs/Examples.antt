@@ -17,7 +17,6 @@ use Rattle.digits.specs.declared.answers.Coordinate.TheVariants as coordinate
 use Rattle.formats.specs.Format.{is_format, newer, no_format, in_force, places_of}
 use Rattle.formats.specs.Texts.{newer_format, of_form, old_format}
 use Rattle.formats.specs.Values.{filled, value_in, whole_in, coordinate_in}
-use Rattle.formats.specs.declared.Format.{Format}
 use Rattle.formats.specs.declared.Said.{Said}
 use Rattle.formats.specs.declared.Said.TheVariants.{NotForm, SevenPlaces, Is}
 

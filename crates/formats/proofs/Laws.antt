@@ -1,10 +1,10 @@
 -- What a format promises: in the newer edition's a coordinate is worth what it is written as, full digits do not tell which zeros are
 -- left out, and every value is below 10 ^ 12; and the old book reads the newer edition's FS.
 -- Assumes nothing.
-use Prim.Native.Nat.{ℕ, ◌+◌, ◌*◌, ◌-◌, ◌^◌, ◌≤◌, ◌<◌}
-use mathlib.Core.Path.{◌≡◌, refl, sym, ap, subst, ◌∙◌}
+use Prim.Native.Nat.{ℕ, ◌+◌, ◌*◌, ◌^◌, ◌≤◌, ◌<◌}
+use mathlib.Core.Path.{◌≡◌, refl, sym, ap, ◌∙◌}
 use mathlib.Core.Bool.{Bool, true, false, not, cond}
-use mathlib.Core.List.{List, [], ◌∷◌}
+use mathlib.Core.List.{List}
 use native.Mathlib.Omega.{arith}
 use lib.Dec.{leb, eqb}
 use lib.IntN.{ℤ, nat_abs}
@@ -18,11 +18,10 @@ use Rattle.ints.proofs.Bounded.{abs_signed}
 use Rattle.digits.specs.Digits.{is_number, value_of}
 use Rattle.digits.specs.Sign.{has_minus, after_sign}
 use Rattle.digits.specs.Coordinate.{coordinate_of}
-use Rattle.digits.specs.declared.answers.Coordinate.{Coordinate}
 use Rattle.digits.specs.declared.answers.Coordinate.TheVariants.{NotForm, TooLong, Value}
 use Rattle.formats.specs.Format.{is_format, newer, no_format, in_force, places_of}
 use Rattle.formats.specs.Values.{value_in, whole_in, coordinate_in}
-use Rattle.formats.specs.Raised.{Few, zeros_behind}
+use Rattle.formats.specs.Raised.{zeros_behind}
 use Rattle.formats.specs.declared.Format.{Format}
 use Rattle.formats.proofs.Raised.{few, raised_value, raised_small, whole_plain}
 

@@ -1,28 +1,26 @@
 -- A coordinate in a format is the outcome of its digits as written, raised; and how large it can be.
 -- Assumes nothing.
 use Prim.Native.Nat.{ℕ, zero, suc, ◌+◌, ◌*◌, ◌-◌, ◌^◌, ◌≤◌, ◌<◌}
-use mathlib.Core.Path.{◌≡◌, refl, sym, ap, subst, ◌∙◌}
+use mathlib.Core.Path.{◌≡◌, refl, sym, ap, ◌∙◌}
 use mathlib.Core.Bool.{Bool, true, false, cond}
 use mathlib.Core.List.{List, [], ◌∷◌, ◌++◌}
 use native.Mathlib.Nat.{one-le-pow, mul-lt-mul_of_pos_right, mul_assoc, mul-one, zero-mul, add-mul}
 use native.Mathlib.Omega.{arith}
-use lib.Dec.{leb, eqb}
+use lib.Dec.{leb}
 use lib.IntN.{ℤ, nat_abs}
 use lib.ListN.{length, replicate, length-append, length-replicate}
 use lib.Pow.{pow-add}
-use borrow.Author.Tests.{leb-true, leb-false}
+use borrow.Author.Tests.{leb-true}
 use Rattle.base.specs.And.{◌and◌}
 use Rattle.base.proofs.And.{and_l, and_r}
 use Rattle.ints.specs.Ints.{signed}
 use Rattle.ints.proofs.Bounded.{abs_signed}
-use Rattle.digits.specs.Digits.{all_digits, is_number, value_of}
-use Rattle.digits.specs.Sign.{has_minus, after_sign}
-use Rattle.digits.specs.Coordinate.{whole_of, coordinate_of}
-use Rattle.digits.specs.declared.answers.Coordinate.{Coordinate}
+use Rattle.digits.specs.Digits.{is_number, value_of}
+use Rattle.digits.specs.Coordinate.{whole_of}
 use Rattle.digits.specs.declared.answers.Coordinate.TheVariants.{NotForm, TooLong, Value}
-use Rattle.digits.proofs.Digits.{value_bound, bound_at, number_digits}
+use Rattle.digits.proofs.Strings.{value_bound, bound_at, number_digits}
 use Rattle.formats.specs.Format.{is_format, newer, in_force, places_of}
-use Rattle.formats.specs.Values.{filled, value_in, whole_in, coordinate_in}
+use Rattle.formats.specs.Values.{filled, value_in, whole_in}
 use Rattle.formats.specs.Raised.{Few, zeros_behind, raised}
 use Rattle.formats.specs.declared.Format.{Format}
 

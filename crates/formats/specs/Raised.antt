@@ -16,6 +16,6 @@ unfoldable pub zeros_behind : Format → ℕ → ℕ
 zeros_behind f written = cond f.trailing (places_of f - written) 0 + (6 - f.decimals)
 
 unfoldable pub raised : Bool → ℕ → Coordinate → Coordinate
-raised minus zeros NotForm = NotForm
-raised minus zeros TooLong = TooLong
-raised minus zeros (Value z) = Value (signed minus (nat_abs z * 10 ^ zeros))
+raised minus behind NotForm = NotForm
+raised minus behind TooLong = TooLong
+raised minus behind (Value z) = Value (signed minus (nat_abs z * 10 ^ behind))

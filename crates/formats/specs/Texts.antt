@@ -1,5 +1,5 @@
 -- How FS writes a format, in each edition (01, Form; 02, [9]; decision 482). A text is that of the data block, without its `*`.
-use Rattle.std.specs.Prelude.{ℕ, ◌-◌, Bool, not, List, [], ◌∷◌, ◌++◌, eqb, get_or}
+use Rattle.std.specs.Prelude.{ℕ, ◌-◌, Bool, not, List, [], ◌∷◌, ◌++◌, get_or}
 use Prim.Native.Char.{code}
 use Rattle.base.specs.And.{◌and◌}
 use Rattle.base.specs.Or.{◌or◌}
@@ -8,7 +8,6 @@ use Rattle.base.specs.Choose.{pick}
 use Rattle.text.specs.Name.{range}
 use Rattle.text.specs.Text.{text, byte, one_of}
 use Rattle.formats.specs.Format.{newer}
-use Rattle.formats.specs.declared.Format.{Format}
 use Rattle.formats.specs.declared.Said.{Said}
 use Rattle.formats.specs.declared.Said.TheVariants.{NotForm, SevenPlaces, Is}
 

@@ -1,4 +1,6 @@
 // The format of a file's coordinates: how FS writes it in each edition, and what the digits of a coordinate are worth in it.
+#![tactic(auto)]
+
 ghost use Rattle.std.specs.Prelude.{◌≡◌, ◌*◌, ◌-◌, ◌^◌, ◌<◌, ◌≤◌, ℤ, nat_abs, length};
 ghost use Rattle.digits.specs.declared.answers.Coordinate.TheVariants.{Value};
 ghost use Rattle.formats.specs.Format.{is_format, no_format, in_force, places_of, exact_places};
@@ -10,7 +12,7 @@ use digits::{Coordinate, Taken};
 
 // How many digits of a coordinate stand before the point and how many after it, whether zeros are left out at its end and not at its
 // front, and whether it counts from the point before. Both numbers are 0 before FS.
-#[derive(Drop)]
+#[derive(Clone, Copy)]
 pub struct Format {
     pub integers: usize,
     pub decimals: usize,
@@ -19,7 +21,7 @@ pub struct Format {
 }
 
 // What FS says.
-#[derive(Drop)]
+#[derive(Clone, Copy)]
 pub enum Said {
     // 4: not of its form
     NotForm,

@@ -1,7 +1,11 @@
 // Attributes asked of the file on standard input, by the newer edition and the old rule of letters: three names, as TA and as TO, at every
 // place. A line for each answer but 22: what was asked, then the answer as the second reader writes it.
+#![tactic(auto)]
+
 use attribute_call::{Answer, Kind};
-use libc::STDOUT_FILENO;
+
+// Standard output, by its number.
+const STDOUT_FILENO: i32 = 1;
 
 // A tab and a number.
 fn number(n: usize) {

@@ -1,10 +1,14 @@
 // A sheet of 10^12 items from 41 entries, its coordinates at both ends of their range: total, items at the start, in the middle and at
 // the end. The file `stdout` was made by a second program, which works each item out from the counts alone (docs/SHEET.md).
+#![tactic(auto)]
+
 ghost use Rattle.std.specs.Prelude.{◌≤◌};
 
 use descend::{Fetch, Total};
-use libc::STDOUT_FILENO;
 use sheet::Entry;
+
+// Standard output, by its number.
+const STDOUT_FILENO: i32 = 1;
 
 const MARK: u64 = 5716828633109713478;
 

@@ -1,11 +1,15 @@
 // Lists of items of one sheet, in runs of several lengths: the runs from the same items on join, and a store that is no sheet, or a run that
 // begins past the total, leaves zero items. The file `stdout` was made by a second program, from docs/SHEET.md and document 01 alone.
+#![tactic(auto)]
+
 mod table;
 
 ghost use Rattle.std.specs.Prelude.{◌≤◌};
 
-use libc::STDOUT_FILENO;
 use place::Item;
+
+// Standard output, by its number.
+const STDOUT_FILENO: i32 = 1;
 
 // A word as the signed number that it is.
 fn signed(w: u64) {

@@ -1,8 +1,12 @@
 // Macros of document 002, KiCad's rounded rectangle and document 01's roundings, each with the numbers that were worked out by hand: before the
 // parameters of a primitive a hundred for each of them, and the code.
 // The blocks stand after the `*` of the macro's name, the parameters after the comma of the AD.
+#![tactic(auto)]
+
 use command::{Command, Definition};
-use libc::STDOUT_FILENO;
+
+// Standard output, by its number.
+const STDOUT_FILENO: i32 = 1;
 
 // A name, and whether what was found is what was worked out by hand.
 fn says(name: &[u8], good: bool) {

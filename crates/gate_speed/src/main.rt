@@ -1,9 +1,12 @@
 // What bench/digest times: the digest of 16 MB of text, in blocks of 4,096 bytes as the intake program sees them.
+#![tactic(auto)]
+
 ghost use Rattle.std.specs.Prelude.{◌≡◌, length, replicate};
 ghost use Rattle.digest.specs.Runs.{started, finished, in_runs};
 ghost use Rattle.digest.specs.Text.{unbroken};
 
-use libc::STDOUT_FILENO;
+// Standard output, by its number.
+const STDOUT_FILENO: i32 = 1;
 
 // A block of text, an LF after each 19 bytes.
 fn lines() -> [u8; 4096]
@@ -33,6 +36,6 @@ fn repeated(text: &[u8], n: usize) -> [u8; 16]
 
 fn main() {
     let text = lines();
-    io::write_all(STDOUT_FILENO, &hex::hex(repeated(&text, 4096)));
+    io::write_all(STDOUT_FILENO, &hexadecimal::hex(repeated(&text, 4096)));
     io::write_all(STDOUT_FILENO, b"\n");
 }

@@ -1,12 +1,16 @@
 // One graphics state stepped through the commands of two texts, accepted and refused, each by a state that is lent and handed back. A line
 // is the command without `%` and its last `*`, its number, and the state after it. The file `stdout` was worked out by hand, from documents
 // 01 and, for a film of the old edition, 02.
+#![tactic(auto)]
+
 use book::{Book, Edition, Letters};
 use formats::Format;
 use graphics::{Graphics, Level, Selected};
-use libc::STDOUT_FILENO;
 use scan::{Kind, Scan};
 use state_call::{Known, Worked};
+
+// Standard output, by its number.
+const STDOUT_FILENO: i32 = 1;
 
 fn field(w: u64) {
     io::write_all(STDOUT_FILENO, b" ");

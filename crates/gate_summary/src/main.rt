@@ -1,11 +1,15 @@
 // The summary of a sheet of 10^12 items from 41 entries, its coordinates at both ends of their range: ten rows and a spare one; then with
 // a row too few, with a word of scratch too few, and of a store that is no sheet. The file `stdout` was made by a second program, which
 // writes the items of one copy out and goes over them.
+#![tactic(auto)]
+
 ghost use Rattle.std.specs.Prelude.{◌≤◌};
 
-use libc::STDOUT_FILENO;
 use sheet::Entry;
 use summary_by_aperture::Outcome;
+
+// Standard output, by its number.
+const STDOUT_FILENO: i32 = 1;
 
 const MARK: u64 = 5716828633109713478;
 

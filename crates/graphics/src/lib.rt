@@ -1,4 +1,6 @@
 // The state, by value: the graphics state, which is what the commands so far have set, and what stands open.
+#![tactic(auto)]
+
 ghost use Rattle.std.specs.Prelude.{◌≡◌};
 ghost use Rattle.graphics.specs.Graphics.{start, with_header, with_notation, with_point, with_aperture, with_mode, with_quadrants, with_transform, with_region};
 ghost use Rattle.graphics.specs.Orientation.{angle_of, angle_after, orientation};
@@ -7,7 +9,7 @@ use formats::Format;
 use points::Point;
 
 // What FS says, without places before it; MO's unit, and that of the first G70 or G71, 1 mm or 2 inch, 0 before each.
-#[derive(Drop)]
+#[derive(Clone, Copy)]
 pub struct Header {
     pub format: Format,
     pub unit: u64,
@@ -15,7 +17,7 @@ pub struct Header {
 }
 
 // The current point.
-#[derive(Drop)]
+#[derive(Clone, Copy)]
 pub struct Current {
     pub set: bool,
     pub at: Point,
@@ -23,7 +25,7 @@ pub struct Current {
 
 // The current aperture: its number, its record, whether it is a C without hole, or an R without one, whether it is a block, and a
 // block's items and height.
-#[derive(Drop)]
+#[derive(Clone, Copy)]
 pub struct Selected {
     pub set: bool,
     pub number: u64,
@@ -36,14 +38,14 @@ pub struct Selected {
 }
 
 // LM: whether it mirrors x, and y.
-#[derive(Drop)]
+#[derive(Clone, Copy)]
 pub struct Mirror {
     pub x: bool,
     pub y: bool,
 }
 
 // LP, LM, LR and LS; the rotation is from 0 up to a full turn.
-#[derive(Drop)]
+#[derive(Clone, Copy)]
 pub struct Transform {
     pub clear: bool,
     pub mirror: Mirror,
@@ -52,7 +54,7 @@ pub struct Transform {
 }
 
 // A region, whether a D02 stood since its G36, and the first point of the contour that is open in it.
-#[derive(Drop)]
+#[derive(Clone, Copy)]
 pub struct Region {
     pub on: bool,
     pub moved: bool,
@@ -62,7 +64,7 @@ pub struct Region {
 
 // Whether the edition is the old book's, which nothing changes; whether coordinates count from the current point. The mode is 0 before it
 // is set, else the kind of item that a D01 draws: 1 line, 2 clockwise, 3 counterclockwise; G75 is in force where `quadrants` is.
-#[derive(Drop)]
+#[derive(Clone, Copy)]
 pub struct Graphics {
     pub old: bool,
     pub header: Header,
@@ -77,7 +79,7 @@ pub struct Graphics {
 
 // What stands open: innermost the top level (0), a block (1) or a repeat (2), its items and its height so far, how many blocks
 // are open, and of the open repeat its copies and the sheet's items before it.
-#[derive(Drop)]
+#[derive(Clone, Copy)]
 pub struct Level {
     pub inside: u64,
     pub items: u64,
@@ -88,7 +90,7 @@ pub struct Level {
 }
 
 // Flip and angle, as LM and LR give them.
-#[derive(Drop)]
+#[derive(Clone, Copy)]
 pub struct Orientation {
     pub flip: bool,
     pub angle: u64,

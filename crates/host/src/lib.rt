@@ -1,5 +1,7 @@
 // The calls for a host program in C (host/sheet.h): numbers and slices alone. Each is one call of the crate that answers, with the
 // answer turned into document 01's number and its values stored where they are asked for.
+#![tactic(auto)]
+
 ghost use Rattle.std.specs.Prelude.{◌≡◌, length};
 ghost use Rattle.attribute_call.specs.declared.Kind.TheVariants.{Aperture, Object};
 ghost use Rattle.progress.specs.Lent.{lent_of, room_of};

@@ -1,4 +1,6 @@
 // Finding a record by its number or its name without a pass over the records: a search tree in two words of each.
+#![tactic(auto)]
+
 ghost use Rattle.std.specs.Prelude.{◌≡◌, ◌+◌, ◌*◌, ◌/◌, ◌^◌, ◌≤◌, ◌<◌, length};
 ghost use Rattle.std.proofs.Math.Seq.{slice};
 ghost use Rattle.base.specs.Bytes.{same_bytes};
@@ -10,7 +12,7 @@ ghost use Rattle.index.specs.Names.{name_of, key_of, named, Named};
 pub const RECORD_WORDS: usize = 8;
 
 // The outcome of a search: the record sought, or the word of the link that is to lead to a new one.
-#[derive(Drop)]
+#[derive(Clone, Copy)]
 pub enum Search {
     At(usize),
     Free(usize),

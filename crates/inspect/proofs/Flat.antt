@@ -1,6 +1,6 @@
 -- A run of entries none of which is a repeat: it has no bodies.
 -- Assumes nothing.
-use Rattle.std.proofs.Common.{◌≡◌, ℕ, ◌+◌, ◌<◌, Bool, true, false, eqb, List, sym, ◌∙◌, not-suc-le-zero, add-zero, arith, below_more, eq-eqb, ne_eqb}
+use Rattle.std.proofs.Common.{◌≡◌, ℕ, ◌+◌, Bool, true, false, eqb, List, sym, ◌∙◌, not-suc-le-zero, add-zero, arith, below_more, eq-eqb, ne_eqb}
 use Rattle.base.specs.And.{◌and◌}
 use Rattle.base.specs.Run.{sums}
 use Rattle.base.proofs.And.{and_true, ands}

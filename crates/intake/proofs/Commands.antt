@@ -72,9 +72,9 @@ module _ (book : Book) (file : List ℕ) (short : length file < 2 ^ 64) (from at
     where
       go : (next : Way) → step book way (byte i) i ≡ next → run (settled (step book way (byte i) i) (is_end book (bare file place (i + 1)))) place (i + 1) ≡ outcome (walked place way i)
       go Between e = absurd (out e)
-      go (Inside s) e = rw (e, runs.at-inside book file place way i h e) (rest s place (omega arith))
-      go (Complete kind) e = rw (e, runs.at-complete book file place way i h e)
-      go (Bad bad) e = rw (e, runs.at-bad book file place way i h e) (bad_stays (drop (i + 1) file) (along book file (Cut (Bad bad)) from at place (i + 1)) refl)
+      go (Inside s) e = rw (e, runs.at_inside book file place way i h e) (rest s place (omega arith))
+      go (Complete kind) e = rw (e, runs.at_complete book file place way i h e)
+      go (Bad bad) e = rw (e, runs.at_bad book file place way i h e) (bad_stays (drop (i + 1) file) (along book file (Cut (Bad bad)) from at place (i + 1)) refl)
 
   inner_end : (i : ℕ) → length file ≤ i → i ≤ length file → Inner i
   unfolding answered
@@ -105,7 +105,7 @@ module _ (book : Book) (file : List ℕ) (short : length file < 2 ^ 64) (from at
   outer_next : (i : ℕ) → i < length file → (t : Bool) → is_break (byte i) ≡ t → Outer (i + 1) → Outer i
   unfolding step
   outer_next i h true e rest q =
-      rw (taken_next (between book file from at i q) file i h, skips book file short from at i h q e, runs.at-between book file i Between i h (rw e)) (rest q)
+      rw (taken_next (between book file from at i q) file i h, skips book file short from at i h q e, runs.at_between book file i Between i h (rw e)) (rest q)
   outer_next i h false e rest q =
       rw (taken_next (between book file from at i q) file i h, starts book file short from at i h q e)
       (with_byte i h Between i (omega arith) (opening_goes book (byte i) i e) (inner (length file) (i + 1) (omega arith) (omega arith)))

@@ -1,4 +1,6 @@
 // The signature of a file that comes in runs of any length, such as blocks of standard input: the file is not held.
+#![tactic(auto)]
+
 ghost use Rattle.std.specs.Prelude.{◌≡◌, if◌then◌else◌};
 ghost use Rattle.digest.specs.Runs.{finished};
 ghost use Rattle.signature.specs.Held.{nothing, text_of};
@@ -14,7 +16,7 @@ use std::num::wrapping_add_usize;
 
 // Between two bytes of the file: on the way to M02, as the scanner cuts it; after M02, with CR and LF only or with other bytes. A byte
 // that is not permitted stops the way on either side of M02.
-#[derive(Drop)]
+#[derive(Clone, Copy)]
 pub enum Stage {
     Cut(Way),
     Over,
@@ -22,7 +24,7 @@ pub enum Stage {
 }
 
 // A command: its place, the digest of what stands before it, and what is held of it.
-#[derive(Drop)]
+#[derive(Clone, Copy)]
 pub struct Piece {
     place: usize,
     before: State,
@@ -30,7 +32,7 @@ pub struct Piece {
 }
 
 // What is kept between two runs: the book, the stage, the length and the digest so far, the last command begun, and the one before it.
-#[derive(Drop)]
+#[derive(Clone, Copy)]
 pub struct Intake {
     book: Book,
     stage: Stage,

@@ -1,4 +1,6 @@
 // The file attributes of a file: the one of a name, and the one of a number in file order.
+#![tactic(auto)]
+
 ghost use Rattle.std.specs.Prelude.{◌≡◌, length, suc};
 ghost use Rattle.formats.specs.Format.{no_format};
 ghost use Rattle.sequence.specs.Commands.{commands_from};
@@ -11,21 +13,21 @@ use names::Sets;
 use sequence::{Placed, Turn};
 
 // Where the name and the value of a file attribute stand in the file; a value that is not there is at 0 to 0.
-#[derive(Drop)]
+#[derive(Clone, Copy)]
 pub struct Label {
     pub name: Span,
     pub value: Span,
 }
 
 // Document 01's number, 0 where there is such an attribute, and where it stands; places 0 where there is none.
-#[derive(Drop)]
+#[derive(Clone, Copy)]
 pub struct Answer {
     pub number: u64,
     pub label: Label,
 }
 
 // A file attribute, or none.
-#[derive(Drop)]
+#[derive(Clone, Copy)]
 pub enum Found {
     Nothing,
     Is(Label),

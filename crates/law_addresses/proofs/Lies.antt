@@ -9,7 +9,6 @@ use native.Mathlib.Omega.{arith}
 use lib.Dec.{eqb, ltb}
 use lib.ListN.{length, get_or, drop, replicate}
 use borrow.Author.Tests.{ltb-true, ltb-false, eqb-true, eqb-false, ne_eqb}
-use Rattle.base.specs.And.{◌and◌}
 use Rattle.base.specs.Or.{◌or◌}
 use Rattle.base.specs.Run.{sums}
 use Rattle.base.proofs.And.{and_l, and_r, and_i}

@@ -7,7 +7,6 @@ use mathlib.Core.List.{List, [], ◌∷◌, ◌++◌, map}
 use native.Mathlib.Numerals.{add-one}
 use native.Mathlib.Omega.{arith}
 use lib.ListN.{length}
-use Rattle.base.specs.And.{◌and◌}
 use Rattle.base.proofs.And.{and_l, and_i}
 use Rattle.place.specs.declared.Item.{Item}
 use Rattle.place.specs.Mark.{Mark, contour, edge, Sheet, with_count, written}

@@ -1,6 +1,6 @@
 -- Each mark that is put, or closes what is open, is shown by the store after those before it.
 -- Assumes nothing.
-use Prim.Native.Nat.{ℕ, suc, ◌+◌, ◌-◌, ◌%◌, ◌≤◌, ◌<◌}
+use Prim.Native.Nat.{ℕ, suc, ◌+◌, ◌%◌, ◌≤◌, ◌<◌}
 use mathlib.Core.Path.{◌≡◌, refl}
 use mathlib.Core.Bool.{Bool, true, false, cond}
 use mathlib.Core.List.{List, [], ◌∷◌, ◌++◌}
@@ -13,7 +13,7 @@ use Rattle.place.specs.declared.Item.{Item}
 use Rattle.place.specs.declared.Pose.{Pose}
 use Rattle.place.specs.declared.Repeat.{Repeat}
 use Rattle.place.specs.Parts.{none, item}
-use Rattle.place.specs.Mark.{Mark, flash, begin, block, repeat, edges, Sheet, put, closed, marked, written}
+use Rattle.place.specs.Mark.{Mark, flash, begin, block, repeat, edges, Sheet, put, marked, written}
 use Rattle.place.specs.Placing.{quarter_turn, PoseWithin, ItemWithin}
 use Rattle.place.proofs.Marks.{written_append}
 use Rattle.sheet.specs.Records.{entry_room, aperture_of, role_of}

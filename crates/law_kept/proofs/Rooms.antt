@@ -55,12 +55,14 @@ data Looser : Table → Table → Type 0 where
 
 -- what is broken of the second is broken of the first, and what is broken of the first and is not 17 is broken of the second
 looser_broken : {n : ℕ} {rows rows' : Table} → Looser rows rows' → Broken n rows' → Broken n rows
+looser_broken end b = elim b [ ]
 looser_broken (same l) (here e q) = here e q
 looser_broken (same l) (further b) = further (looser_broken l b)
 looser_broken (roomier m l) (here e q) = here (m e) q
 looser_broken (roomier m l) (further b) = further (looser_broken l b)
 
 looser_kept : {n : ℕ} {rows rows' : Table} → Looser rows rows' → (n ≡ 17 → ⊥) → Broken n rows → Broken n rows'
+looser_kept end other b = elim b [ ]
 looser_kept (same l) other (here e q) = here e q
 looser_kept (same l) other (further b) = further (looser_kept l other b)
 looser_kept (roomier m l) other (here e q) = absurd (other (sym q))

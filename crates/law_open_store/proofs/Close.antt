@@ -1,7 +1,7 @@
 -- A block or a repeat that closes keeps what holds while a store is built.
 -- Assumes nothing.
 use Prim.Native.Nat.{ℕ, suc, ◌+◌, ◌-◌, ◌*◌, ◌/◌, ◌≤◌, ◌<◌}
-use mathlib.Core.Path.{◌≡◌, refl, sym, ap, ◌∙◌}
+use mathlib.Core.Path.{◌≡◌, refl, sym, ap, subst, ◌∙◌}
 use mathlib.Core.Bool.{Bool, true, false, false≢true}
 use mathlib.Core.List.{List, ◌∷◌}
 use native.Mathlib.Nat.{add-zero, le_refl, mul-pos, mul-le-mul_right, le-div_iff_mul-le}
@@ -150,7 +150,8 @@ module _ (blocks : List (ℕ × Parts)) (here before : Parts) (around : Around) 
       other_shows c l ne q is known =
           block_shows e a room closed (start - 1) n b built.blocks_ok n (closed + len) e' a' agree (le_refl _) (omega arith) c l (sym (others c ne)) q 8
           ∙ built.blocks_show c l q
-          ∙ rw (others c ne, ne_eqb (aperture_of a c).number m (λ z. ne (built.distinct c b l known (z ∙ sym is))))
+          ∙ subst (λ (x : Aperture). parts_of (aperture_of a c).number blocks ≡ parts_of x.number ((m, here) ∷ blocks)) (sym (others c ne))
+          (rw (ne_eqb (aperture_of a c).number m (λ z. ne (built.distinct c b l known (z ∙ sym is)))))
 
       outer : 1 ≤ start → b < n → Opened e a room n closed b around before (start - 1) o.sx o.sy o.before built.bodies →
           Opened e' a' room n (closed + len) n around before start o.sx o.sy o.before built.bodies

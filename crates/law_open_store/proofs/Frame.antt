@@ -7,7 +7,6 @@ use mathlib.Core.List.{List}
 use native.Mathlib.Nat.{zero-add, le_refl}
 use native.Mathlib.Omega.{arith}
 use borrow.Author.Tests.{leb-true, le-leb, lt-ltb}
-use Rattle.base.specs.And.{◌and◌}
 use Rattle.base.specs.Run.{sums}
 use Rattle.base.proofs.And.{and_l, and_r, and_i}
 use Rattle.base.proofs.Run.{sums_cong}

@@ -1,1 +1,2 @@
 // What holds while a store is built, and how each mark keeps it: specs/ has the invariant, proofs/ the steps. No code.
+#![tactic(auto)]

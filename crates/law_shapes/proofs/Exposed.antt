@@ -37,6 +37,7 @@ use Rattle.command_rules.specs.Rules.{aperture_fault}
 use Rattle.law_reading.specs.State.{Room, Aperture, Template, State, begun}
 use Rattle.law_reading.specs.Apertures.{block, is_taken, is_standard, values_of, blocks_of, Outcome, outcome_of, defined, block_of}
 use Rattle.law_reading.specs.Steps.{part, with_apertures, with_numbers, aperture_step, definition_step, step_of}
+use Rattle.law_reading.specs.Reading.{step_at}
 use Rattle.law_kept.specs.Kept.{Keeps, nothing, one, Reached, KeepsRules}
 use Rattle.progress.specs.Tables.{as_stored, as_read}
 use Rattle.reader.specs.Leaves.{Leaves}
@@ -271,7 +272,7 @@ module _ (file head e a m : List ℕ) (n : List ℤ) (t : State) (leaves : Leave
 -- the commands after those that lead to a state lead on from it
 keeps_behind : {room : Room} {file : List ℕ} {s u t : State} (xs ys : List Placed) → Keeps room file s xs u → Keeps room file s (xs ++ ys) t → Keeps room file u ys t
 keeps_behind [] ys nothing k = k
-keeps_behind (x ∷ xs) ys (one e rest) (one f k) = keeps_behind xs ys rest k
+keeps_behind {room = room} {file = file} {s = s} (x ∷ xs) ys (one e rest) (one f k) = keeps_behind {s = (step_at room file x s).next} xs ys rest k
 
 begun_tidy : (book : Book) → Tidy (begun book).apertures (begun book).opened (begun book).numbers
 unfolding begun

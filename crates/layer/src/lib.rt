@@ -1,11 +1,13 @@
 // What the commands of a file are to a placement list; specs/ has the attributes that it asks for, and the parts of a layer.
+#![tactic(auto)]
+
 ghost use Rattle.std.specs.Prelude.{◌≡◌};
 ghost use Rattle.layer.specs.Made.{made_by_operation, made_by_definition, made_by_deed, made_of};
 
 use command::{Command, Deed, Definition, Operation, Span};
 
 // An item, by D01 or D03; an aperture with its number, by AD; a file attribute, its name and its value in the text, by TF; or none of these.
-#[derive(Drop)]
+#[derive(Clone, Copy)]
 pub enum Made {
     Item,
     Aperture(u64),

@@ -1,9 +1,11 @@
 // Letters beyond ASCII: well-formed UTF-8 from U+0080 up, byte by byte, a lead and the bytes that follow it.
+#![tactic(auto)]
+
 ghost use Rattle.std.specs.Prelude.{◌≡◌};
 ghost use Rattle.letters.specs.Table.{within, follow, nothing, lead_of, is_whole, takes, fed};
 
 // What must follow: `left` bytes, the first of them from low to high, the others from 80 to BF. Nothing where left is 0.
-#[derive(Drop)]
+#[derive(Clone, Copy)]
 pub struct Follow {
     low: u8,
     high: u8,

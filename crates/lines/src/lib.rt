@@ -1,4 +1,6 @@
 // The listing's lines, as bytes in a lent room.
+#![tactic(auto)]
+
 ghost use Rattle.std.specs.Prelude.{◌≡◌, ◌+◌, ◌≤◌, ◌++◌, length, drop};
 ghost use Rattle.io.specs.Counts.{IsPrefixLen};
 ghost use Rattle.lines.specs.Line.{Added, decimal_of, signed_of, kind_of, field_of, line_of};
@@ -8,7 +10,9 @@ pub fn add(out: &mut [u8], at: usize, s: &[u8]) -> usize
     requires { at + length s.now ≤ length out.old }
     ensures { Added out.old out.new at result s.now }
 {
-    at + bytes::copy(s, &mut out[at..])
+    let end = at + s.len();
+    out[at..end].copy_from_slice(s);
+    end
 }
 
 // A number of digits alone.

@@ -1,4 +1,6 @@
 // The placement list written into a lent room. Where it does not fit the pen is full, and stays so.
+#![tactic(auto)]
+
 ghost use Rattle.std.specs.Prelude.{◌++◌, List, ◌≡◌, false, ℕ, ◌≤◌, length};
 ghost use Rattle.text.specs.Text.{text};
 ghost use Rattle.law_components.specs.Records.{numeral, point_text, main_row, pin_row};

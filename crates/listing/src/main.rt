@@ -1,9 +1,15 @@
 // The listing of the file on standard input (01, The listing, whole): how many items it has and a line for each, or the refusal.
+#![tactic(auto)]
+
 ghost use Rattle.std.specs.Prelude.{◌+◌, ◌≤◌, ◌^◌, ◌<◌};
 
 use descend::Total;
-use libc::{STDIN_FILENO, STDOUT_FILENO};
 use reader::Answer;
+
+// Standard input, by its number.
+const STDIN_FILENO: i32 = 0;
+// Standard output, by its number.
+const STDOUT_FILENO: i32 = 1;
 
 // A word and a number after it, tab-parted.
 fn say(word: &[u8], n: u64) {

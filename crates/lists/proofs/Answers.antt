@@ -1,8 +1,8 @@
 -- The number and the slots, from what a valid store's counts and the descent say.
 -- Assumes nothing.
-use Prim.Native.Nat.{ℕ, ◌+◌, ◌-◌, ◌≤◌, ◌<◌}
+use Prim.Native.Nat.{ℕ, ◌+◌, ◌≤◌, ◌<◌}
 use native.Mathlib.Omega.{arith}
-use mathlib.Core.Path.{◌≡◌, refl, sym, ◌∙◌, ap}
+use mathlib.Core.Path.{◌≡◌, refl, sym, ◌∙◌}
 use mathlib.Core.Bool.{Bool, true, false, cond}
 use mathlib.Core.List.{List, []}
 use lib.Dec.{ltb}
@@ -15,7 +15,6 @@ use Rattle.sheet.specs.Meaning.{items, sheet_items}
 use Rattle.sheet.specs.Valid.{valid}
 use Rattle.sheet.proofs.Expand.{length_sheet}
 use Rattle.descend.specs.Slots.{fetch_of, fetch_number}
-use Rattle.descend.specs.declared.Fetch.{Fetch}
 use Rattle.descend.specs.declared.Fetch.TheVariants as F
 use Rattle.lists.specs.Lists.{number_of, held, slot_of}
 

@@ -1,4 +1,3 @@
 pub mod Answers
 pub mod Upto
 pub mod Joined
-pub mod Lent

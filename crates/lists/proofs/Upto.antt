@@ -7,8 +7,9 @@ use native.Mathlib.Omega.{arith}
 use native.Mathlib.Nat.{add-zero, add-suc, suc-add}
 use mathlib.Core.Path.{◌≡◌, refl, sym, ◌∙◌, ap}
 use mathlib.Core.List.{List, [], ◌∷◌, ◌++◌}
-use lib.ListN.{length, set, length-set, take, drop, replicate, length-append, take-append-drop, length-replicate, replicate-append-replicate}
+use lib.ListN.{length, set, length-set, take, drop, replicate, length-replicate, replicate-append-replicate}
 use lib.Seq.{drop_at}
+use Rattle.std.proofs.lemmas.List.{length-take-le}
 use Rattle.base.specs.Run.{run}
 use Rattle.place.specs.declared.Item.{Item}
 use Rattle.place.specs.Item.{zero_item}
@@ -58,11 +59,16 @@ pub filled_is : (head e a : List ℕ) (k n : ℕ) → tab (λ (i : ℕ). slot_of
 unfolding filled
 filled_is head e a k n = listed_is (held head e a) k n
 
--- m slots of an array are changed and the others not: it is as long as before
-pub whole_long : (m : ℕ) (l ys : List Item) → length l ≡ length (take m ys) → length (l ++ drop m ys) ≡ length ys
-whole_long m l ys e = length-append l (drop m ys) ∙ ap (λ (j : ℕ). j + length (drop m ys)) e ∙ sym (length-append (take m ys) (drop m ys)) ∙ ap (λ (t : List Item). length t) (take-append-drop m ys)
-
 pub rest_zeros : (m : ℕ) → m ≤ 8 → drop m (replicate 8 zero_item) ≡ replicate (8 - m) zero_item
 rest_zeros m l =
     let q : 8 ≡ m + (8 - m) = omega arith in
     ap (λ (j : ℕ). drop m (replicate j zero_item)) q ∙ ap (drop m) (sym (replicate-append-replicate m (8 - m) zero_item)) ∙ drop_at (replicate m zero_item) (replicate (8 - m) zero_item) m (length-replicate m zero_item)
+
+-- the first m slots of an array of zero items are filled, and the others are not
+pub front_filled : (head e a : List ℕ) (k m : ℕ) (zs ys : List Item) → m ≤ 8 → zs ≡ replicate 8 zero_item → ys ≡ filled head e a k (length (take m zs)) →
+    ys ++ drop m zs ≡ filled head e a k m ++ replicate (8 - m) zero_item
+front_filled head e a k m zs ys le z q =
+    let eight : length zs ≡ 8 = ap length z ∙ length-replicate 8 zero_item in
+    let long : length (take m zs) ≡ m = length-take-le m zs (omega arith) in
+    ap (λ (l : List Item). l ++ drop m zs) (q ∙ ap (filled head e a k) long)
+    ∙ ap (λ (l : List Item). filled head e a k m ++ l) (ap (drop m) z ∙ rest_zeros m le)

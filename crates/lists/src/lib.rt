@@ -1,4 +1,6 @@
 // Items of a sheet in a list that the caller lends. The functions that take the list are thin: what a slot holds is `slot`'s matter.
+#![tactic(auto)]
+
 ghost use Rattle.std.specs.Prelude.{◌≡◌, ◌+◌, ◌≤◌, min, length, replicate};
 ghost use Rattle.place.specs.Item.{zero_item};
 ghost use Rattle.lists.specs.Lists.{number_of, held, slot_of, filled, batch_of};
@@ -48,7 +50,7 @@ pub fn fill(list: &mut [Item], head: &[u64; 8], e: &[u64], a: &[u64], k: u64) ->
 }
 
 // Eight slots, and the number of the call that filled them.
-#[derive(Drop)]
+#[derive(Clone, Copy)]
 pub struct Batch {
     pub number: u64,
     pub items: [Item; 8],

@@ -1,5 +1,7 @@
 // AM's form (4), the range of its numbers (5) and its depth (15), the lowest of the whole command, and how many of its decimals were
 // rounded.
+#![tactic(auto)]
+
 ghost use Rattle.std.specs.Prelude.{◌≡◌, ◌+◌, ◌-◌, ◌<◌, ◌^◌, drop};
 ghost use Rattle.macro_form.specs.Blocks.{joined, numbered, primitive_form, assignment_form, block_form, blocks_form};
 ghost use Rattle.macro_form.specs.Expression.{after_operand, after_operator, opened, closed, unknown, step, finished, expression_form};
@@ -10,7 +12,7 @@ use macro_tokens::Token;
 
 // What is wrong with a text: not of its form (4), a number out of its range (5), parentheses too deep (15); and how many of its decimals
 // were rounded.
-#[derive(Drop)]
+#[derive(Clone, Copy)]
 pub struct Form {
     pub formless: bool,
     pub long: bool,
@@ -20,7 +22,7 @@ pub struct Form {
 
 // How far an expression was walked through: what is wrong so far, the parentheses that are open, whether an operand stands just
 // before, whether a sign may stand here, and how many decimals were rounded.
-#[derive(Drop)]
+#[derive(Clone, Copy)]
 pub struct Walk {
     pub formless: bool,
     pub long: bool,

@@ -1,4 +1,6 @@
 // The text of a macro: its line ends, and the tokens of an expression.
+#![tactic(auto)]
+
 ghost use Rattle.std.specs.Prelude.{◌≡◌, not};
 ghost use Rattle.text.specs.First.{first};
 ghost use Rattle.macro_tokens.specs.LineEnds.{without_leading, without_trailing};
@@ -9,7 +11,7 @@ use command::{Number, Size};
 use digits::Natural;
 
 // What a word of an expression is. A number and a variable say whether they have their form and keep their range.
-#[derive(Drop)]
+#[derive(Clone, Copy)]
 pub enum Token {
     End,
     Number(Size),
@@ -24,7 +26,7 @@ pub enum Token {
 }
 
 // The token at a place, and where the next one stands.
-#[derive(Drop)]
+#[derive(Clone, Copy)]
 pub struct Lexeme {
     pub token: Token,
     pub next: usize,

@@ -1,4 +1,6 @@
 // AD's working out of a macro: its blocks in order, and the numbers that its primitives leave.
+#![tactic(auto)]
+
 ghost use Rattle.std.specs.Prelude.{◌≡◌, ◌-◌, length, drop, set};
 ghost use Rattle.expression.specs.Reading.{Fits};
 ghost use Rattle.macros.specs.Given.{variables_of};
@@ -12,21 +14,21 @@ use primitives::Asked;
 use reckon::Reckoned;
 
 // Where the next number is written, and whether there was no room for one.
-#[derive(Drop)]
+#[derive(Clone, Copy)]
 pub struct Pen {
     pub at: usize,
     pub over: bool,
 }
 
 // The value of an expression, if it has one.
-#[derive(Drop)]
+#[derive(Clone, Copy)]
 pub struct Worth {
     pub fine: bool,
     pub value: Amount,
 }
 
 // A primitive's parameters: whether each has a value, what the rules ask of them, and the pen after them.
-#[derive(Drop)]
+#[derive(Clone, Copy)]
 pub struct Gathered {
     pub fine: bool,
     pub asked: Asked,
@@ -34,7 +36,7 @@ pub struct Gathered {
 }
 
 // A block, or all of them: what is at fault (0, 9 or 10), the variables and the pen after it.
-#[derive(Drop)]
+#[derive(Clone, Copy)]
 pub struct Done {
     pub fault: u64,
     pub variables: Variables,
@@ -42,7 +44,7 @@ pub struct Done {
 }
 
 // What an AD answers: 0, 9, 10 or 17, and the numbers that are used.
-#[derive(Drop)]
+#[derive(Clone, Copy)]
 pub struct Outcome {
     pub number: u64,
     pub used: usize,

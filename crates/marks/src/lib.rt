@@ -1,4 +1,6 @@
 // The items that D01 and D03 draw, and how a block is flashed.
+#![tactic(auto)]
+
 ghost use Rattle.std.specs.Prelude.{◌≡◌, ◌≤◌};
 ghost use Rattle.arcs.specs.Near.{Near};
 ghost use Rattle.marks.specs.Items.{drawn, edge, contour, flashed, pose};

@@ -1,4 +1,6 @@
 // The call that mends a file: its changes are made, the mended file is read into the lent stores, and both are there, or zeros everywhere.
+#![tactic(auto)]
+
 ghost use Rattle.std.specs.Prelude.{◌≡◌, pos, length, replicate, take};
 ghost use Rattle.sequence.specs.Rounded.{rounded_in};
 ghost use Rattle.law_reading.specs.Reading.{reading};
@@ -13,7 +15,7 @@ use mending::Written;
 
 // So many bytes of the mended file, so many changes, the unit of its sheet, 1 mm or 2 inch, and how many decimals were rounded; or a
 // number, whose place is 0.
-#[derive(Drop)]
+#[derive(Clone, Copy)]
 pub enum Answer {
     Mended {
         bytes: usize,

@@ -1,4 +1,6 @@
 // Mending a broken file: its changes, and what they make of it, in one pass over its complete commands.
+#![tactic(auto)]
+
 ghost use Rattle.std.specs.Prelude.{◌≡◌, drop, length, take, replicate, ◌++◌, ◌≤◌};
 ghost use Rattle.mending.specs.Extents.{pieces, extent_of, closing};
 ghost use Rattle.std.proofs.Math.Seq.{slice};
@@ -14,7 +16,7 @@ use book::Book;
 // A file cut into its complete commands by extent alone, whatever their bytes: from a place in the file, the next one.
 
 // The next complete command is place..next, with its `*` or its two `%`; or what is left holds none.
-#[derive(Drop)]
+#[derive(Clone, Copy)]
 pub enum Extent {
     Command { place: usize, next: usize },
     Rest,
@@ -61,7 +63,7 @@ fn is_closing(book: Book, c: &[u8]) -> bool
 // The changes, and the mended file.
 
 // So many bytes of the mended file and so many changes; the report does not fit into what is lent, or the mended file does not.
-#[derive(Drop)]
+#[derive(Clone, Copy)]
 pub enum Written {
     Both { bytes: usize, changes: usize },
     File { bytes: usize },
@@ -69,14 +71,14 @@ pub enum Written {
 }
 
 // So many words are noted; or some did not fit.
-#[derive(Drop)]
+#[derive(Clone, Copy)]
 pub struct Tally {
     pub k: usize,
     pub reported: bool,
 }
 
 // A part of the file.
-#[derive(Drop)]
+#[derive(Clone, Copy)]
 pub struct Span {
     pub from: usize,
     pub to: usize,

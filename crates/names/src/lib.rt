@@ -1,4 +1,6 @@
 // Where a name of a file attribute is set twice, and where a name is first set, found by walks over a file's commands.
+#![tactic(auto)]
+
 ghost use Rattle.std.specs.Prelude.{◌≡◌, ◌≤◌, ◌<◌, min, length, replicate};
 ghost use Rattle.std.proofs.Math.Seq.{slice};
 ghost use Rattle.index.specs.Names.{Named};
@@ -15,14 +17,14 @@ use register::Found;
 use scan::{Kind, Scan};
 
 // What a command sets of the file's attributes, with the place of the name in its text.
-#[derive(Drop)]
+#[derive(Clone, Copy)]
 pub enum Sets {
     Nothing,
     Name(Span),
 }
 
 // What stands next: no command; one that sets no name; a TF, its name from..to in the file.
-#[derive(Drop)]
+#[derive(Clone, Copy)]
 pub enum Look {
     End,
     Other {
@@ -37,7 +39,7 @@ pub enum Look {
 }
 
 // A name was set before; or is new and kept, which makes so many that are; or is new and finds no room.
-#[derive(Drop)]
+#[derive(Clone, Copy)]
 pub enum Noted {
     Again,
     New(usize),
@@ -46,7 +48,7 @@ pub enum Noted {
 
 // What a walk finds: the place of the first TF that sets a name which the walk has kept, the length of the file where none does; and from
 // where on the names were not kept, the length of the file where all were.
-#[derive(Drop)]
+#[derive(Clone, Copy)]
 pub struct Pass {
     pub found: usize,
     pub rest: usize,

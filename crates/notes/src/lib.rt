@@ -1,4 +1,6 @@
 // What is noted of each D01 and D03: its place, and where its object attributes lie in the file. Notes stand in the order of their places.
+#![tactic(auto)]
+
 ghost use Rattle.std.specs.Prelude.{◌≡◌, ◌+◌, ◌*◌, ◌≤◌, ◌<◌, min, get_or, length, take, drop, []};
 ghost use Rattle.command.specs.Span.{span};
 ghost use Rattle.sheet.specs.Records.{stored};
@@ -20,7 +22,7 @@ pub const NOTE_WORDS: usize = 13;
 
 // The place of the command; its designators by `.C` and by `.P`, each one more than the number of its record, and 0 where the name is not
 // held; where the pin's number and the other texts lie in the file.
-#[derive(Drop)]
+#[derive(Clone, Copy)]
 pub struct Note {
     pub place: u64,
     pub component: u64,
@@ -193,7 +195,7 @@ pub fn number_after(file: &[u8], old: Span, s: Saying) -> Span
 }
 
 // A designator as it is noted, and how many are kept.
-#[derive(Drop)]
+#[derive(Clone, Copy)]
 pub struct Designated {
     pub word: u64,
     pub used: usize,

@@ -59,6 +59,7 @@ means_placed place m = record {
 -- a D01 or D03 among these commands, or the next one
 makes_snoc : (place : ℕ) (cs : List Placed) (c : Placed) {A : Type 0} → Makes place (cs ++ (c ∷ [])) → (Makes place cs → A) → (made_of c.command ≡ Item → c.place ≡ place → A) → A
 makes_snoc place [] c (here e q) old new = new e q
+makes_snoc place [] c (there m) old new = elim m [ ]
 makes_snoc place (d ∷ cs) c (here e q) old new = old (here {c = d} e q)
 makes_snoc place (d ∷ cs) c (there m) old new = makes_snoc place cs c m (λ k. old (there {c = d} k)) new
 

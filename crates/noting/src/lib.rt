@@ -1,4 +1,6 @@
 // One pass over a file's commands: of each D01 and D03 its attributes are noted, of each AD what its aperture is for.
+#![tactic(auto)]
+
 ghost use Rattle.std.specs.Prelude.{◌≡◌, true, ◌+◌, ◌≤◌};
 ghost use Rattle.scan.specs.Permitted.{fits};
 ghost use Rattle.sequence.specs.Commands.{commands_of};
@@ -20,7 +22,7 @@ use sheet::Aperture;
 
 // What is known between two commands: the object attributes that are held, as they would be noted; what `.AperFunction` says; whether the layer
 // is a component layer; how many D01 and D03, TO of `.C` or `.P`, and AD came; how many records the two tables have.
-#[derive(Drop)]
+#[derive(Clone, Copy)]
 pub struct Noting {
     pub said: Note,
     pub function: u64,
@@ -33,7 +35,7 @@ pub struct Noting {
 }
 
 // Both designators as they are noted, how many are kept, and how many of the two were set.
-#[derive(Drop)]
+#[derive(Clone, Copy)]
 pub struct Both {
     pub component: u64,
     pub pin: u64,
@@ -42,7 +44,7 @@ pub struct Both {
 }
 
 // All texts as they are noted, likewise.
-#[derive(Drop)]
+#[derive(Clone, Copy)]
 pub struct Heard {
     pub note: Note,
     pub used: usize,

@@ -1,4 +1,6 @@
 // The calls on a file whose book is named by two numbers, as a host in C names it: a number that names nothing is answered and not trusted.
+#![tactic(auto)]
+
 ghost use Rattle.std.specs.Prelude.{◌≡◌, length};
 ghost use Rattle.progress.specs.Lent.{lent_of, room_of};
 ghost use Rattle.reader.specs.Reads.{Reads};
@@ -12,7 +14,7 @@ use attribute_call::{Answer, Kind};
 use book::{Book, Edition, Letters};
 
 // The book that is named, or none.
-#[derive(Drop)]
+#[derive(Clone, Copy)]
 pub enum Choice {
     By(Book),
     Unknown,

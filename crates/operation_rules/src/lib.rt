@@ -1,4 +1,6 @@
 // The rules of D01, D02, D03 and G37: the number of the first that is broken, 0 where all are kept.
+#![tactic(auto)]
+
 ghost use Rattle.std.specs.Prelude.{◌≡◌, not, ◌+◌, ◌*◌, leb};
 ghost use Rattle.operation_rules.specs.Counts.{most, too_many};
 ghost use Rattle.base.specs.Faults.{first_fault};

@@ -1,4 +1,6 @@
 // Whether an operation fits the state: each test is one of document 01's sentences about 6, 11 and 13 to 15, or document 02's about 5 and 29.
+#![tactic(auto)]
+
 ghost use Rattle.std.specs.Prelude.{◌≡◌, ◌<◌, ◌^◌, leb, nat_abs, ◌+ℤ◌};
 ghost use Rattle.base.specs.Or.{◌or◌};
 ghost use Rattle.points.specs.Points.{pt};

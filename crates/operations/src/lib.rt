@@ -1,4 +1,6 @@
 // Operations: D01, D02 and D03 with their coordinates.
+#![tactic(auto)]
+
 ghost use Rattle.std.specs.Prelude.{◌≡◌, ◌≤◌, get_or};
 ghost use Rattle.digits.specs.Sign.{is_sign};
 ghost use Rattle.formats.specs.Format.{exact_places};
@@ -13,7 +15,7 @@ use points::Point;
 
 // One coordinate of an operation as it is written: whether it is there, whether it is none, whether it has too many digits, whether it
 // has a sign, and its value, which is 0 without one.
-#[derive(Drop)]
+#[derive(Clone, Copy)]
 pub struct Field {
     pub given: bool,
     pub formless: bool,
@@ -23,14 +25,14 @@ pub struct Field {
 }
 
 // A field, and the place after it.
-#[derive(Drop)]
+#[derive(Clone, Copy)]
 pub struct TakenField {
     pub field: Field,
     pub next: usize,
 }
 
 // The coordinates of an operation, and whether bytes are left after them.
-#[derive(Drop)]
+#[derive(Clone, Copy)]
 pub struct Fields {
     pub x: Field,
     pub y: Field,
@@ -40,7 +42,7 @@ pub struct Fields {
 }
 
 // An operation as it is written: whether it is not of its form (4), whether a coordinate of it has too many digits (5), and what it says.
-#[derive(Drop)]
+#[derive(Clone, Copy)]
 pub struct Written {
     pub formless: bool,
     pub long: bool,

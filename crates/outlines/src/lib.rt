@@ -1,4 +1,6 @@
 // What commands do about regions, and which of them begins a contour, by their texts alone.
+#![tactic(auto)]
+
 ghost use Rattle.std.specs.Prelude.{◌≡◌};
 ghost use Rattle.outlines.specs.Outlines.{outline, still, newer_outline, word_outline, outline_of};
 ghost use Rattle.outlines.specs.Regions.{region_after, begins_contour};
@@ -7,14 +9,14 @@ use book::Book;
 use films::Word;
 
 // Where a command stands: in a region or not, and whether a D01 came since the last G36 or D02.
-#[derive(Drop)]
+#[derive(Clone, Copy)]
 pub struct Region {
     pub inside: bool,
     pub drawn: bool,
 }
 
 // What a command does: opens or closes a region, moves, draws. By the old book a code and an operation in one command do both.
-#[derive(Drop)]
+#[derive(Clone, Copy)]
 pub struct Outline {
     pub opens: bool,
     pub closes: bool,

@@ -1,4 +1,6 @@
 // The passes over the items of a component layer: the first at fault, and the pins of each main.
+#![tactic(auto)]
+
 ghost use Rattle.std.specs.Prelude.{◌≡◌, cond, ◌+◌, ◌/◌, ◌<◌, length};
 ghost use Rattle.law_components.specs.Parts.{is_outline};
 ghost use Rattle.law_components.specs.Pass.{goes_on, is_open, outline_after, step_fault, end_fault, no_outline};

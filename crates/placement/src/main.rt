@@ -1,5 +1,12 @@
 // The placement list of the component layer on standard input (02, [4]), or the refusal.
-use libc::{STDIN_FILENO, STDOUT_FILENO};
+#![tactic(auto)]
+
+ghost use Rattle.std.specs.Prelude.{◌≡◌, length};
+
+// Standard input, by its number.
+const STDIN_FILENO: i32 = 0;
+// Standard output, by its number.
+const STDOUT_FILENO: i32 = 1;
 
 // A word and a number after it, tab-parted.
 fn say(word: &[u8], n: u64) {
@@ -20,6 +27,13 @@ fn is_more() -> bool {
     io::read_full(STDIN_FILENO, &mut block) > 0
 }
 
+// 524,288 zeros, the room for the list. The `ensures` gives only the length, which lending the array as a slice needs.
+fn out_room() -> [u8; 524288]
+    ensures { 524288 ≡ length result }
+{
+    [0; 524288]
+}
+
 // Prints the list of a file by the newer edition and the old rule of letters. A file of 65,536 bytes has no more D01, D03, AD and TO of `.C` or
 // `.P` than there is room for here.
 fn list(file: &[u8]) {
@@ -32,7 +46,7 @@ fn list(file: &[u8]) {
     let mut names = [0u64; 76800];
     let mut roles = [0u64; 65536];
     let mut pins = [0u64; 65536];
-    let mut out = [0u8; 524288];
+    let mut out = out_room();
     let a = placement_call::placement(
         book::ascii(),
         file,

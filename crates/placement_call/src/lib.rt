@@ -1,4 +1,6 @@
 // The call for a placement list: reads the file, and lists the parts of a component layer, or refuses; nothing is trusted.
+#![tactic(auto)]
+
 ghost use Rattle.std.specs.Prelude.{◌≡◌, ◌/◌, ltb, length, replicate};
 ghost use Rattle.base.specs.Or.{◌or◌};
 ghost use Rattle.progress.specs.Lent.{lent_of};

@@ -1,4 +1,6 @@
 // The placement list of a component layer whose sheet is read and whose commands are noted, or its refusal.
+#![tactic(auto)]
+
 ghost use Rattle.std.specs.Prelude.{◌≡◌, true, false, ◌/◌, length, replicate};
 ghost use Rattle.law_components.specs.Chain.{link_width};
 ghost use Rattle.seeing.specs.Layer.{parts};
@@ -9,7 +11,7 @@ use noting::Noting;
 use sheet::Container;
 
 // Document 01's number, 0 for a list, with the place; and how many bytes the list has.
-#[derive(Drop)]
+#[derive(Clone, Copy)]
 pub struct Answer {
     pub number: u64,
     pub place: usize,

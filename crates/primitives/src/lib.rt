@@ -1,4 +1,6 @@
 // The rules of a macro's primitives (10), on the outcome of their parameters.
+#![tactic(auto)]
+
 ghost use Rattle.std.specs.Prelude.{◌≡◌, cond, [], ◌+◌, ◌<◌, ◌^◌, nat_abs};
 ghost use Rattle.ints.specs.Ints.{eq_z};
 ghost use Rattle.reckon.specs.Thermal.{thermal_fits};
@@ -9,7 +11,7 @@ ghost use Rattle.primitives.specs.Rules.{exposure, whole_between, circle, vector
 use decimal::Amount;
 
 // What the rules ask of a primitive's parameters: how many there are, the first five and the last three, each 0 where there is none.
-#[derive(Drop)]
+#[derive(Clone, Copy)]
 pub struct Asked {
     pub count: u64,
     pub first: Amount,

@@ -1,4 +1,6 @@
 // How far reading has come, beside the words of the lent rooms. No reference stands in it, and it goes by value from step to step.
+#![tactic(auto)]
+
 ghost use Rattle.std.specs.Prelude.{◌≡◌};
 ghost use Rattle.progress.specs.Levels.{level_of};
 ghost use Rattle.progress.specs.Parts.{with_graphics, with_builder, with_contour, with_depth, with_repeat, with_apertures, with_macros, with_numbers};
@@ -10,7 +12,7 @@ use points::Point;
 
 // How far the entries are built, and where on their stack the open contour stands; how many blocks are open; of the open repeat its
 // copies and the sheet's items before it; how many apertures, macros and numbers are used.
-#[derive(Drop)]
+#[derive(Clone, Copy)]
 pub struct Progress {
     pub graphics: Graphics,
     pub builder: Builder,
@@ -24,7 +26,7 @@ pub struct Progress {
 }
 
 // The outcome of a command: how far reading has come after it, or the number of the first rule that it breaks.
-#[derive(Drop)]
+#[derive(Clone, Copy)]
 pub enum Stepped {
     Next(Progress),
     Fault(u64),
@@ -32,7 +34,7 @@ pub enum Stepped {
 
 // What an operation changes: the current point, the region, how far the entries are built, and where on their stack the open contour
 // stands.
-#[derive(Drop)]
+#[derive(Clone, Copy)]
 pub struct Stroke {
     pub at: Point,
     pub region: Region,
@@ -41,7 +43,7 @@ pub struct Stroke {
 }
 
 // The outcome of an operation: what it changes, or the number of the first rule that it breaks. `Other`: the command is no operation.
-#[derive(Drop)]
+#[derive(Clone, Copy)]
 pub enum Struck {
     Next(Stroke),
     Fault(u64),

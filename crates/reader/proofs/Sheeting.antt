@@ -85,10 +85,10 @@ module _ (w : Lent) (p : Progress) (s : State) (k : Knows w p s) (kept : end_fau
   rooms = let l = k.apertures.indexed.tree.inside in omega arith
 
   apertures_long : length s.apertures ≡ p.apertures
-  apertures_long = apertures.known-long w.apertures p.apertures s.apertures k.apertures
+  apertures_long = apertures.known_long w.apertures p.apertures s.apertures k.apertures
 
   macros_long : length s.macros ≡ p.macros
-  macros_long = macros.known-long w.file w.macros p.macros s.macros k.macros
+  macros_long = macros.known_long w.file w.macros p.macros s.macros k.macros
 
   abbrev head : List ℕ
   head = head_of (unit_in p.graphics.header) p.builder p.apertures p.macros p.numbers

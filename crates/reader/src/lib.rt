@@ -1,4 +1,6 @@
 // The call for a reading: every string of bytes is read into a sheet in the lent words, or refused, and then they are all zero.
+#![tactic(auto)]
+
 ghost use Rattle.std.specs.Prelude.{true, ◌≡◌, ◌+◌, ◌≤◌, pos, length, replicate};
 ghost use Rattle.running.specs.Units.{unit_in};
 ghost use Rattle.scan.specs.Permitted.{fits};
@@ -17,7 +19,7 @@ use running::{End, Outcome, Repeat};
 
 // What a reading answers: the unit of the sheet, 1 mm or 2 inch, and how many decimals were rounded; or document 01's number and the
 // place.
-#[derive(Drop)]
+#[derive(Clone, Copy)]
 pub enum Answer {
     Accepted { unit: u64, rounded: usize },
     Refused { number: u64, place: usize },

@@ -1,4 +1,6 @@
 // What a command says, by one call for every kind of command and for both editions.
+#![tactic(auto)]
+
 ghost use Rattle.std.specs.Prelude.{◌≡◌};
 ghost use Rattle.recognise.specs.Commands.{one_block, is_unread, data_of, data_in, extended_of, command_of};
 

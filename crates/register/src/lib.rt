@@ -1,4 +1,6 @@
 // Names of a file, kept in two words each and found by a search tree: four times as many as in records of eight words.
+#![tactic(auto)]
+
 ghost use Rattle.std.specs.Prelude.{◌≡◌, ◌+◌, ◌*◌, ◌/◌, ◌%◌, ◌≤◌, ◌<◌, length, get_or, set};
 ghost use Rattle.std.proofs.Math.Seq.{slice};
 ghost use Rattle.base.specs.Bytes.{same_bytes};
@@ -11,7 +13,7 @@ ghost use Rattle.register.specs.Wide.{wide, name_words, relinked, search_of, rec
 const NAME_WORDS: usize = 2;
 
 // The outcome of a search: the record sought, or the record whose link, high or low, is to lead to a new one.
-#[derive(Drop)]
+#[derive(Clone, Copy)]
 pub enum Found {
     At(usize),
     Free { at: usize, high: bool },

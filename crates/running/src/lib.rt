@@ -1,5 +1,7 @@
 // The commands of a file in order, each read with what is known before it: up to M02, to a fault, or to a name of which the reading cannot tell
 // whether it was set before.
+#![tactic(auto)]
+
 ghost use Rattle.std.specs.Prelude.{◌≡◌, ◌<◌, length};
 ghost use Rattle.progress.specs.Lent.{lent_of};
 ghost use Rattle.running.specs.Units.{unit_in};
@@ -14,28 +16,28 @@ use progress::{Progress, Stepped, Struck};
 use sequence::{Placed, Refusal, Turn};
 
 // Where a name of TF is set twice first, the length of the file where none is, once that was looked for.
-#[derive(Drop)]
+#[derive(Clone, Copy)]
 pub enum Repeat {
     Unknown,
     At(usize),
 }
 
 // Whether a command sets a name again, and how many names are set with it; or that has to be looked for.
-#[derive(Drop)]
+#[derive(Clone, Copy)]
 pub enum Judged {
     Told { again: bool, set: usize },
     Asks,
 }
 
 // How the commands of a file end: at M02 with all rules kept, and so many decimals rounded, or at a fault.
-#[derive(Drop)]
+#[derive(Clone, Copy)]
 pub enum End {
     Sheet { progress: Progress, rounded: usize },
     Fault(Refusal),
 }
 
 // The outcome of a run over the commands: their end, or it asks where a name is set twice.
-#[derive(Drop)]
+#[derive(Clone, Copy)]
 pub enum Outcome {
     Ends(End),
     Asks,

@@ -1,4 +1,6 @@
 // An item of a sheet as a part of a component layer: what it is to the bench, and what is noted of it.
+#![tactic(auto)]
+
 ghost use Rattle.std.specs.Prelude.{◌≡◌, ◌<◌};
 ghost use Rattle.index.specs.Numbers.{Numbered};
 ghost use Rattle.law_components.specs.Parts.{is_drawn};
@@ -13,7 +15,7 @@ use points::Point;
 use sheet::Container;
 
 // What an item is to the bench, its points, its place, and what is noted of the command that made it.
-#[derive(Drop)]
+#[derive(Clone, Copy)]
 pub struct Seen {
     pub role: Role,
     pub start: Point,

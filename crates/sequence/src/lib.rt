@@ -1,4 +1,6 @@
 // The commands of a file, one after the other, with the faults 2, 3, 4, 30 and 18.
+#![tactic(auto)]
+
 ghost use Rattle.std.specs.Prelude.{◌≡◌};
 ghost use Rattle.scan.specs.Tail.{tail_of};
 ghost use Rattle.sequence.specs.Leads.{lead_of_flaw, lead_of_setting, lead_of};
@@ -10,14 +12,14 @@ use formats::Format;
 use scan::{Scan, Tail};
 
 // A refusal of the reading: document 01's number, and the place; 0 at 0 is none.
-#[derive(Drop)]
+#[derive(Clone, Copy)]
 pub struct Refusal {
     pub number: u64,
     pub place: usize,
 }
 
 // A command of the file: where it begins, its text from..end, and what it says.
-#[derive(Drop)]
+#[derive(Clone, Copy)]
 pub struct Placed {
     pub place: usize,
     pub from: usize,
@@ -26,7 +28,7 @@ pub struct Placed {
 }
 
 // How a command leads on.
-#[derive(Drop)]
+#[derive(Clone, Copy)]
 pub enum Lead {
     // to 4 or 30
     Broken(u64),
@@ -36,7 +38,7 @@ pub enum Lead {
 }
 
 // What stands next: a fault; M02, with the place past it; another command, with the format from there on and the place past it.
-#[derive(Drop)]
+#[derive(Clone, Copy)]
 pub enum Turn {
     Fault(Refusal),
     Last {

@@ -1,4 +1,6 @@
 // Commands that set something or repeat it: FS, MO, LP, LM, LR, LS and SR. A text is that of one data block, without its `*`.
+#![tactic(auto)]
+
 ghost use Rattle.std.specs.Prelude.{◌≡◌};
 ghost use Rattle.settings.specs.Header.{formatted, format_of, unit_of};
 ghost use Rattle.settings.specs.Transformations.{rotation_of, scale_of, mirror_of, transformation_of};

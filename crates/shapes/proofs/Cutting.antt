@@ -2,14 +2,13 @@
 -- Assumes nothing.
 use Prim.Native.Nat.{ℕ, zero, suc, ◌+◌, ◌-◌, ◌≤◌, ◌<◌}
 use mathlib.Core.Path.{◌≡◌, refl, sym, ap, ◌∙◌}
-use mathlib.Core.Bool.{Bool, true, false, not}
-use mathlib.Core.List.{List, [], ◌∷◌}
+use mathlib.Core.Bool.{Bool, true, false}
+use mathlib.Core.List.{List, []}
 use native.Mathlib.Omega.{arith}
-use lib.Dec.{ltb, leb}
+use lib.Dec.{ltb}
 use lib.IntN.{ℤ}
 use lib.ListN.{length}
-use borrow.Author.Tests.{lt-ltb, le-ltb, ltb-true, ltb-false, leb-true}
-use Rattle.base.specs.And.{◌and◌}
+use borrow.Author.Tests.{lt-ltb, le-ltb, leb-true}
 use Rattle.base.proofs.And.{and_l, and_r}
 use Rattle.shapes.specs.Primitives.{primitive_at, behind, stands, Cut, onto, cut_from, primitives_in, counted_by, counted_as}
 use Rattle.shapes.specs.declared.Counted.{Counted}

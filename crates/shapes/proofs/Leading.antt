@@ -1,6 +1,6 @@
 -- Where the links lead, step by step; and, of a table that a reading builds, to the only record with the number, in fewer steps than allowed.
 -- Assumes nothing.
-use Prim.Native.Nat.{ℕ, zero, suc, ◌+◌, ◌-◌, ◌^◌, ◌≤◌, ◌<◌}
+use Prim.Native.Nat.{ℕ, zero, suc, ◌-◌, ◌≤◌, ◌<◌}
 use mathlib.Core.Path.{◌≡◌, refl, sym, ap, ◌∙◌}
 use mathlib.Core.Bool.{Bool, true, false}
 use mathlib.Core.List.{List}
@@ -8,9 +8,8 @@ use native.Mathlib.Omega.{arith}
 use lib.Dec.{eqb, ltb}
 use borrow.Author.Tests.{eq-eqb, ne_eqb, eqb-true, eqb-false, lt-ltb, le-ltb, ltb-true}
 use Rattle.index.specs.Tree.{bits_above, next}
-use Rattle.index.specs.Numbers.{number_of, Numbered}
+use Rattle.index.specs.Numbers.{number_of}
 use Rattle.shapes.specs.Links.{led_from, led}
-use Rattle.shapes.specs.declared.Led.{Led}
 use Rattle.shapes.specs.declared.Led.TheVariants.{At, Nobody, Astray}
 
 module _ (a : List ℕ) (used number : ℕ) where

@@ -1,9 +1,9 @@
 -- The primitives of an aperture that is found are whole, and as many as it says.
 -- Assumes nothing.
 use Prim.Native.Nat.{ℕ, ◌+◌, ◌≤◌, ◌<◌}
-use mathlib.Core.Path.{◌≡◌, refl, sym, ap, ◌∙◌}
+use mathlib.Core.Path.{◌≡◌, refl}
 use mathlib.Core.Bool.{Bool, true, false}
-use mathlib.Core.List.{List, []}
+use mathlib.Core.List.{List}
 use native.Mathlib.Omega.{arith}
 use lib.Dec.{eqb, ltb}
 use lib.IntN.{ℤ}
@@ -19,7 +19,6 @@ use Rattle.shapes.specs.Shapes.{numbers_used, ok_store, template_fits, judged_ma
 use Rattle.shapes.specs.declared.Shape.{Shape}
 use Rattle.shapes.specs.declared.Led.{Led}
 use Rattle.shapes.specs.declared.Led.TheVariants as l
-use Rattle.shapes.specs.declared.Lookup.{Lookup}
 use Rattle.shapes.specs.declared.Lookup.TheVariants.{Is, Unknown, NotSheet}
 use Rattle.shapes.proofs.Stores.{numbers_there}
 use Rattle.shapes.specs.Runs.{Whole, primitives_by}

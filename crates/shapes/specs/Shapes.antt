@@ -1,5 +1,5 @@
 -- What an aperture exposes, by its record: a standard template's parameters, a macro's primitives, or a block (docs/SHEET.md; decisions 563 to 565).
-use Rattle.std.specs.Prelude.{ℕ, ◌+◌, Bool, true, false, cond, List, [], ◌∷◌, eqb, leb, ltb, ℤ, length, get_or}
+use Rattle.std.specs.Prelude.{ℕ, ◌+◌, Bool, false, List, [], ◌∷◌, eqb, leb, ltb, ℤ, length, get_or}
 use Rattle.base.specs.And.{◌and◌}
 use Rattle.base.specs.Choose.{pick, choose}
 use Rattle.sheet.specs.Records.{aperture_room, aperture_of}

@@ -1,4 +1,6 @@
 // What an aperture exposes, found by its number in the words that a reading leaves, or in any words; the primitives of a macro in runs.
+#![tactic(auto)]
+
 ghost use Rattle.std.specs.Prelude.{◌≡◌, ◌+◌, ◌*◌, ◌^◌, ◌≤◌, ◌<◌, ltb, nat_abs, length, drop, replicate, []};
 ghost use Rattle.ints.specs.Ints.{is_neg};
 ghost use Rattle.index.specs.Tree.{record_width, next};
@@ -17,7 +19,7 @@ const MARK: u64 = 5716828633109713478;
 
 // An aperture: its number and kind; where its numbers begin among those kept, and how many they are, 0 and 0 of a block; how many
 // primitives they are, of a macro's.
-#[derive(Drop)]
+#[derive(Clone, Copy)]
 pub struct Shape {
     pub number: u64,
     pub kind: u64,
@@ -27,7 +29,7 @@ pub struct Shape {
 }
 
 // A primitive: its code; where its parameters begin among the numbers kept, and how many they are.
-#[derive(Drop)]
+#[derive(Clone, Copy)]
 pub struct Primitive {
     pub code: u64,
     pub first: usize,
@@ -35,7 +37,7 @@ pub struct Primitive {
 }
 
 // The outcome of a search: a record; none with the number; or links that no reading leaves.
-#[derive(Drop)]
+#[derive(Clone, Copy)]
 pub enum Led {
     At(usize),
     Nobody,
@@ -43,14 +45,14 @@ pub enum Led {
 }
 
 // How many primitives numbers are; or that they are not whole primitives.
-#[derive(Drop)]
+#[derive(Clone, Copy)]
 pub enum Counted {
     Is(usize),
     Broken,
 }
 
 // The outcome of a lookup: the aperture; none with the number, 8; or a store that is not a sheet, 21.
-#[derive(Drop)]
+#[derive(Clone, Copy)]
 pub enum Lookup {
     Is(Shape),
     Unknown,
@@ -326,7 +328,7 @@ pub fn shape_at(head: &[u64; 8], a: &[u64], numbers: &[i64], b: u64) -> Lookup
 pub const PRIMITIVE_WORDS: usize = 3;
 
 // The outcome of a call for a run: done; 20, past the last primitive; 8, no aperture with the number; 21, not a sheet.
-#[derive(Drop)]
+#[derive(Clone, Copy)]
 pub enum Fetch {
     Done,
     Past,

@@ -7,11 +7,11 @@ use Rattle.base.proofs.Run.{run_cong}
 use Rattle.place.specs.declared.Item.{Item}
 use Rattle.place.specs.Outer.{flashed_by}
 use Rattle.place.specs.Copies.{copies}
-use Rattle.place.specs.Parts.{Parts, none, item, flashed, repeated, items_in, pieces}
+use Rattle.place.specs.Parts.{Parts, items_in}
 use Rattle.place.proofs.Parts.{items_pieces}
 use Rattle.sheet.specs.Records.{entry_of, role_of}
 use Rattle.sheet.specs.Containers.{block_of, body_of, top_of}
-use Rattle.sheet.specs.Meaning.{drawn, pose_of, repeat_of, puts, entry_items, items, sheet_items}
+use Rattle.sheet.specs.Meaning.{pose_of, repeat_of, puts, entry_items, items, sheet_items}
 use Rattle.sheet.specs.declared.Entry.{Entry}
 use Rattle.sheet.specs.declared.Container.{Container}
 use Rattle.sheet.specs.declared.Role.{Role}

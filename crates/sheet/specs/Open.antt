@@ -6,7 +6,7 @@ use Rattle.sheet.specs.Records.{entry_of}
 use Rattle.sheet.specs.Valid.{ok_entry, size_of}
 use Rattle.sheet.specs.declared.Entry.{Entry}
 use Rattle.sheet.specs.declared.Container.{Container}
-use Rattle.sheet.specs.Parts.{part_of, parts}
+use Rattle.sheet.specs.Parts.{part_of}
 
 -- the parts that an open container's first n entries are
 unfoldable pub open_parts : List ℕ → (Container → Parts) → (ℕ → Entry) → ℕ → Parts

@@ -22,8 +22,8 @@ use Rattle.digest.specs.Md5.{padding, length_of, tail, initial, blocks, output, 
 use Rattle.digest.specs.Word.{words_of, rotated}
 use Rattle.digest.specs.Table.{table}
 use Rattle.digest.specs.Rounds.{mixed, place, amounts, amount, operation, row, added, block}
-use Rattle.hex.specs.Digits.{hex_digit, hex_digits, small, same_digits}
-use Rattle.hex.specs.Hex.{digit, hex_of}
+use Rattle.hexadecimal.specs.Digits.{hex_digit, hex_digits, small, same_digits}
+use Rattle.hexadecimal.specs.Hex.{digit, hex_of}
 use Rattle.signature.specs.Form.{is_end, is_signature, digits_of}
 use Rattle.signature.specs.Signature.{signed, refused, judged, bare, at_end, walked, signature_of}
 

@@ -4,12 +4,12 @@ use Prim.Native.Nat.{ℕ}
 use mathlib.Core.Path.{◌≡◌}
 use mathlib.Core.Bool.{true, false}
 use mathlib.Core.List.{List}
-use Rattle.hex.specs.Hex.{hex_of}
+use Rattle.hexadecimal.specs.Hex.{hex_of}
 use Rattle.digest.specs.Md5.{md5}
 use Rattle.scan.specs.Tail.{tail_of}
 use Rattle.scan.specs.declared.Tail.TheVariants.{Clean, Unprintable, More}
 use Rattle.signature.specs.declared.Answer.{Answer}
-use Rattle.hex.specs.Digits.{same_digits}
+use Rattle.hexadecimal.specs.Digits.{same_digits}
 use Rattle.signature.specs.Form.{is_signature, digits_of}
 use Rattle.signature.specs.Signature.{signed, refused, judged, bare, at_end}
 

@@ -5,7 +5,7 @@ use Rattle.std.proofs.Math.Seq.{slice}
 use Rattle.base.specs.And.{◌and◌}
 use Rattle.base.specs.Or.{◌or◌}
 use Rattle.text.specs.Text.{◌is◌, ◌begins◌}
-use Rattle.hex.specs.Digits.{hex_digits}
+use Rattle.hexadecimal.specs.Digits.{hex_digits}
 use Rattle.book.specs.Books.{is_old}
 use Rattle.book.specs.declared.Book.{Book}
 

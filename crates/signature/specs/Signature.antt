@@ -8,8 +8,8 @@ use Rattle.scan.specs.declared.Scan.TheVariants.{Command, BadByte, Ended}
 use Rattle.scan.specs.declared.Tail.TheVariants.{Clean, Unprintable, More}
 use Rattle.digest.specs.Md5.{md5}
 use Rattle.digest.specs.Text.{unbroken}
-use Rattle.hex.specs.Hex.{hex_of}
-use Rattle.hex.specs.Digits.{same_digits}
+use Rattle.hexadecimal.specs.Hex.{hex_of}
+use Rattle.hexadecimal.specs.Digits.{same_digits}
 use Rattle.signature.specs.Form.{is_end, is_signature, digits_of}
 use Rattle.signature.specs.declared.Answer.{Answer}
 

@@ -1,4 +1,6 @@
 // The signature of a file: the `.MD5` just before M02 compared with the digest of what stands before it.
+#![tactic(auto)]
+
 ghost use Rattle.std.specs.Prelude.{◌≡◌};
 ghost use Rattle.digest.specs.Md5.{md5};
 ghost use Rattle.digest.specs.Runs.{finished};
@@ -12,7 +14,7 @@ use digest::State;
 use scan::{Scan, Tail};
 
 // A refusal's number and place, with a digest of zeros; or 0 and 0, with the digest that the file bears.
-#[derive(Drop)]
+#[derive(Clone, Copy)]
 pub struct Answer {
     pub number: u64,
     pub place: usize,
@@ -20,7 +22,7 @@ pub struct Answer {
 }
 
 // The first bytes of a command, CR and LF left out, and how many there are.
-#[derive(Drop)]
+#[derive(Clone, Copy)]
 pub struct Held {
     bytes: [u8; 43],
     count: usize,
@@ -33,7 +35,7 @@ fn is_signature(s: &[u8]) -> bool
     base::both(
         base::both(
             text::begins(s, b"%TF.MD5,"),
-            hex::are_digits(base::part(s, 8, 40)),
+            hexadecimal::are_digits(base::part(s, 8, 40)),
         ),
         text::is(base::from_on(s, 40), b"*%"),
     )
@@ -110,7 +112,7 @@ pub fn judge(place: usize, h: Held, s: State) -> Answer
     let t = base::up_to(&bytes, h.count);
     if is_signature(t) {
         let d = digest::finish(s);
-        if hex::same_digits(base::part(t, 8, 40), &hex::hex(d)) {
+        if hexadecimal::same_digits(base::part(t, 8, 40), &hexadecimal::hex(d)) {
             return Answer {
                 number: 0,
                 place: 0,

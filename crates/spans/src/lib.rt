@@ -1,4 +1,6 @@
 // From the least to the greatest: spans of whole numbers, rectangles of points; joined, flipped, turned, shifted and stretched.
+#![tactic(auto)]
+
 ghost use Rattle.std.specs.Prelude.{◌≡◌, ◌≤◌, ◌<◌, ◌^◌, nat_abs};
 ghost use Rattle.points.specs.Points.{Within};
 ghost use Rattle.spans.specs.Spans.{least, greatest, join_span, neg_span, shift_span, stretch_span, rect_at, join_rect, flip_rect, turn_rect, shift_rect, stretch_rect, SpanWithin, RectWithin};
@@ -6,14 +8,14 @@ ghost use Rattle.spans.specs.Spans.{least, greatest, join_span, neg_span, shift_
 use points::Point;
 
 // From the least to the greatest of whole numbers.
-#[derive(Drop)]
+#[derive(Clone, Copy)]
 pub struct Span {
     pub low: i64,
     pub high: i64,
 }
 
 // From the least to the greatest x and y of points.
-#[derive(Drop)]
+#[derive(Clone, Copy)]
 pub struct Rect {
     pub across: Span,
     pub up: Span,

@@ -1,5 +1,7 @@
 // One command over one graphics state: by value, and over a state that the caller lends. The rules that ask the state, what stands
 // open and the command are judged here; what only the stores know is handed in.
+#![tactic(auto)]
+
 ghost use Rattle.std.specs.Prelude.{◌≡◌};
 ghost use Rattle.changes.specs.After.{Reached};
 ghost use Rattle.state_call.specs.Stepped.{worked_number, operation_fault, coded_fault, definition_fault, bracket_fault, deed_fault, fault_of, behind, stepped_of};
@@ -8,7 +10,7 @@ use command::{Bracket, Command, Deed, Definition, Operation, Setting};
 use graphics::{Graphics, Level, Selected};
 
 // The outcome of the parameters of an AD.
-#[derive(Drop)]
+#[derive(Clone, Copy)]
 pub enum Worked {
     Fine,
     // 9: an expression of its macro has no value, or one too large
@@ -18,7 +20,7 @@ pub enum Worked {
 }
 
 // What only the stores know of a command.
-#[derive(Drop)]
+#[derive(Clone, Copy)]
 pub struct Known {
     // so many entries are left
     pub entries: u64,
@@ -35,7 +37,7 @@ pub struct Known {
 }
 
 // The number of the rule that the command breaks, 0 for none, and the state after the command.
-#[derive(Drop)]
+#[derive(Clone, Copy)]
 pub struct Stepped {
     pub number: u64,
     pub graphics: Graphics,
@@ -190,7 +192,7 @@ pub fn next(g: Graphics, l: Level, c: Command, k: Known) -> Stepped
 
 // The same over a state that is lent.
 pub fn step(g: &mut Graphics, l: Level, c: Command, k: Known) -> u64
-    ensures { (result ≡ (stepped_of g.old l c k).number) × (g.new ≡ (stepped_of g.old l c k).graphics) }
+    ensures { (result ≡ (stepped_of g.entry.now l c k).number) × (g.new ≡ (stepped_of g.entry.now l c k).graphics) }
 {
     let t = next(*g, l, c, k);
     *g = t.graphics;

@@ -1,4 +1,6 @@
 // The commands that read and write none of the lent rooms: each by its rules, and what is known after it.
+#![tactic(auto)]
+
 ghost use Rattle.std.specs.Prelude.{ℕ, ◌≡◌, true, List};
 ghost use Rattle.law_reading.specs.State.{State};
 ghost use Rattle.law_reading.specs.Apertures.{is_among};

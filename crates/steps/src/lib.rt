@@ -1,4 +1,6 @@
 // One command of the file, whatever it is: its rules, what it changes, and what it leaves in the lent rooms.
+#![tactic(auto)]
+
 ghost use Rattle.std.specs.Prelude.{ℕ, ◌≤◌, ◌≡◌, List, length};
 ghost use Rattle.std.proofs.Math.Seq.{slice};
 ghost use Rattle.law_bounds.specs.Bounded.{DefinitionBounded, BracketBounded};
@@ -19,7 +21,7 @@ use progress::{Progress, Stepped, Struck};
 use sequence::Placed;
 
 // The operation that a command has, alone or after a G code; or it is none.
-#[derive(Drop)]
+#[derive(Clone, Copy)]
 pub enum Held {
     Operation(Operation),
     Nothing,

@@ -1,4 +1,6 @@
 // The strokes of D01 and D03: what each draws is put into the lent entries, after what lies there.
+#![tactic(auto)]
+
 ghost use Rattle.std.specs.Prelude.{◌≡◌, true, false, ◌+◌, ◌≤◌, length};
 ghost use Rattle.sheet.specs.Records.{entry_room};
 ghost use Rattle.changes.specs.After.{starts_contour};

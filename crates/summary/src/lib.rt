@@ -1,4 +1,6 @@
 // The summary of a sheet: in one pass over its entries where no block is flashed, else aperture by aperture.
+#![tactic(auto)]
+
 ghost use Rattle.std.specs.Prelude.{◌≡◌, true, false, [], ℕ, ◌+◌, ◌*◌, ◌/◌, ◌≤◌, ◌<◌, length, replicate};
 ghost use Rattle.sheet.specs.Records.{aperture_room};
 ghost use Rattle.sheet.specs.Containers.{apertures_used};

@@ -1,5 +1,7 @@
 // The summary of a sheet, worked out from the store: for each aperture record, and for the regions, how many items of the expansion
 // there are and where their points lie. No copy is written out.
+#![tactic(auto)]
+
 ghost use Rattle.std.specs.Prelude.{◌≡◌, true, ◌+◌, ◌*◌, ◌/◌, ◌≤◌, ◌<◌, length, replicate};
 ghost use Rattle.std.specs.Int.{w64};
 ghost use Rattle.std.proofs.Common.{of_z};
@@ -27,7 +29,7 @@ const KEPT_WORDS: usize = 6;
 pub const SCRATCH_WORDS: usize = 8;
 
 // The outcome of the call.
-#[derive(Drop)]
+#[derive(Clone, Copy)]
 pub enum Outcome {
     Done,
     Short,

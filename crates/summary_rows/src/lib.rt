@@ -1,4 +1,6 @@
 // Rows of the summary: how many items, and the least and greatest x and y of their points; put together, moved and copied.
+#![tactic(auto)]
+
 ghost use Rattle.std.specs.Prelude.{◌≡◌, ◌*◌, ◌≤◌, ◌^◌};
 ghost use Rattle.place.specs.Placing.{PoseWithin};
 ghost use Rattle.spans.specs.Spans.{RectWithin};
@@ -9,21 +11,21 @@ use place::{Item, Pose, Repeat};
 use spans::Rect;
 
 // Where points lie, if there are any.
-#[derive(Drop)]
+#[derive(Clone, Copy)]
 pub enum Extent {
     Nothing,
     Over(Rect),
 }
 
 // How many items, and where their points lie.
-#[derive(Drop)]
+#[derive(Clone, Copy)]
 pub struct Row {
     pub count: u64,
     pub extent: Extent,
 }
 
 // Which items a row is for: those of the aperture with a number, or the regions' contours and edges.
-#[derive(Drop)]
+#[derive(Clone, Copy)]
 pub enum Asked {
     Aperture(u64),
     Regions,

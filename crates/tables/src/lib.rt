@@ -1,4 +1,6 @@
 // The tables of apertures and macros while a file is read: records that are found by number or by name (docs/SHEET.md, decision 209).
+#![tactic(auto)]
+
 ghost use Rattle.std.specs.Prelude.{◌≡◌, ◌≤◌, length};
 ghost use Rattle.index.specs.Tree.{record_width};
 ghost use Rattle.tables.specs.Added.{has_room, added};
@@ -11,7 +13,7 @@ use sheet::Aperture;
 pub const MACRO_WORDS: usize = 8;
 
 // Where a macro's name and its blocks begin and end in the file.
-#[derive(Drop)]
+#[derive(Clone, Copy)]
 pub struct Macro {
     pub from: usize,
     pub to: usize,

@@ -1,4 +1,6 @@
 // AD's standard templates: C, R, O and P, and the rules of their parameters.
+#![tactic(auto)]
+
 ghost use Rattle.std.specs.Prelude.{◌≡◌, ◌<◌};
 ghost use Rattle.templates.specs.Templates.{with_hole, circle, rectangle, polygon, kind_of, keeps, plain_circle};
 

@@ -1,11 +1,17 @@
 // Whether the file on standard input is signed, by the newer edition and the old rule of letters: `signed` and the digest, or `refused`, the
 // number and the place, tab-parted.
+#![tactic(auto)]
+
 use intake::Intake;
-use libc::{STDIN_FILENO, STDOUT_FILENO};
 use signature::Answer;
 
+// Standard input, by its number.
+const STDIN_FILENO: i32 = 0;
+// Standard output, by its number.
+const STDOUT_FILENO: i32 = 1;
+
 // A block read: what is kept of the file, and whether the block was full.
-#[derive(Drop)]
+#[derive(Clone, Copy)]
 struct Turn {
     kept: Intake,
     full: bool,
@@ -43,7 +49,7 @@ fn print(a: Answer) {
     if a.number == 0 {
         let digest = a.digest;
         io::write_all(STDOUT_FILENO, b"signed\t");
-        io::write_all(STDOUT_FILENO, &hex::hex(digest));
+        io::write_all(STDOUT_FILENO, &hexadecimal::hex(digest));
         io::write_all(STDOUT_FILENO, b"\n");
         return;
     }

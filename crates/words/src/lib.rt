@@ -1,4 +1,6 @@
 // Word commands: what the text up to `*` says, in each edition.
+#![tactic(auto)]
+
 ghost use Rattle.std.specs.Prelude.{◌≡◌, eqb, drop};
 ghost use Rattle.text.specs.Text.{◌begins◌};
 ghost use Rattle.base.specs.Choose.{pick};

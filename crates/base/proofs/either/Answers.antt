@@ -1,0 +1,11 @@
+-- `base::either` meets its contract: the first test picks the case of `_or_`.
+use Rattle.base.specs.Or.{◌or◌}
+use Rattle.base.proofs.either.Goals as goal
+
+pub returns-then-a : goal.returns-then-a
+unfolding ◌or◌
+returns-then-a c = rw c.if-a.true
+
+pub returns-else-a : goal.returns-else-a
+unfolding ◌or◌
+returns-else-a c = rw c.if-a.false

@@ -1,0 +1,11 @@
+-- `base::up_to` meets its contract: at or past the end nothing is taken away.
+use mathlib.Core.Path.{sym}
+use lib.Seq.{length-take-le, take_all}
+use native.Mathlib.Omega.{arith}
+use Rattle.base.proofs.up_to.Goals as goal
+
+pub slice_bounds-result-end : goal.slice_bounds-result-end
+slice_bounds-result-end c = sym (length-take-le _ _ (omega arith))
+
+pub returns : goal.returns
+returns c = sym (take_all _ _ c.if-to-s.false)

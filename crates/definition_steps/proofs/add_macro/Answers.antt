@@ -1,0 +1,77 @@
+-- `definition_steps::add_macro` meets its contract: the name that the search sought is the text's, and so are the parts that are put.
+use Prim.Native.Nat.{◌≤◌}
+use mathlib.Core.Path.{refl, sym, ap, ◌∙◌}
+use native.Mathlib.Omega.{arith}
+use lib.ListN.{length}
+use lib.Seq.{slice}
+use Rattle.index.specs.Names.{named}
+use Rattle.templates.specs.Templates.{kind_of}
+use Rattle.definition_steps.proofs.Texts.{text_end, part_of_file}
+use Rattle.definition_steps.proofs.Modelling.{macro_taken, macro_refused, macro_goes}
+use borrow.Author.Rules.{rules}
+use Rattle.definition_steps.proofs.add_macro.Goals as goal
+
+pub overflow_add-first : goal.overflow_add-first
+overflow_add-first c = let a = c.args in
+    let p = c.requires in
+    omega (arith, text_end a.file.now a.from a.end p.1 p.2 a.name.to (omega (arith, p.3.behind, p.3.inside)), p.2, p.3.ordered)
+
+pub overflow_add-last : goal.overflow_add-last
+overflow_add-last c = let a = c.args in
+    let p = c.requires in
+    omega (arith, text_end a.file.now a.from a.end p.1 p.2 a.name.to (omega (arith, p.3.behind, p.3.inside)), p.2)
+
+pub search_name-found-requires : goal.search_name-found-requires
+search_name-found-requires c =
+    let a = c.args in
+    let p = c.requires in
+    let l = text_end a.file.now a.from a.end p.1 p.2 a.name.to (omega (arith, p.3.behind, p.3.inside)) in
+    (rw (p.0.is.0, p.0.is.1) at p.0.knows.macros.indexed, omega (arith, p.3.ordered), omega (arith, l, p.2))
+
+pub returns-in_default : goal.returns-in_default
+returns-in_default c =
+    let a = c.args in
+    let p = c.requires in
+    let t = part_of_file a.file.now a.from a.end p.1 p.2 a.name.from a.name.to (omega (arith, p.3.behind, p.3.inside)) in (
+      refl,
+      λ w s is k. macro_taken w a.p s k a.file.now a.m.now is.0 is.1 _ _ a.deep _
+          (ap (named a.file.now a.m.now a.p.macros) t ∙ sym c.search_name-found.ensures ∙ c.in_default.is) _ _ c.macro_fault.ensures,
+    )
+
+pub overflow_add-r : goal.overflow_add-r
+overflow_add-r c =
+    let a = c.args in
+    let p = c.requires in
+    omega (arith, text_end a.file.now a.from a.end p.1 p.2 a.blocks.to p.3.inside, p.2)
+
+pub returns-then-fault-ne0 : goal.returns-then-fault-ne0
+returns-then-fault-ne0 c =
+    let a = c.args in
+    let p = c.requires in
+    let t = part_of_file a.file.now a.from a.end p.1 p.2 a.name.from a.name.to (omega (arith, p.3.behind, p.3.inside)) in (
+      search rules,
+      λ w s is k. macro_refused w a.p s k a.file.now a.m.now is.0 is.1 _ _ a.deep _
+          (ap (named a.file.now a.m.now a.p.macros) t ∙ sym c.search_name-found.ensures ∙ c.in-Free.is)
+          _ (c.kind_of-kind.ensures ∙ ap kind_of (c.part.ensures ∙ sym t)) _ c.put_macro-room.ensures.0 _ c.macro_fault-fault.ensures _ c.if-fault-ne0.true,
+    )
+
+pub overflow_add-p : goal.overflow_add-p
+overflow_add-p c =
+    let p = c.requires in
+    let i = p.0.knows.macros.indexed.tree.inside in
+    omega (arith, rw p.0.is.1 at i)
+
+pub returns : goal.returns
+returns c =
+    let a = c.args in
+    let p = c.requires in
+    let l : a.name.to ≤ length (slice a.from a.end a.file.now) = omega (arith, p.3.behind, p.3.inside) in
+    let t = part_of_file a.file.now a.from a.end p.1 p.2 a.name.from a.name.to l in
+    let b = part_of_file a.file.now a.from a.end p.1 p.2 a.name.to a.blocks.to p.3.inside in
+    let e = text_end a.file.now a.from a.end p.1 p.2 a.blocks.to p.3.inside in (
+      search rules,
+      λ w s is k. macro_goes w a.p s k a.file.now a.m.now is.0 is.1 _ _ a.deep _
+          (ap (named a.file.now a.m.now a.p.macros) t ∙ sym c.search_name-found.ensures ∙ c.in-Free.is)
+          _ (c.kind_of-kind.ensures ∙ ap kind_of (c.part.ensures ∙ sym t)) _ c.put_macro-room.ensures.0 _ c.macro_fault-fault.ensures c.if-fault-ne0.false
+          _ (sym t) (sym b) (omega (arith, p.3.behind)) (omega (arith, e, p.2)) _ c.put_macro-room.ensures.1 c.with_macros.ensures,
+    )

@@ -1,0 +1,15 @@
+-- `digest::in_turn` meets its contract: each arm is the number at the place that its pattern names.
+use Rattle.std.proofs.Common.{◌≡◌, ◌%◌, arith}
+use Rattle.digest.proofs.in_turn.Goals as goal
+
+pub returns-in-0 : goal.returns-in-0
+returns-in-0 c = rw c.in-0.is
+
+pub returns-in-1 : goal.returns-in-1
+returns-in-1 c = rw c.in-1.is
+
+pub returns-in-2 : goal.returns-in-2
+returns-in-2 c = rw c.in-2.is
+
+pub returns-in_default : goal.returns-in_default
+returns-in_default c = let e : c.args.j % 4 ≡ 3 = omega arith in rw e

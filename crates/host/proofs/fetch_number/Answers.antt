@@ -1,0 +1,15 @@
+-- `host::fetch_number` meets its contract, case by case.
+use Rattle.descend.specs.Slots.{fetch_number}
+use Rattle.host.proofs.fetch_number.Goals as goal
+
+pub returns-in-Done : goal.returns-in-Done
+unfolding fetch_number
+returns-in-Done c = rw c.in-Done.is
+
+pub returns-in-Past : goal.returns-in-Past
+unfolding fetch_number
+returns-in-Past c = rw c.in-Past.is
+
+pub returns-in-NotSheet : goal.returns-in-NotSheet
+unfolding fetch_number
+returns-in-NotSheet c = rw c.in-NotSheet.is

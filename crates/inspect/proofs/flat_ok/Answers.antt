@@ -1,0 +1,33 @@
+-- `inspect::flat_ok` meets its contract: without a repeat the bodies' lengths are nothing, and every body is in order.
+use Rattle.inspect.proofs.Added.{told}
+use Rattle.inspect.proofs.Flat.{flat_wrong, flat_right}
+use Rattle.sheet.specs.Valid.{block_length}
+use Rattle.base.specs.Run.{sums}
+use Rattle.std.proofs.Common.{◌≡◌, ◌+◌, ◌^◌, ◌<◌, ◌≤◌, ◌∙◌, arith}
+use Rattle.inspect.proofs.flat_ok.Goals as goal
+
+pub returns-in_default : goal.returns-in_default
+returns-in_default c = let A = c.args in
+    let over : A.used < sums (block_length A.a.now) 0 A.n = told _ _ c.block_lengths.ensures c.in_default.is in
+    flat_wrong _ _ _ _ _ c.requires.3 (λ (q : A.top.len + sums (block_length A.a.now) 0 A.n ≡ A.used). omega arith)
+
+pub overflow_add-len : goal.overflow_add-len
+overflow_add-len c =
+    let blocks : let A = c.args in
+    (c.in-Is.blocks ≡ sums (block_length A.a.now) 0 A.n) × (sums (block_length A.a.now) 0 A.n ≤ A.used) =
+    told _ _ c.block_lengths.ensures c.in-Is.is in
+    let A = c.args in let room : A.top.len + A.used < 2 ^ 64 = omega (arith, c.requires) in omega (arith, blocks.0, blocks.1, room)
+
+pub returns-then-len-blocks : goal.returns-then-len-blocks
+returns-then-len-blocks c =
+    let blocks : let A = c.args in
+    (c.in-Is.blocks ≡ sums (block_length A.a.now) 0 A.n) × (sums (block_length A.a.now) 0 A.n ≤ A.used) =
+    told _ _ c.block_lengths.ensures c.in-Is.is in
+    c.blocks_ok.ensures ∙ flat_right _ _ _ _ _ c.requires.3 (rw blocks.0 at c.if-len-blocks.true)
+
+pub returns : goal.returns
+returns c =
+    let blocks : let A = c.args in
+    (c.in-Is.blocks ≡ sums (block_length A.a.now) 0 A.n) × (sums (block_length A.a.now) 0 A.n ≤ A.used) =
+    told _ _ c.block_lengths.ensures c.in-Is.is in
+    flat_wrong _ _ _ _ _ c.requires.3 (rw blocks.0 at c.if-len-blocks.false)

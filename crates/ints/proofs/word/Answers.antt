@@ -1,0 +1,48 @@
+-- `ints::word` meets its contract: a number n below -1 has the word n below the largest, and any other is its own word.
+use Prim.Native.Nat.{◌-◌}
+use mathlib.Core.Path.{◌≡◌, sym, ◌∙◌}
+use native.Mathlib.Omega.{arith}
+use lib.IntN.{negsuc, nat_abs}
+use mathlib.Core.Bool.{false}
+use mir.Facts.{to_z-of_z, Fits-nat_abs}
+use Rattle.ints.specs.Ints.{is_neg}
+use Rattle.ints.proofs.Bounded.{is_neg_lem, negative_is, pos_non_neg, pos_word, below_fits, below_asks, below_gives, below_word}
+use Rattle.ints.proofs.word.Goals as goal
+
+pub overflow_sub-result : goal.overflow_sub-result
+overflow_sub-result c =
+    let under : c.args.a ≡ negsuc (nat_abs c.args.a - 1) =
+    negative_is c.args.a (sym (is_neg_lem c.args.a c.ranges.a) ∙ c.if-a-lt0.true) in
+    below_asks _ _ under c.ranges.a
+
+pub overflow_cast-result : goal.overflow_cast-result
+overflow_cast-result c =
+    let under : c.args.a ≡ negsuc (nat_abs c.args.a - 1) =
+    negative_is c.args.a (sym (is_neg_lem c.args.a c.ranges.a) ∙ c.if-a-lt0.true) in
+    let h = below_fits _ _ under c.ranges.a in
+    rw (below_gives _ _ under c.ranges.a) (tt, record { fits = omega arith })
+
+pub overflow_sub-result-then-a-lt0 : goal.overflow_sub-result-then-a-lt0
+overflow_sub-result-then-a-lt0 c =
+    let under : c.args.a ≡ negsuc (nat_abs c.args.a - 1) =
+    negative_is c.args.a (sym (is_neg_lem c.args.a c.ranges.a) ∙ c.if-a-lt0.true) in
+    let h = below_fits _ _ under c.ranges.a in
+    rw (below_gives _ _ under c.ranges.a) (omega arith)
+
+pub returns-then-a-lt0 : goal.returns-then-a-lt0
+returns-then-a-lt0 c =
+    let under : c.args.a ≡ negsuc (nat_abs c.args.a - 1) =
+    negative_is c.args.a (sym (is_neg_lem c.args.a c.ranges.a) ∙ c.if-a-lt0.true) in
+    rw (below_gives _ _ under c.ranges.a) (below_word _ _ under c.ranges.a)
+
+pub overflow_cast-result-2 : goal.overflow_cast-result-2
+overflow_cast-result-2 c =
+    let over : is_neg c.args.a ≡ false =
+    sym (is_neg_lem c.args.a c.ranges.a) ∙ c.if-a-lt0.false in
+    rw (to_z-of_z c.ranges.a) (pos_non_neg _ over, Fits-nat_abs tt c.ranges.a)
+
+pub returns : goal.returns
+returns c =
+    let over : is_neg c.args.a ≡ false =
+    sym (is_neg_lem c.args.a c.ranges.a) ∙ c.if-a-lt0.false in
+    rw (to_z-of_z c.ranges.a) (pos_word _ over)

@@ -1,0 +1,51 @@
+use Rattle.macros.proofs.Working.{working_starts, working_goes, working_stops, working_ends}
+use Rattle.macros.proofs.Laid.{length_laid}
+use Rattle.text.proofs.First.{first_from_lem}
+use lib.Dec.{eqb}
+use lib.ListN.{length}
+use mathlib.Core.Path.{refl, ap, ◌∙◌}
+use Prim.Native.Char.{code}
+use Prim.Native.Nat.{◌+◌, ◌-◌}
+use native.Mathlib.Omega.{arith}
+use Rattle.macros.proofs.blocks.Goals as goal
+
+pub loop-at-init : goal.loop-at-init
+loop-at-init c = working_starts _ _ _ _ refl refl c.requires
+
+pub overflow_add-at : goal.overflow_add-at
+overflow_add-at c = omega arith
+
+pub overflow_add-at-in-loop-at : goal.overflow_add-at-in-loop-at
+overflow_add-at-in-loop-at c = omega arith
+
+pub block-d-requires : goal.block-d-requires
+block-d-requires c = c.loop-at.invariant.small
+
+pub loop-at-smaller : goal.loop-at-smaller
+loop-at-smaller c =
+    let l = c.loop-at in
+    omega (arith, first_from_lem (λ b. eqb b (code "*")) c.args.s.now (l.at + 1), c.find-next.ensures)
+
+pub loop-at-preserved : goal.loop-at-preserved
+loop-at-preserved c =
+    let l = c.loop-at in
+    let s = c.args.s.now in
+    rw c.find-next.ensures
+    (working_goes _ s l.at _ _ _ l.d l.invariant _ c.block-d.result c.loop-at-test.true (rw (c.part.ensures, c.find-next.ensures) at c.block-d.ensures) c.if-d-eq0.true)
+
+pub shape_of-numbers-else-d-eq0 : goal.shape_of-numbers-else-d-eq0
+shape_of-numbers-else-d-eq0 c = ap length c.block-d.ensures.stores ∙ length_laid _ _ _ ∙ c.loop-at.invariant.long
+
+pub returns-else-d-eq0 : goal.returns-else-d-eq0
+returns-else-d-eq0 c =
+    let l = c.loop-at in
+    let s = c.args.s.now in
+    working_stops _ s l.at _ _ _ l.d l.invariant _ c.block-d.result c.loop-at-test.true (rw (c.part.ensures, c.find-next.ensures) at c.block-d.ensures) c.if-d-eq0.false
+
+pub shape_of-numbers : goal.shape_of-numbers
+shape_of-numbers c = c.loop-at.invariant.long
+
+pub returns : goal.returns
+returns c =
+    let l = c.loop-at in
+    working_ends _ c.args.s.now l.at _ _ _ l.d l.invariant c.loop-at-test.false

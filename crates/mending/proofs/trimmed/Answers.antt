@@ -1,0 +1,34 @@
+use mathlib.Core.Path.{sym, ap, ◌∙◌}
+use native.Mathlib.Omega.{arith}
+use lib.Seq.{take-length}
+use Rattle.base.specs.Breaks.{is_break}
+use Rattle.base.specs.Trimmed.{drop_trailing}
+use Rattle.base.proofs.Trimmed.{trailing_goes, trailing_stops, trailing_none}
+use Rattle.mending.proofs.trimmed.Goals as goal
+
+pub loop-n-init : goal.loop-n-init
+loop-n-init c = (omega arith, ap (drop_trailing is_break) (take-length _))
+
+pub overflow_sub-n : goal.overflow_sub-n
+overflow_sub-n c = omega arith
+
+pub overflow_sub-n-then-is_break : goal.overflow_sub-n-then-is_break
+overflow_sub-n-then-is_break c = omega arith
+
+pub loop-n-smaller : goal.loop-n-smaller
+loop-n-smaller c = omega arith
+
+pub loop-n-preserved : goal.loop-n-preserved
+loop-n-preserved c =
+    let l = c.loop-n in
+    (omega arith, sym (trailing_goes is_break _ _ c.loop-n-test.true l.invariant.0 (ap is_break (sym c.byte_at.ensures) ∙ sym c.is_break.ensures ∙ c.if-is_break.true)) ∙ l.invariant.1)
+
+pub returns-else-is_break : goal.returns-else-is_break
+returns-else-is_break c =
+    let l = c.loop-n in
+    (sym (trailing_stops is_break _ _ c.loop-n-test.true l.invariant.0 (ap is_break (sym c.byte_at.ensures) ∙ sym c.is_break.ensures ∙ c.if-is_break.false)) ∙ l.invariant.1, l.invariant.0)
+
+pub returns : goal.returns
+returns c =
+    let l = c.loop-n in
+    (sym (trailing_none is_break _ _ c.loop-n-test.false) ∙ l.invariant.1, l.invariant.0)

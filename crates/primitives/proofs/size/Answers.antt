@@ -1,0 +1,8 @@
+-- `primitives::size` meets its contract: `ints::size` says so of what was stored.
+-- Assumes nothing.
+use mir.Facts.{to_z-of_z}
+use borrow.Author.Rules.{sfits_of}
+use Rattle.primitives.proofs.size.Goals as goal
+
+pub returns : goal.returns
+returns c = rw (c.size.ensures, to_z-of_z (sfits_of c.struct_told-1.given.0.1))

@@ -1,0 +1,9 @@
+-- `shapes::negative_at` meets its contract: past the end the number is 0.
+use Rattle.ints.specs.Ints.{is_neg}
+use lib.ListN.{get_or-eq_default}
+use lib.IntN.{pos}
+use Rattle.shapes.proofs.negative_at.Goals as goal
+
+pub returns : goal.returns
+unfolding is_neg
+returns c = rw (get_or-eq_default c.args.numbers.now (pos 0) c.if-i-numbers.false)

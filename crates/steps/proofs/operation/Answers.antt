@@ -1,0 +1,22 @@
+-- `steps::operation` meets its contract: the operation's own step, together with the fault of its code.
+-- Assumes nothing.
+use mathlib.Core.Path.{refl, sym}
+use Rattle.steps.specs.Steps.{Operates}
+use Rattle.steps.proofs.Coded.{joined_strikes}
+use Rattle.steps.proofs.operation.Goals as goal
+
+pub operate-requires : goal.operate-requires
+operate-requires c =
+    c.requires
+
+pub returns-in-Operation : goal.returns-in-Operation
+unfolding Operates
+returns-in-Operation c = (
+  c.operate.ensures.0,
+  rw (sym c.held_in-held.ensures, c.in-Operation.is, c.joined.ensures)
+      (λ w s q k. joined_strikes _ _ _ _ _ (c.operate.ensures.1 w s q k)),
+)
+
+pub returns-in-Nothing : goal.returns-in-Nothing
+unfolding Operates
+returns-in-Nothing c = (refl, rw (sym c.held_in-held.ensures, c.in-Nothing.is) (refl, refl))
