@@ -14,7 +14,7 @@ fault() {
 # A head runs from `pub fn` to the line `{` that opens the body.
 lacking() { # SOURCE PATTERN UNWANTED: the public functions whose head has none of the pattern, or, with 1, that have it
     awk -v pattern="$2" -v unwanted="$3" '
-        /^ *pub (extern "C" )?fn / { name = $0; sub(/^.*fn /, "", name); sub(/\(.*/, "", name); head = ""; inside = 1 }
+        /^ *pub (unsafe )?(extern "C" )?fn / { name = $0; sub(/^.*fn /, "", name); sub(/\(.*/, "", name); head = ""; inside = 1 }
         inside { head = head $0 }
         inside && /\{ *$/ { if ((head ~ pattern) == unwanted) print name; inside = 0
         }' "$1"
@@ -24,7 +24,7 @@ for source in crates/*/src/*.rt; do
 done
 
 # The calls: all that these crates make public, of descend those for a sheet, and of lines the line of an item.
-for crate in reader mend_call descend lists address summary attribute_call labels shapes signature intake digest hex state_call lines placement_call numbered host; do
+for crate in reader mend_call descend lists address summary attribute_call labels shapes signature intake digest hexadecimal state_call lines placement_call numbered host; do
     [ -f "crates/$crate/src/lib.rt" ] || { fault "there is no crate $crate, which is said to make calls"; continue; }
     for name in $(lacking "crates/$crate/src/lib.rt" requires 1); do
         case $crate:$name in descend:find | descend:item_at | lines:add | lines:add_signed) ;; *) fault "$crate: $name is a call, and requires something" ;; esac
@@ -32,7 +32,7 @@ for crate in reader mend_call descend lists address summary attribute_call label
 done
 
 while IFS= read -r line; do
-    name=$(printf '%s' "${line%%#*}" | cut -d: -f1 | tr -d ' ')
+    name=$(printf '%s' "${line%%#*}" | cut -d: -f1 | sed 's/ staticlib//' | tr -d ' ')
     [ -n "$name" ] || continue
     [ -d "crates/$name" ] || { fault "crates.txt lists $name, which is not there"; continue; }
     [ -f "crates/$name/src/lib.rt" ] || continue
@@ -46,7 +46,7 @@ done <crates.txt
 # program that only the gate runs.
 while IFS= read -r file; do
     fault "$file cites proofs"
-done < <(grep -lE '^use Rattle·[a-z0-9_]+(\.|·proofs\.)proofs\.' crates/*/specs/*.antt)
+done < <(grep -lE '^use Rattle\.[a-z0-9_]+\.proofs\.' crates/*/specs/*.antt | xargs -r grep -lE "^use Rattle\.($(sed 's/#.*//' crates.txt | grep -oE '^[a-z0-9_]+' | paste -sd '|'))\.proofs\.")
 for source in crates/*/src/lib.rt; do
     crate=${source#crates/}
     crate=${crate%%/*}

@@ -1,5 +1,5 @@
 #!/usr/bin/env bash
-# crates.txt lists for each crate those that it names: where its src/, specs/ or proofs/ say `Rattle·NAME`, `NAME::` or `use NAME`, comments
+# crates.txt lists for each crate those that it names: where its src/, specs/ or proofs/ say `Rattle.NAME`, `NAME::` or `use NAME`, comments
 # apart. What these need in turn the prover finds by itself, but for types: a function that goes into a value of a declared type, or makes
 # one around it, asks for that type's crate. So a crate may be listed, too, that declares a type within those that the code handles; where it
 # is needed, the prover says so. The kit's libraries are listed likewise, but for std, which is always linked and never listed.
@@ -12,16 +12,33 @@ trap 'rm -rf "$room"' EXIT
 
 # What the sources say, once each: `names CRATE NAME`; of the code, `handles CRATE WORD`, and `holds WORD TYPE` where the declaration of a
 # type or the head of a function mentions another type. Words and types are written CRATE::NAME.
-find crates -type f \( -path '*/src/*.rt' -o -path '*/specs/*.antt' -o -path '*/proofs/*.antt' \) -exec awk '
+find crates -name out -prune -o -type f \( -path '*/src/*.rt' -o -path '*/specs/*.antt' -o -path '*/proofs/*.antt' \) -exec awk '
     function say(what) { if (!said[what]++) print what }
     function crate_of(word) { sub(/::.*/, "", word); return word }
     FNR == 1 { split(FILENAME, path, "/"); crate = path[2]; code = FILENAME ~ /\.rt$/; split("", imported); within = "" }
+    # several names of one crate, brought in together
+    code && /^(pub )?use [a-z0-9_]+::\{/ {
+        group = $0
+        while (group !~ /\}/ && (getline more) > 0) group = group more
+        sub(/^(pub )?use /, "", group)
+        from = group
+        sub(/::.*/, "", from)
+        sub(/^[^{]*\{/, "", group)
+        sub(/\}.*/, "", group)
+        say("names " crate " " from)
+        n = split(group, brought, /[ ,]+/)
+        for (i = 1; i <= n; i++) if (brought[i] ~ /^[A-Za-z]/) {
+            say("handles " crate " " from "::" brought[i])
+            if (brought[i] ~ /^[A-Z]/) imported[brought[i]] = from "::" brought[i]
+        }
+        next
+    }
     {
         at = index($0, code ? "//" : "--")
         line = at ? substr($0, 1, at - 1) : $0
-        for (rest = line; match(rest, /Rattle·[a-z0-9_]+|[A-Za-z0-9_]+::[A-Za-z0-9_]*/); rest = substr(rest, RSTART + RLENGTH)) {
+        for (rest = line; match(rest, /Rattle\.[a-z0-9_]+|[A-Za-z0-9_]+::[A-Za-z0-9_]*/); rest = substr(rest, RSTART + RLENGTH)) {
             word = substr(rest, RSTART, RLENGTH)
-            if (sub(/^Rattle·/, "", word)) say("names " crate " " word)
+            if (sub(/^Rattle\./, "", word)) say("names " crate " " word)
             else { say("names " crate " " crate_of(word)); if (code) say("handles " crate " " word) }
         }
         if (match(line, /(^|[^A-Za-z0-9_])use [a-z0-9_]+/)) { word = substr(line, RSTART, RLENGTH); sub(/.*use /, "", word); say("names " crate " " word) }
@@ -49,15 +66,15 @@ find crates -type f \( -path '*/src/*.rt' -o -path '*/specs/*.antt' -o -path '*/
 
 # crates.txt as it should be; the faults go to standard error. It is read twice, first for the crates that there are.
 awk '
-    BEGIN { n = split("check libc io os bytes", kit, " "); for (i = 1; i <= n; i++) known[kit[i]] = 1 }
+    BEGIN { n = split("check io", kit, " "); for (i = 1; i <= n; i++) known[kit[i]] = 1 }
     FNR == 1 { pass++ }
     pass == 1 { told[$1, $2] = told[$1, $2] " " $3; next }
-    { text = $0; sub(/#.*/, "", text); colon = index(text, ":"); crate = substr(text, 1, colon - 1); gsub(/[ \t]/, "", crate) }
+    { text = $0; sub(/#.*/, "", text); colon = index(text, ":"); crate = substr(text, 1, colon - 1); kind = crate ~ /staticlib/ ? " staticlib" : ""; sub(/ staticlib/, "", crate); gsub(/[ \t]/, "", crate) }
     pass == 2 { known[crate] = 1; next }
     crate == "" { print; next }
     {
         split("", named); split("", listed); split("", reached)
-        line = crate ":"
+        line = crate kind ":"
         idle = missing = ""
         names = split(told["names", crate], name, " ")
         for (i = 1; i <= names; i++) if ((name[i] in known) && name[i] != crate) named[name[i]] = 1

@@ -4,7 +4,7 @@
 set -u
 cd "$(dirname "$0")/.." || exit 2
 limit=0
-chain='(\.before ){5}\.before\b'
+chain='(\.before){6}\b'
 
 found=$(grep -rhE "$chain" crates/*/proofs | wc -l)
 echo "named: $found lines with six .before in a row or more; the limit is $limit"

@@ -40,7 +40,7 @@ done < <(awk -F'|' '/^\|/ && NF >= 4 {
         } else continue
         if (part !~ /^:/ && part !~ /^ *`/) continue
         sub(/^: */, "", part)
-        while (match(part, /^[ ,]*(and )?`[A-Za-z-]+`/)) {
+        while (match(part, /^[ ,]*(and )?`[A-Za-z_-]+`/)) {
             name = substr(part, RSTART, RLENGTH); gsub(/[ ,`]|and /, "", name)
             print crate, file, name
             part = substr(part, RSTART + RLENGTH)
