@@ -1,6 +1,6 @@
 /* The calls for a host program: a Gerber layer file read into room that the host lends, and what is on it.
  *
- * Link with libhost.a (`rt staticlib host`; x86-64 Linux). Every call is proved to meet the contract that stands with it in
+ * Link with libhost.a (`rt lib` in crates/host; x86-64 Linux). Every call is proved to meet the contract that stands with it in
  * crates/host/src/lib.rt; this page says the same in words. The words are those of docs/SHEET.md and of document 01.
  *
  * For all calls
