@@ -15,7 +15,9 @@ trap 'rm -rf "$room"' EXIT
 find crates -name out -prune -o -type f \( -path '*/src/*.rt' -o -path '*/specs/*.antt' -o -path '*/proofs/*.antt' \) -exec awk '
     function say(what) { if (!said[what]++) print what }
     function crate_of(word) { sub(/::.*/, "", word); return word }
-    FNR == 1 { split(FILENAME, path, "/"); crate = path[2]; code = FILENAME ~ /\.rt$/; split("", imported); within = "" }
+    FNR == 1 { split(FILENAME, path, "/"); crate = path[2]; code = FILENAME ~ /\.rt$/; split("", imported); within = ""; split("", of_std) }
+    # a module of std by its own name
+    code && /^use std::[a-z0-9_]+;/ { word = $0; gsub(/^use std::|;.*/, "", word); of_std[word] = 1; next }
     # several names of one crate, brought in together
     code && /^(pub )?use [a-z0-9_]+::\{/ {
         group = $0
@@ -27,6 +29,7 @@ find crates -name out -prune -o -type f \( -path '*/src/*.rt' -o -path '*/specs/
         sub(/\}.*/, "", group)
         say("names " crate " " from)
         n = split(group, brought, /[ ,]+/)
+        if (from == "std") for (i = 1; i <= n; i++) of_std[brought[i]] = 1
         for (i = 1; i <= n; i++) if (brought[i] ~ /^[A-Za-z]/) {
             say("handles " crate " " from "::" brought[i])
             if (brought[i] ~ /^[A-Z]/) imported[brought[i]] = from "::" brought[i]
@@ -39,7 +42,7 @@ find crates -name out -prune -o -type f \( -path '*/src/*.rt' -o -path '*/specs/
         for (rest = line; match(rest, /Rattle\.[a-z0-9_]+|[A-Za-z0-9_]+::[A-Za-z0-9_]*/); rest = substr(rest, RSTART + RLENGTH)) {
             word = substr(rest, RSTART, RLENGTH)
             if (sub(/^Rattle\./, "", word)) say("names " crate " " word)
-            else { say("names " crate " " crate_of(word)); if (code) say("handles " crate " " word) }
+            else if (!(crate_of(word) in of_std)) { say("names " crate " " crate_of(word)); if (code) say("handles " crate " " word) }
         }
         if (match(line, /(^|[^A-Za-z0-9_])use [a-z0-9_]+/)) { word = substr(line, RSTART, RLENGTH); sub(/.*use /, "", word); say("names " crate " " word) }
     }

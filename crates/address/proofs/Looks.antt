@@ -1,10 +1,13 @@
 -- A step of the search is a step of its definition, and where it goes down the items stay few.
 -- Assumes nothing.
+use Rattle.std.specs.Prelude.{None, Option, ℕ}
 use Prim.Native.Nat.{ℕ, suc, ◌+◌, ◌-◌, ◌≤◌, ◌<◌}
 use mathlib.Core.Path.{◌≡◌, refl, ap, ◌∙◌}
 use mathlib.Core.Bool.{Bool, true, false, cond}
 use mathlib.Core.List.{List}
 use native.Mathlib.Omega.{arith}
+use borrow.Author.Tests.{eq-eqb, ne_eqb}
+use Rattle.base.proofs.Or.{ors}
 use lib.ListN.{length, get_or, take, drop}
 use Rattle.sheet.specs.Records.{entry_of, role_of, entry_room, aperture_room}
 use Rattle.sheet.specs.Containers.{block_of}
@@ -20,8 +23,6 @@ use Rattle.sheet.proofs.Sound.{rooms, use_under}
 use Rattle.law_addresses.specs.Positions.{span_at, spot, Spans}
 use Rattle.law_addresses.specs.Sought.{further, misses, sought_as, sought_at, sought}
 use Rattle.law_addresses.specs.declared.Spot.{Spot}
-use Rattle.law_addresses.specs.declared.Named.{Named}
-use Rattle.law_addresses.specs.declared.Named.TheVariants.{Nothing}
 use Rattle.law_addresses.proofs.Spots.{spotted}
 use Rattle.law_addresses.proofs.Fitting.{spans_below}
 use Rattle.law_addresses.proofs.Lies.{misses_told, length_rest}
@@ -31,11 +32,11 @@ use Rattle.address.specs.declared.Look.{Look}
 use Rattle.address.specs.declared.Look.TheVariants.{Is, Below}
 
 -- the outcome of a step, where `below` searches what lies under it
-abbrev pub On : (Container → ℕ → List ℕ → Named) → List ℕ → Look → Named
+abbrev pub On : (Container → ℕ → List ℕ → Option ℕ) → List ℕ → Look → Option ℕ
 On below rest (Is t) = t
 On below rest (Below b u) = further b (below u (get_or rest 0 0) (drop 1 rest))
 
-on_as : (role : Role) (a : List ℕ) (below : Container → ℕ → List ℕ → Named) (r : Entry) (rest : List ℕ) →
+on_as : (role : Role) (a : List ℕ) (below : Container → ℕ → List ℕ → Option ℕ) (r : Entry) (rest : List ℕ) →
     On below rest (look_as role a r rest) ≡ sought_as role a below r rest
 unfolding look_as sought_as
 on_as Draws a below r rest = refl
@@ -44,7 +45,7 @@ on_as Repeats a below r rest = refl
 on_as Defines a below r rest = refl
 on_as Unknown a below r rest = refl
 
-on_cond : (m : Bool) (below : Container → ℕ → List ℕ → Named) (rest : List ℕ) (l : Look) → On below rest (cond m (Is Nothing) l) ≡ cond m Nothing (On below rest l)
+on_cond : (m : Bool) (below : Container → ℕ → List ℕ → Option ℕ) (rest : List ℕ) (l : Look) → On below rest (cond m (Is None) l) ≡ cond m None (On below rest l)
 on_cond true below rest l = refl
 on_cond false below rest l = refl
 
@@ -53,7 +54,21 @@ unfolding sought sought_at look_of look_at
 look_on e a h k q rest =
     let s = spot (span_at e) k.first k.len q in
     on_cond (misses k q s) (sought e a h) rest _
-    ∙ ap (cond (misses k q s) Nothing) (on_as (role_of (entry_of e s.entry).kind) a (sought e a h) (entry_of e s.entry) rest)
+    ∙ ap (cond (misses k q s) None) (on_as (role_of (entry_of e s.entry).kind) a (sought e a h) (entry_of e s.entry) rest)
+
+-- whether a search misses, by its two tests
+module _ (k : Container) (q : ℕ) (s : Spot) where
+  pub misses_none : q ≡ 0 → misses k q s ≡ true
+  unfolding misses
+  misses_none e = simp (eq-eqb q 0 e, ors)
+
+  pub misses_past : (q ≡ 0 → ⊥) → s.entry ≡ k.first + k.len → misses k q s ≡ true
+  unfolding misses
+  misses_past n e = simp (ne_eqb q 0 n, eq-eqb s.entry (k.first + k.len) e, ors)
+
+  pub misses_not : (q ≡ 0 → ⊥) → (s.entry ≡ k.first + k.len → ⊥) → misses k q s ≡ false
+  unfolding misses
+  misses_not n m = simp (ne_eqb q 0 n, ne_eqb s.entry (k.first + k.len) m, ors)
 
 -- a look at the entry that holds the position
 pub record Meets (e a : List ℕ) (k : Container) (s : Spot) : Type 0 where
@@ -106,7 +121,7 @@ module _ (e a : List ℕ) (k : Container) (o : Lower e a k) where
         small = u.sound.ok.small;
       }
 
-  not_is : {t : Named} {b : ℕ} {u : Container} → ◌≡◌ {A = Look} (Is t) (Below b u) → ⊥
+  not_is : {t : Option ℕ} {b : ℕ} {u : Container} → ◌≡◌ {A = Look} (Is t) (Below b u) → ⊥
   not_is q = let z : ◌≡◌ {A = ℕ} 0 1 = cc in omega arith
 
   going_as : (i : ℕ) (l : i < k.len) (rest : List ℕ) (b : ℕ) (u : Container) (role : Role) → role_of (entry_of e (k.first + i)).kind ≡ role →
@@ -127,7 +142,7 @@ module _ (e a : List ℕ) (k : Container) (o : Lower e a k) where
   look_below q rest b u t = go (misses k q (spot (span_at e) k.first k.len q)) refl t
     where
       go : (m : Bool) → misses k q (spot (span_at e) k.first k.len q) ≡ m →
-          cond m (Is Nothing) (look_as (role_of (entry_of e (spot (span_at e) k.first k.len q).entry).kind) a (entry_of e (spot (span_at e) k.first k.len q).entry) rest) ≡ Below b u →
+          cond m (Is None) (look_as (role_of (entry_of e (spot (span_at e) k.first k.len q).entry).kind) a (entry_of e (spot (span_at e) k.first k.len q).entry) rest) ≡ Below b u →
           Going b u
       go true f t = absurd (not_is t)
       go false f t = let w = meets e a k q f in going_as w.i w.i_in rest b u _ refl (rw w.entry_is at t)

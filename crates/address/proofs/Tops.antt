@@ -1,5 +1,6 @@
 -- The entries of the top level: what lies below them is asked for in order, and their items are few enough.
 -- Assumes nothing.
+use Rattle.std.specs.Prelude.{None, Option, Some, ℕ}
 use Prim.Native.Nat.{ℕ, zero, suc, ◌+◌, ◌-◌, ◌*◌, ◌≤◌, ◌<◌}
 use mathlib.Core.Path.{◌≡◌, refl, sym, ap}
 use mathlib.Core.Bool.{true, false, cond}
@@ -22,8 +23,6 @@ use Rattle.sheet.proofs.Sound.{rooms, top_sound}
 use Rattle.law_addresses.specs.Positions.{span_at, spot}
 use Rattle.law_addresses.specs.Sought.{further, all_zero, misses, sought_as, sought, sought_top_as, sought_top_at, sought_top}
 use Rattle.law_addresses.specs.declared.Spot.{Spot}
-use Rattle.law_addresses.specs.declared.Named.{Named}
-use Rattle.law_addresses.specs.declared.Named.TheVariants.{At, Nothing}
 use Rattle.law_addresses.proofs.Length.{used_block, body_sound, body_nine, body_count}
 use Rattle.law_addresses.proofs.Undo.{undone}
 use Rattle.law_addresses.proofs.Matched.{place_is_sought}
@@ -129,11 +128,11 @@ module _ (e a : List ℕ) (r : Entry) (rest : List ℕ) (o : Copied e a r (lengt
     unfolding sought_top_as ◌and◌
     copy_in = rw (o.eight, le-leb 1 copy positive, le-leb copy (r.sx * r.sy) high)
 
-  pub copy_none : copy ≡ 0 → Nothing ≡ sought_top_as Repeats e a copy left r rest
+  pub copy_none : copy ≡ 0 → None ≡ sought_top_as Repeats e a copy left r rest
   unfolding sought_top_as ◌and◌
   copy_none z = rw z
 
-  pub copy_past : r.sx * r.sy < copy → Nothing ≡ sought_top_as Repeats e a copy left r rest
+  pub copy_past : r.sx * r.sy < copy → None ≡ sought_top_as Repeats e a copy left r rest
   unfolding sought_top_as ◌and◌
   copy_past l = let one : 1 ≤ copy = omega arith in rw (le-leb 1 copy one, lt-leb copy (r.sx * r.sy) l)
 
@@ -147,7 +146,7 @@ at_top head e a v q m =
 
 -- what is named in an entry of the top level, by its role
 module _ (e a : List ℕ) (copy left : ℕ) (r : Entry) (rest : List ℕ) where
-  pub in_draws : role_of r.kind ≡ Draws → copy ≡ 0 → cond (all_zero rest) (At r.before) Nothing ≡ sought_top_as (role_of r.kind) e a copy left r rest
+  pub in_draws : role_of r.kind ≡ Draws → copy ≡ 0 → cond (all_zero rest) (Some r.before) None ≡ sought_top_as (role_of r.kind) e a copy left r rest
   unfolding sought_top_as sought_as
   in_draws q z = rw (q, z)
 
@@ -156,22 +155,22 @@ module _ (e a : List ℕ) (copy left : ℕ) (r : Entry) (rest : List ℕ) where
   unfolding sought_top_as sought_as
   in_uses q z long = rw (q, z, long)
 
-  pub not_draws : role_of r.kind ≡ Draws → (copy ≡ 0 → ⊥) → Nothing ≡ sought_top_as (role_of r.kind) e a copy left r rest
+  pub not_draws : role_of r.kind ≡ Draws → (copy ≡ 0 → ⊥) → None ≡ sought_top_as (role_of r.kind) e a copy left r rest
   unfolding sought_top_as
   not_draws q n = rw (q, ne_eqb copy 0 n)
 
-  pub not_uses : role_of r.kind ≡ Uses → (copy ≡ 0 → ⊥) → Nothing ≡ sought_top_as (role_of r.kind) e a copy left r rest
+  pub not_uses : role_of r.kind ≡ Uses → (copy ≡ 0 → ⊥) → None ≡ sought_top_as (role_of r.kind) e a copy left r rest
   unfolding sought_top_as
   not_uses q n = rw (q, ne_eqb copy 0 n)
 
   pub in_repeats : role_of r.kind ≡ Repeats → sought_top_as Repeats e a copy left r rest ≡ sought_top_as (role_of r.kind) e a copy left r rest
   in_repeats q = rw q
 
-  pub in_defines : role_of r.kind ≡ Defines → Nothing ≡ sought_top_as (role_of r.kind) e a copy left r rest
+  pub in_defines : role_of r.kind ≡ Defines → None ≡ sought_top_as (role_of r.kind) e a copy left r rest
   unfolding sought_top_as
   in_defines q = rw q
 
-  pub in_unknown : role_of r.kind ≡ Unknown → Nothing ≡ sought_top_as (role_of r.kind) e a copy left r rest
+  pub in_unknown : role_of r.kind ≡ Unknown → None ≡ sought_top_as (role_of r.kind) e a copy left r rest
   unfolding sought_top_as
   in_unknown q = rw q
 
@@ -180,7 +179,7 @@ module _ (head e a w : List ℕ) where
   abbrev top_spot : Spot
   top_spot = spot (span_at e) (top_of head).first (top_of head).len (get_or w 1 0)
 
-  pub top_none : misses (top_of head) (get_or w 1 0) top_spot ≡ true → Nothing ≡ sought_top e a (top_of head) w
+  pub top_none : misses (top_of head) (get_or w 1 0) top_spot ≡ true → None ≡ sought_top e a (top_of head) w
   unfolding sought_top sought_top_at
   top_none m = rw m
 
@@ -197,6 +196,6 @@ module _ (head e a w : List ℕ) where
   unfolding reply_of
   reply_not v = rw v
 
-  pub reply_is : valid head e a ≡ true → length w ≡ 10 → (t : Named) → t ≡ sought_top e a (top_of head) w → reply_as t ≡ reply_of head e a w
+  pub reply_is : valid head e a ≡ true → length w ≡ 10 → (t : Option ℕ) → t ≡ sought_top e a (top_of head) w → reply_as t ≡ reply_of head e a w
   unfolding reply_of
   reply_is v ten t q = rw (v, place_is_sought head e a v w ten, q)

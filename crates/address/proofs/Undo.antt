@@ -1,5 +1,6 @@
 -- What the call for an address answers, handed to the call for its item, gives the item again; and the other way round.
 -- Assumes nothing.
+use Rattle.std.specs.Prelude.{None, Option, Some, ℕ}
 use Prim.Native.Nat.{ℕ, ◌<◌}
 use mathlib.Core.Path.{◌≡◌, refl, sym, ap, ◌∙◌}
 use mathlib.Core.Bool.{Bool, true, false, cond}
@@ -11,8 +12,6 @@ use borrow.Author.Tests.{ltb-true, lt-ltb, eq-eqb, ne_eqb}
 use Rattle.sheet.specs.Meaning.{sheet_items}
 use Rattle.sheet.specs.Valid.{valid}
 use Rattle.law_addresses.specs.Addresses.{sheet_addresses, place_of}
-use Rattle.law_addresses.specs.declared.Named.{Named}
-use Rattle.law_addresses.specs.declared.Named.TheVariants.{At, Nothing}
 use Rattle.law_addresses.proofs.Matched.{as_many, place_of_address, address_at_place}
 use Rattle.address.specs.Answers.{reply_as, reply_of}
 use Rattle.address.specs.declared.Reply.{Reply}
@@ -67,7 +66,7 @@ module _ (head e a : List ℕ) where
       by_sheet false ne = refl
 
   -- item n has the address that names it
-  has_it : valid head e a ≡ true → (w : List ℕ) (n : ℕ) → place_of w all ≡ At n → (address_number head e a n ≡ 0) × (address_words head e a n ≡ w)
+  has_it : valid head e a ≡ true → (w : List ℕ) (n : ℕ) → place_of w all ≡ Some n → (address_number head e a n ≡ 0) × (address_words head e a n ≡ w)
   unfolding address_number address_words
   has_it v w n q =
       let many = as_many head e a v in
@@ -81,10 +80,10 @@ module _ (head e a : List ℕ) where
   unfolding reply_of reply_as
   address_back w q = by_sheet (valid head e a) refl q
     where
-      by_name_lem : valid head e a ≡ true → (x : Named) → place_of w all ≡ x → (reply_as x).number ≡ 0 →
+      by_name_lem : valid head e a ≡ true → (x : Option ℕ) → place_of w all ≡ x → (reply_as x).number ≡ 0 →
           (address_number head e a (reply_as x).item ≡ 0) × (address_words head e a (reply_as x).item ≡ w)
-      by_name_lem v (At n) x n0 = has_it v w n x
-      by_name_lem v Nothing x n0 = absurd (let z : ◌≡◌ {A = ℕ} 32 0 = n0 in omega arith)
+      by_name_lem v (Some n) x n0 = has_it v w n x
+      by_name_lem v None x n0 = absurd (let z : ◌≡◌ {A = ℕ} 32 0 = n0 in omega arith)
 
       by_sheet : (t : Bool) → valid head e a ≡ t → (cond t (reply_as (place_of w all)) (record { number = 21; item = 0 })).number ≡ 0 →
           (address_number head e a (cond t (reply_as (place_of w all)) (record { number = 21; item = 0 })).item ≡ 0)

@@ -1,5 +1,5 @@
 -- One step of the search for an address, and what it asks of the store.
-use Rattle.std.specs.Prelude.{ℕ, suc, ◌+◌, ◌*◌, ◌≤◌, ◌<◌, ◌^◌, ◌≡◌, true, cond, List, length}
+use Rattle.std.specs.Prelude.{ℕ, suc, ◌+◌, ◌*◌, ◌≤◌, ◌<◌, ◌^◌, ◌≡◌, true, cond, List, length, None, Option, Some}
 use Rattle.sheet.specs.Records.{entry_of, role_of, aperture_room}
 use Rattle.sheet.specs.Containers.{block_of, body_of, top_of}
 use Rattle.sheet.specs.Valid.{most, valid}
@@ -11,21 +11,19 @@ use Rattle.sheet.specs.Sound.{Sound}
 use Rattle.law_addresses.specs.Positions.{span_at, spot}
 use Rattle.law_addresses.specs.Sought.{all_zero, misses, sought}
 use Rattle.law_addresses.specs.declared.Spot.{Spot}
-use Rattle.law_addresses.specs.declared.Named.{Named}
-use Rattle.law_addresses.specs.declared.Named.TheVariants.{At, Nothing}
 use Rattle.address.specs.declared.Look.{Look}
 use Rattle.address.specs.declared.Look.TheVariants.{Is, Below}
 
 -- what is named by the words after an entry's position, or where to look on
 unfoldable pub look_as : Role → List ℕ → Entry → List ℕ → Look
-look_as Draws a r rest = Is (cond (all_zero rest) (At r.before) Nothing)
+look_as Draws a r rest = Is (cond (all_zero rest) (Some r.before) None)
 look_as Uses a r rest = Below r.before (block_of a r.who)
-look_as Repeats a r rest = Is Nothing
-look_as Defines a r rest = Is Nothing
-look_as Unknown a r rest = Is Nothing
+look_as Repeats a r rest = Is None
+look_as Defines a r rest = Is None
+look_as Unknown a r rest = Is None
 
 unfoldable pub look_at : List ℕ → List ℕ → Container → ℕ → Spot → List ℕ → Look
-look_at e a k q s rest = cond (misses k q s) (Is Nothing) (look_as (role_of (entry_of e s.entry).kind) a (entry_of e s.entry) rest)
+look_at e a k q s rest = cond (misses k q s) (Is None) (look_as (role_of (entry_of e s.entry).kind) a (entry_of e s.entry) rest)
 
 unfoldable pub look_of : List ℕ → List ℕ → Container → ℕ → List ℕ → Look
 look_of e a k q rest = look_at e a k q (spot (span_at e) k.first k.len q) rest
@@ -47,8 +45,8 @@ pub record Seeks (e a : List ℕ) (k : Container) (words : ℕ) : Type 0 where
   pub high : k.height ≤ suc words
 
 -- items that lie after b others are few enough to be counted
-abbrev pub Fits : ℕ → Named → Type 0
-Fits b t = (j : ℕ) → t ≡ At j → b + j < 2 ^ 63
+abbrev pub Fits : ℕ → Option ℕ → Type 0
+Fits b t = (j : ℕ) → t ≡ Some j → b + j < 2 ^ 63
 
 -- what lies below is asked for with a word less, and what it answers is few enough
 pub record Down (e a : List ℕ) (b : ℕ) (u : Container) (words : ℕ) : Type 0 where

@@ -5,7 +5,6 @@ ghost use Rattle.std.specs.Prelude.{◌≡◌, ◌≤◌, ◌+◌, suc, ◌/◌,
 ghost use Rattle.base.specs.Run.{sums};
 ghost use Rattle.sheet.specs.Records.{entry_room, role_of};
 ghost use Rattle.law_addresses.specs.Positions.{stands, stands_at, span_of, span_at, spot, Reaches, Spans};
-ghost use Rattle.law_addresses.specs.declared.Named.TheVariants.{At, Nothing};
 ghost use Rattle.sheet.specs.Containers.{top_of, body_of};
 ghost use Rattle.sheet.specs.Valid.{valid, most};
 ghost use Rattle.sheet.specs.declared.Role.TheVariants.{Repeats};
@@ -21,20 +20,18 @@ ghost use Rattle.address.specs.Starting.{Starts, Asked};
 ghost use Rattle.address.specs.Addressed.{address_number, address_words};
 ghost use Rattle.address.specs.Again.{item_again, address_again};
 
-use law_addresses::{Named, Spot};
+use law_addresses::Spot;
 use sheet::{Container, Entry, Role};
 
 // Positions in a container: what an entry takes of them, what stands before an entry, and which entry holds one.
 
+#[tactic(auto, unfolding(law_addresses::specs::Positions::stands))]
 fn stands_as(role: Role) -> u64
     ensures { result ≡ stands role }
 {
     match role {
-        Role::Draws => 1,
-        Role::Uses => 1,
-        Role::Repeats => 0,
-        Role::Defines => 0,
-        Role::Unknown => 0,
+        Role::Draws | Role::Uses => 1,
+        Role::Repeats | Role::Defines | Role::Unknown => 0,
     }
 }
 
@@ -43,41 +40,36 @@ fn standing(e: &[u64], p: usize, n: usize) -> u64
     requires { p + n ≤ entry_room e.now }
     ensures { result ≡ sums (stands_at e.now) p n }
 {
-    let mut i: usize = 0;
-    let mut so_far: u64 = 0;
-    while i < n {
+    let mut so_far = 0;
+    for i in 0..n {
         let r = sheet::entry_at(e, p + i);
         so_far += stands_as(sheet::role_of(r.kind));
-        i += 1;
     }
     so_far
 }
 
 // How many positions an entry takes.
+#[tactic(auto, unfolding(law_addresses::specs::Positions::span_of, law_addresses::specs::Positions::span_as))]
 fn span_of(e: &[u64], r: Entry) -> u64
     requires { Reaches e.now r }
     ensures { result ≡ span_of e.now r }
 {
     match sheet::role_of(r.kind) {
-        Role::Draws => 1,
-        Role::Uses => 1,
+        Role::Draws | Role::Uses => 1,
         Role::Repeats => standing(e, sheet::index(r.who), sheet::index(r.scale)),
-        Role::Defines => 0,
-        Role::Unknown => 0,
+        Role::Defines | Role::Unknown => 0,
     }
 }
 
-// The positions of n entries from p on.
+// The positions of n entries from p on. It adds as `standing` does: with what an entry takes passed in, a contract would have to say of
+// that function where it may be called, what it answers and that the sum fits, which is longer than the loop.
 fn spans(e: &[u64], p: usize, n: usize) -> u64
     requires { Spans e.now p n }
     ensures { result ≡ sums (span_at e.now) p n }
 {
-    let mut i: usize = 0;
-    let mut so_far: u64 = 0;
-    while i < n {
-        let r = sheet::entry_at(e, p + i);
-        so_far += span_of(e, r);
-        i += 1;
+    let mut so_far = 0;
+    for i in 0..n {
+        so_far += span_of(e, sheet::entry_at(e, p + i));
     }
     so_far
 }
@@ -87,24 +79,15 @@ fn holder(e: &[u64], p: usize, n: usize, m: u64) -> Spot
     requires { Spans e.now p n }
     ensures { result ≡ spot (span_at e.now) p n m }
 {
-    let mut i: usize = 0;
     let mut left = m;
-    while i < n {
-        let r = sheet::entry_at(e, p + i);
-        let span = span_of(e, r);
+    for i in 0..n {
+        let span = span_of(e, sheet::entry_at(e, p + i));
         if left <= span {
-            return Spot {
-                entry: p + i,
-                left: left,
-            };
+            return Spot { entry: p + i, left };
         }
         left -= span;
-        i += 1;
     }
-    Spot {
-        entry: p + n,
-        left: left,
-    }
+    Spot { entry: p + n, left }
 }
 
 // From an address to its item.
@@ -113,44 +96,33 @@ fn holder(e: &[u64], p: usize, n: usize, m: u64) -> Spot
 fn all_zero(w: &[u64]) -> bool
     ensures { result ≡ all_zero w.now }
 {
-    let mut i: usize = 0;
-    while i < w.len() {
-        if base::word_at(w, i) != 0 {
-            return false;
-        }
-        i += 1;
-    }
-    true
+    w.iter().all(|&x| x == 0)
 }
 
 // An item of what lies below, counted from the start of what lies around it.
-fn further_on(b: u64, t: Named) -> Named
+#[tactic(auto, unfolding(law_addresses::specs::Sought::further))]
+fn further_on(b: u64, t: Option<u64>) -> Option<u64>
     requires { Fits b t }
     ensures { result ≡ further b t }
 {
-    match t {
-        Named::At(j) => Named::At(b + j),
-        Named::Nothing => Named::Nothing,
-    }
+    t.map(|j| b + j)
 }
 
 // One step of a search: what is named, or the container to go down into and the items before it.
 #[derive(Clone, Copy)]
 pub enum Look {
-    Is(Named),
+    Is(Option<u64>),
     Below(u64, Container),
 }
 
 // An item that is drawn has nothing after its position.
-fn drawn_at(before: u64, rest: &[u64]) -> Named
-    ensures { result ≡ cond (all_zero rest.now) (At before) Nothing }
+fn drawn_at(before: u64, rest: &[u64]) -> Option<u64>
+    ensures { result ≡ cond (all_zero rest.now) (Some before) None }
 {
-    if all_zero(rest) {
-        return Named::At(before);
-    }
-    Named::Nothing
+    all_zero(rest).then_some(before)
 }
 
+#[tactic(auto, unfolding(crate::specs::Looking::look_as))]
 fn look_in(a: &[u64], r: Entry, rest: &[u64]) -> Look
     requires { UsesKnown a.now r }
     ensures { result ≡ look_as (role_of r.kind) a.now r rest.now }
@@ -158,9 +130,7 @@ fn look_in(a: &[u64], r: Entry, rest: &[u64]) -> Look
     match sheet::role_of(r.kind) {
         Role::Draws => Look::Is(drawn_at(r.before, rest)),
         Role::Uses => Look::Below(r.before, sheet::block_at(a, sheet::index(r.who))),
-        Role::Repeats => Look::Is(Named::Nothing),
-        Role::Defines => Look::Is(Named::Nothing),
-        Role::Unknown => Look::Is(Named::Nothing),
+        Role::Repeats | Role::Defines | Role::Unknown => Look::Is(None),
     }
 }
 
@@ -169,14 +139,14 @@ fn look_at(e: &[u64], a: &[u64], k: Container, q: u64, rest: &[u64]) -> Look
     ensures { result ≡ look_of e.now a.now k q rest.now }
 {
     let s = holder(e, k.first, k.len, q);
-    if base::either(q == 0, s.entry == k.first + k.len) {
-        return Look::Is(Named::Nothing);
+    if q == 0 || s.entry == k.first + k.len {
+        return Look::Is(None);
     }
     look_in(a, sheet::entry_at(e, s.entry), rest)
 }
 
 // The item of a container at a position and the words after it.
-fn seek(e: &[u64], a: &[u64], k: Container, q: u64, rest: &[u64]) -> Named
+fn seek(e: &[u64], a: &[u64], k: Container, q: u64, rest: &[u64]) -> Option<u64>
     requires { Seeks e.now a.now k (length rest.now) }
     ensures { result ≡ sought e.now a.now (suc (length rest.now)) k q rest.now }
 {
@@ -190,7 +160,7 @@ fn seek(e: &[u64], a: &[u64], k: Container, q: u64, rest: &[u64]) -> Named
 }
 
 // An item of the block that an entry of the top level uses.
-fn seek_use(e: &[u64], a: &[u64], before: u64, under: Container, rest: &[u64]) -> Named
+fn seek_use(e: &[u64], a: &[u64], before: u64, under: Container, rest: &[u64]) -> Option<u64>
     requires { Down e.now a.now before under (length rest.now) }
     ensures { result ≡ further before (sought e.now a.now (length rest.now) under (get_or rest.now 0 0) (drop 1 rest.now)) }
 {
@@ -201,22 +171,19 @@ fn seek_use(e: &[u64], a: &[u64], before: u64, under: Container, rest: &[u64]) -
 }
 
 // An item of a copy of the body that one repeats.
-fn seek_copy(e: &[u64], a: &[u64], copy: u64, left: u64, r: Entry, rest: &[u64]) -> Named
+fn seek_copy(e: &[u64], a: &[u64], copy: u64, left: u64, r: Entry, rest: &[u64]) -> Option<u64>
     requires { Copied e.now a.now r (length rest.now) }
     ensures { result ≡ sought_top_as Repeats e.now a.now copy left r rest.now }
 {
-    if copy == 0 {
-        return Named::Nothing;
-    }
-    if copy > r.sx * r.sy {
-        return Named::Nothing;
+    if copy == 0 || copy > r.sx * r.sy {
+        return None;
     }
     let before = r.before + (copy - 1) * r.count;
     further_on(before, seek(e, a, sheet::body_of(r), left, rest))
 }
 
 // In the entry of the top level that holds the position.
-fn seek_in(e: &[u64], a: &[u64], copy: u64, left: u64, r: Entry, rest: &[u64]) -> Named
+fn seek_in(e: &[u64], a: &[u64], copy: u64, left: u64, r: Entry, rest: &[u64]) -> Option<u64>
     requires { AtTop e.now a.now r × (length rest.now ≡ 8) }
     ensures { result ≡ sought_top_as (role_of r.kind) e.now a.now copy left r rest.now }
 {
@@ -225,7 +192,7 @@ fn seek_in(e: &[u64], a: &[u64], copy: u64, left: u64, r: Entry, rest: &[u64]) -
             if copy == 0 {
                 return drawn_at(r.before, rest);
             }
-            Named::Nothing
+            None
         }
         Role::Uses => {
             if copy == 0 {
@@ -237,24 +204,24 @@ fn seek_in(e: &[u64], a: &[u64], copy: u64, left: u64, r: Entry, rest: &[u64]) -
                     rest,
                 );
             }
-            Named::Nothing
+            None
         }
         Role::Repeats => seek_copy(e, a, copy, left, r, rest),
-        Role::Defines => Named::Nothing,
-        Role::Unknown => Named::Nothing,
+        Role::Defines => None,
+        Role::Unknown => None,
     }
 }
 
 // The item that an address of ten words names.
-fn seek_top(head: &[u64; 8], e: &[u64], a: &[u64], w: &[u64]) -> Named
+fn seek_top(head: &[u64; 8], e: &[u64], a: &[u64], w: &[u64]) -> Option<u64>
     requires { (valid head.now e.now a.now ≡ true) × (length w.now ≡ 10) }
     ensures { result ≡ sought_top e.now a.now (top_of head.now) w.now }
 {
     let top = sheet::top_of(head);
     let q = base::word_at(w, 1);
     let s = holder(e, top.first, top.len, q);
-    if base::either(q == 0, s.entry == top.first + top.len) {
-        return Named::Nothing;
+    if q == 0 || s.entry == top.first + top.len {
+        return None;
     }
     let r = sheet::entry_at(e, s.entry);
     seek_in(e, a, base::word_at(w, 0), s.left, r, &w[2..])
@@ -271,18 +238,18 @@ pub struct Reply {
 pub fn item_of(head: &[u64; 8], e: &[u64], a: &[u64], address: &[u64; 10]) -> Reply
     ensures { result ≡ reply_of head.now e.now a.now address.now }
 {
-    if inspect::is_sheet(head, e, a) {
-        return match seek_top(head, e, a, address) {
-            Named::At(n) => Reply { number: 0, item: n },
-            Named::Nothing => Reply {
-                number: 32,
-                item: 0,
-            },
+    if !inspect::is_sheet(head, e, a) {
+        return Reply {
+            number: 21,
+            item: 0,
         };
     }
-    Reply {
-        number: 21,
-        item: 0,
+    match seek_top(head, e, a, address) {
+        Some(item) => Reply { number: 0, item },
+        None => Reply {
+            number: 32,
+            item: 0,
+        },
     }
 }
 
@@ -344,8 +311,7 @@ fn copy_in(r: Entry, b: u64, j: u64) -> Start
     ensures { result ≡ Copy (j / r.count + 1) b (body_of r) (j % r.count) }
 {
     let copy = j / r.count + 1;
-    let m = j % r.count;
-    Start::Copy(copy, b, sheet::body_of(r), m)
+    Start::Copy(copy, b, sheet::body_of(r), j % r.count)
 }
 
 // How the address of item n begins.
@@ -393,16 +359,15 @@ pub fn address_of(head: &[u64; 8], e: &[u64], a: &[u64], k: u64, out: &mut [u64;
     ensures { (result ≡ address_number head.now e.now a.now k)
         × (out.new ≡ address_words head.now e.now a.now k) }
 {
-    *out = [0u64; 10];
-    if inspect::is_sheet(head, e, a) {
-        let top = sheet::top_of(head);
-        if k < top.items {
-            write_top(head, e, a, k, out);
-            return 0;
-        }
+    *out = [0; 10];
+    if !inspect::is_sheet(head, e, a) {
+        return 21;
+    }
+    if k >= sheet::top_of(head).items {
         return 20;
     }
-    21
+    write_top(head, e, a, k, out);
+    0
 }
 
 // From an item to its address and back, and from an address to its item and back: the two calls undo each other (document 02, request [12]).
@@ -411,15 +376,12 @@ pub fn address_of(head: &[u64; 8], e: &[u64], a: &[u64], k: u64, out: &mut [u64;
 pub fn item_again(head: &[u64; 8], e: &[u64], a: &[u64], k: u64) -> Reply
     ensures { result ≡ item_again head.now e.now a.now k }
 {
-    let mut words = [0u64; 10];
+    let mut words = [0; 10];
     let number = address_of(head, e, a, k, &mut words);
     if number == 0 {
         return item_of(head, e, a, &words);
     }
-    Reply {
-        number: number,
-        item: 0,
-    }
+    Reply { number, item: 0 }
 }
 
 // The address of the item that an address names: the address itself; zeros where it names none, with the number of that.
@@ -437,6 +399,6 @@ pub fn address_again(
     if named.number == 0 {
         return address_of(head, e, a, named.item, out);
     }
-    *out = [0u64; 10];
+    *out = [0; 10];
     named.number
 }

@@ -18,6 +18,7 @@ pub struct Parameters {
 }
 
 // `ABD` and what follows it.
+#[tactic(auto, unfolding(crate::specs::Blocks::block_start))]
 fn block_start(t: &[u8]) -> Command
     ensures { result ≡ block_start t.now }
 {
@@ -30,6 +31,7 @@ fn block_start(t: &[u8]) -> Command
 }
 
 // AB.
+#[tactic(auto, unfolding(base::specs::Choose::pick, crate::specs::Blocks::block_of))]
 pub fn block_of(s: &[u8]) -> Command
     ensures { result ≡ block_of s.now }
 {
@@ -51,6 +53,7 @@ fn parameters_of(s: &[u8], comma: usize) -> Parameters
     let mut count: usize = 0;
     let mut rounded: usize = 0;
     let mut at = comma;
+    // A place that jumps to the next `X`: no iterator walks so.
     while at < s.len() {
         let next = text::find(s, at + 1, b'X');
         let d = command::size_of(base::part(s, at + 1, next));

@@ -1,5 +1,6 @@
 -- The points of a D01 after FS that does not break 5 are near, and so is its centre.
 -- Assumes nothing.
+use Rattle.std.specs.Prelude.{Option, ℤ, None, Some}
 use Prim.Native.Nat.{◌*◌, ◌^◌, ◌≤◌}
 use mathlib.Core.Path.{◌≡◌, refl}
 use mathlib.Core.Bool.{Bool, true, false, cond}
@@ -11,11 +12,7 @@ use Rattle.base.specs.And.{◌and◌}
 use Rattle.points.specs.Points.{Within, same_point}
 use Rattle.points.specs.declared.Point.{Point}
 use Rattle.points.proofs.Laws.{shift_within}
-use Rattle.quadrant.specs.declared.Choice.{Choice}
-use Rattle.quadrant.specs.declared.Choice.TheVariants.{None, At}
 use Rattle.quadrant.proofs.Laws.{chosen_within}
-use Rattle.command.specs.declared.Axis.{Axis}
-use Rattle.command.specs.declared.Offset.{Offset}
 use Rattle.graphics.specs.Graphics.{origin}
 use Rattle.graphics.specs.declared.Graphics.{Graphics}
 use Rattle.changes.specs.After.{target}
@@ -24,24 +21,25 @@ use Rattle.operation_tests.proofs.Laws.{Less, less, less_within, Reaches, reache
 use Rattle.operation_tests.specs.Fits.{circular, offset_of, draws_far}
 use Rattle.arcs.specs.Arcs.{single, rests, choice_for, centre_of, chosen_at, kind_drawn, arc_centre}
 use Rattle.arcs.specs.Near.{Near}
+use Rattle.command.specs.declared.Offset.{Offset}
 
 -- I and J
-offset_less : (g : Graphics) (x y : Axis) (o : Offset) → is_formatted g ≡ true → draws_far g x y o ≡ false → Less (offset_of o)
+offset_less : (g : Graphics) (x y : Option ℤ) (o : Option Offset) → is_formatted g ≡ true → draws_far g x y o ≡ false → Less (offset_of o)
 unfolding draws_far ◌and◌
 offset_less g x y o f e = less (offset_of o) (rw f at (neither_right (goes_far g x y) _ e))
 
-goes : (g : Graphics) (x y : Axis) (o : Offset) → is_formatted g ≡ true → draws_far g x y o ≡ false → Reaches g x y
+goes : (g : Graphics) (x y : Option ℤ) (o : Option Offset) → is_formatted g ≡ true → draws_far g x y o ≡ false → Reaches g x y
 unfolding draws_far
 goes g x y o f e = reaches g x y f (neither_left (goes_far g x y) _ e)
 
-pub draws_near : (g : Graphics) (x y : Axis) (o : Offset) → is_formatted g ≡ true → draws_far g x y o ≡ false → Near g (target g x y) o
+pub draws_near : (g : Graphics) (x y : Option ℤ) (o : Option Offset) → is_formatted g ≡ true → draws_far g x y o ≡ false → Near g (target g x y) o
 draws_near g x y o f e =
     let r = goes g x y o f e in
     let h = offset_less g x y o f e in
     record { start = less_within g.point.at r.from; goal = less_within (target g x y) r.to; across = h.across; up = h.up }
 
 -- the centre is within twice 10^12: it stands from the start by I and J
-module _ (g : Graphics) (end : Point) (o : Offset) (h : Near g end o) where
+module _ (g : Graphics) (end : Point) (o : Option Offset) (h : Near g end o) where
   origin_within : Within (2 * 10 ^ 12) origin
   unfolding origin
   origin_within = record { across = omega arith; up = omega arith }
@@ -57,9 +55,9 @@ module _ (g : Graphics) (end : Point) (o : Offset) (h : Near g end o) where
   unfolding chosen_at choice_for
   chosen_near = go (choice_for g end o) refl
     where
-      go : (c : Choice) → choice_for g end o ≡ c → Within (2 * 10 ^ 12) (chosen_at c)
+      go : (c : Option Point) → choice_for g end o ≡ c → Within (2 * 10 ^ 12) (chosen_at c)
       go None q = origin_within
-      go (At c) q = chosen_within (eqb g.mode kind.cw) g.point.at end (nat_abs (offset_of o).x) (nat_abs (offset_of o).y) c q (10 ^ 12) h.start h.across h.up
+      go (Some c) q = chosen_within (eqb g.mode kind.cw) g.point.at end (nat_abs (offset_of o).x) (nat_abs (offset_of o).y) c q (10 ^ 12) h.start h.across h.up
 
   pub centre_within : Within (2 * 10 ^ 12) (arc_centre g end o)
   unfolding arc_centre

@@ -3,7 +3,6 @@
 
 ghost use Rattle.std.specs.Prelude.{◌≡◌, take, length, suc};
 ghost use Rattle.std.proofs.Math.Seq.{slice};
-ghost use Rattle.base.specs.Choose.{pick};
 ghost use Rattle.attribute_call.specs.Sayings.{value_in, named, asks_ta, saying, saying_of, taken_at};
 ghost use Rattle.sequence.specs.Commands.{commands_from};
 ghost use Rattle.formats.specs.Format.{no_format};
@@ -32,14 +31,8 @@ pub enum Saying {
     Sets { place: usize, length: usize },
 }
 
-// The first where the test holds, else the second.
-fn pick(test: bool, yes: Saying, no: Saying) -> Saying
-    ensures { result ≡ pick test yes no }
-{
-    if test { yes } else { no }
-}
-
 // The value after the first comma from `from` on, up to the first `*`.
+#[tactic(auto, unfolding(base::specs::Choose::pick, crate::specs::Sayings::value_in))]
 fn value_in(s: &[u8], from: usize) -> Saying
     ensures { result ≡ value_in s.now from }
 {
@@ -65,16 +58,15 @@ fn is_named(t: &[u8], n: Span, name: &[u8]) -> bool
 }
 
 // TA is asked, not TO.
+#[tactic(auto, unfolding(crate::specs::Sayings::asks_ta))]
 fn asks_ta(kind: Kind) -> bool
     ensures { result ≡ asks_ta kind }
 {
-    match kind {
-        Kind::Aperture => true,
-        Kind::Object => false,
-    }
+    matches!(kind, Kind::Aperture)
 }
 
 // What a deed says of the attribute, its command being from `from` up to `end`.
+#[tactic(auto, using(base::proofs::Or::joins), unfolding(base::specs::Choose::pick, crate::specs::Sayings::saying))]
 fn deed_says(file: &[u8], kind: Kind, name: &[u8], from: usize, end: usize, d: Deed) -> Saying
     ensures { result ≡ saying kind name.now (slice from end file.now) (value_in (take end file.now) from) d }
 {
@@ -84,44 +76,39 @@ fn deed_says(file: &[u8], kind: Kind, name: &[u8], from: usize, end: usize, d: D
         Deed::SetFile { .. } => Saying::Silent,
         Deed::SetAperture { name: n, .. } => {
             let value = value_in(base::up_to(file, end), from);
-            pick(base::both(ta, is_named(t, n, name)), value, Saying::Silent)
+            command::pick(ta && is_named(t, n, name), value, Saying::Silent)
         }
         Deed::SetObject { name: n, .. } => {
             let value = value_in(base::up_to(file, end), from);
-            pick(base::both(!ta, is_named(t, n, name)), value, Saying::Silent)
+            command::pick(!ta && is_named(t, n, name), value, Saying::Silent)
         }
-        Deed::Delete { name: n } => pick(is_named(t, n, name), Saying::Deletes, Saying::Silent),
+        Deed::Delete { name: n } => command::pick(
+            is_named(t, n, name),
+            Saying::Deletes,
+            Saying::Silent,
+        ),
         Deed::DeleteAll => Saying::Deletes,
     }
 }
 
 // What a command says of the attribute.
+#[tactic(auto, unfolding(crate::specs::Sayings::saying_of, crate::specs::Sayings::spoken))]
 pub fn saying_of(file: &[u8], kind: Kind, name: &[u8], c: Placed) -> Saying
     ensures { result ≡ saying_of file.now kind name.now c }
 {
-    let from = c.from;
-    let end = c.end;
-    let command = c.command;
-    match command {
-        Command::Attribute(d) => deed_says(file, kind, name, from, end, d),
-        Command::Broken(_) => Saying::Silent,
-        Command::Note => Saying::Silent,
-        Command::End => Saying::Silent,
-        Command::Set(_) => Saying::Silent,
-        Command::Operate(_) => Saying::Silent,
-        Command::Coded { .. } => Saying::Silent,
-        Command::Select(_) => Saying::Silent,
-        Command::Define(_) => Saying::Silent,
-        Command::Contain(_) => Saying::Silent,
+    match c.command {
+        Command::Attribute(d) => deed_says(file, kind, name, c.from, c.end, d),
+        _ => Saying::Silent,
     }
 }
 
 // An attribute of this kind is taken at a command with this text.
+#[tactic(auto, using(base::proofs::Or::joins), unfolding(base::specs::Choose::pick, crate::specs::Sayings::taken_at))]
 fn taken_at(kind: Kind, t: &[u8]) -> bool
     ensures { result ≡ taken_at kind t.now }
 {
     match kind {
-        Kind::Aperture => base::either(text::begins(t, b"AD"), text::begins(t, b"ABD")),
+        Kind::Aperture => text::begins(t, b"AD") || text::begins(t, b"ABD"),
         Kind::Object => true,
     }
 }
@@ -144,35 +131,25 @@ pub struct Heard {
     pub region: Region,
 }
 
-// What is answered at the command asked, once it is met.
-#[derive(Clone, Copy)]
-pub enum Found {
-    NotYet,
-    Is(Answer),
-}
-
 // Of two sayings the later, if it is one.
+#[tactic(auto, unfolding(crate::specs::Attribute::later))]
 fn later(s: Saying, t: Saying) -> Saying
     ensures { result ≡ later s t }
 {
     match t {
         Saying::Silent => s,
-        Saying::Deletes => Saying::Deletes,
-        Saying::Sets { place, length } => Saying::Sets { place, length },
+        Saying::Deletes | Saying::Sets { .. } => t,
     }
 }
 
 // What a region carries on: a TD deletes it, a TA sets nothing anew.
+#[tactic(auto, unfolding(crate::specs::Attribute::kept))]
 fn kept(s: Saying, t: Saying) -> Saying
     ensures { result ≡ kept s t }
 {
     match t {
-        Saying::Silent => s,
         Saying::Deletes => t,
-        Saying::Sets {
-            place: _,
-            length: _,
-        } => s,
+        Saying::Silent | Saying::Sets { .. } => s,
     }
 }
 
@@ -191,20 +168,16 @@ fn nothing() -> Heard
 }
 
 // What is heard with a command more.
+#[tactic(auto, unfolding(base::specs::Choose::pick, crate::specs::Attribute::heard_with))]
 fn heard_with(book: Book, file: &[u8], kind: Kind, name: &[u8], h: Heard, c: Placed) -> Heard
     ensures { result ≡ heard_with book file.now kind name.now h c }
 {
-    let from = c.from;
-    let end = c.end;
-    let o = outlines::outline_of(book, base::part(file, from, end));
+    let o = outlines::outline_of(book, base::part(file, c.from, c.end));
     let s = saying_of(file, kind, name, c);
-    let said = h.said;
-    let carried = h.carried;
-    let region = h.region;
     Heard {
-        said: later(said, s),
-        carried: pick(o.opens, said, kept(carried, s)),
-        region: outlines::region_after(region, o),
+        said: later(h.said, s),
+        carried: command::pick(o.opens, h.said, kept(h.carried, s)),
+        region: outlines::region_after(h.region, o),
     }
 }
 
@@ -220,12 +193,12 @@ fn refused(number: u64) -> Answer
 }
 
 // The value that is held, or 23.
+#[tactic(auto, unfolding(crate::specs::Attribute::held))]
 fn held(s: Saying) -> Answer
     ensures { result ≡ held s }
 {
     match s {
-        Saying::Silent => refused(23),
-        Saying::Deletes => refused(23),
+        Saying::Silent | Saying::Deletes => refused(23),
         Saying::Sets { place, length } => Answer {
             number: 0,
             place,
@@ -235,26 +208,23 @@ fn held(s: Saying) -> Answer
 }
 
 // The answer at a command, h being what is heard before it.
+#[tactic(auto, unfolding(base::specs::Choose::pick, crate::specs::Attribute::answer_at))]
 fn answer_at(book: Book, file: &[u8], kind: Kind, c: Placed, h: Heard) -> Answer
     ensures { result ≡ answer_at book file.now kind c h }
 {
-    let from = c.from;
-    let end = c.end;
-    let said = h.said;
-    let carried = h.carried;
-    let region = h.region;
-    let t = base::part(file, from, end);
+    let t = base::part(file, c.from, c.end);
     if taken_at(kind, t) {
-        return held(said);
+        return held(h.said);
     }
     let o = outlines::outline_of(book, t);
-    if outlines::begins_contour(region, o) {
-        return held(pick(o.opens, said, carried));
+    if outlines::begins_contour(h.region, o) {
+        return held(command::pick(o.opens, h.said, h.carried));
     }
     refused(23)
 }
 
 // What is found with a command more, h being what is heard before it.
+#[tactic(auto, unfolding(base::specs::Choose::pick, crate::specs::Pass::met))]
 fn met(
     book: Book,
     file: &[u8],
@@ -262,30 +232,23 @@ fn met(
     place: usize,
     h: Heard,
     c: Placed,
-    found: Found,
-) -> Found
+    found: Option<Answer>,
+) -> Option<Answer>
     ensures { result ≡ met book file.now kind place h c found }
 {
     match found {
-        Found::Is(a) => Found::Is(a),
-        Found::NotYet => {
-            if c.place == place {
-                return Found::Is(answer_at(book, file, kind, c, h));
-            }
-            Found::NotYet
-        }
+        None if c.place == place => Some(answer_at(book, file, kind, c, h)),
+        _ => found,
     }
 }
 
 // The answer at the end: a fault, else what is found, else 22.
-fn judged(number: u64, found: Found) -> Answer
+#[tactic(auto, unfolding(base::specs::Choose::pick, crate::specs::Pass::judged, crate::specs::Pass::closing))]
+fn judged(number: u64, found: Option<Answer>) -> Answer
     ensures { result ≡ judged number found }
 {
     if number == 0 {
-        return match found {
-            Found::NotYet => refused(22),
-            Found::Is(a) => a,
-        };
+        return found.unwrap_or(refused(22));
     }
     refused(number)
 }
@@ -297,7 +260,8 @@ fn pass(book: Book, file: &[u8], kind: Kind, place: usize, name: &[u8]) -> Answe
     let mut format = formats::no_format();
     let mut at: usize = 0;
     let mut heard = nothing();
-    let mut found = Found::NotYet;
+    let mut found = None;
+    // The file's next command is known only once this one is cut: no iterator walks so.
     loop {
         let t = sequence::turn_at(book, format, file, at);
         match t {
@@ -326,6 +290,7 @@ fn pass(book: Book, file: &[u8], kind: Kind, place: usize, name: &[u8]) -> Answe
 }
 
 // The attribute of this kind and name at the command that begins at the place, by a book.
+#[tactic(auto, unfolding(crate::specs::Attribute::attribute_of, sequence::specs::Commands::commands_of, crate::specs::Attribute::answer_in, base::specs::Choose::pick))]
 pub fn attribute(book: Book, file: &[u8], kind: Kind, place: usize, name: &[u8]) -> Answer
     ensures { result ≡ attribute_of book file.now kind place name.now }
 {

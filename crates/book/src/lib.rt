@@ -37,12 +37,9 @@ pub fn ascii() -> Book
 }
 
 // The edition is the old book's.
+#[tactic(auto, unfolding(crate::specs::Books::is_old, crate::specs::Books::is_old_edition))]
 pub fn is_old(b: Book) -> bool
     ensures { result ≡ is_old b }
 {
-    let edition = b.edition;
-    match edition {
-        Edition::New => false,
-        Edition::Old => true,
-    }
+    matches!(b.edition, Edition::Old)
 }

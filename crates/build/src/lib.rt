@@ -22,10 +22,7 @@ pub fn has_room(e: &[u64], closed: usize, high: usize) -> bool
     ensures { result ≡ has_room e.now closed high }
 {
     let room = e.len() / sheet::ENTRY_WORDS;
-    if high < room {
-        return closed < room - high;
-    }
-    false
+    high < room && closed < room - high
 }
 
 // Stores the next entry of the stack.
@@ -41,8 +38,7 @@ fn turn_over(e: &mut [u64], lo: usize, hi: usize, n: usize)
     requires { (hi ≤ entry_room e.old) × (lo + n ≤ hi) }
     ensures { Turned e.old e.new lo hi n }
 {
-    let mut i: usize = 0;
-    while i < n {
+    for i in 0..n {
         let j = hi - 1 - i;
         if lo + i >= j {
             return;
@@ -51,7 +47,6 @@ fn turn_over(e: &mut [u64], lo: usize, hi: usize, n: usize)
         let y = sheet::whole_entry(e, j);
         sheet::put_entry(e, lo + i, y);
         sheet::put_entry(e, j, x);
-        i += 1;
     }
 }
 
@@ -69,113 +64,93 @@ pub struct Builder {
 }
 
 // The entry of an item.
+#[tactic(auto, unfolding(crate::specs::Entries::item_entry))]
 fn item_entry(before: u64, t: Item) -> Entry
     ensures { result ≡ item_entry before t }
 {
-    let start = t.start;
-    let end = t.end;
-    let centre = t.centre;
     Entry {
         kind: t.kind,
-        before: before,
+        before,
         who: t.aperture,
         clear: sheet::flag_word(t.clear),
         flip: sheet::flag_word(t.flip),
         angle: t.angle,
         scale: t.scale,
-        sx: sheet::x_word(start),
-        sy: sheet::y_word(start),
-        ex: sheet::x_word(end),
-        ey: sheet::y_word(end),
-        cx: sheet::x_word(centre),
-        cy: sheet::y_word(centre),
+        sx: sheet::x_word(t.start),
+        sy: sheet::y_word(t.start),
+        ex: sheet::x_word(t.end),
+        ey: sheet::y_word(t.end),
+        cx: sheet::x_word(t.centre),
+        cy: sheet::y_word(t.centre),
         count: t.count,
         place: t.place,
     }
 }
 
 // The entry of a flash of the block in aperture record `who`.
+#[tactic(auto, unfolding(crate::specs::Entries::use_entry))]
 fn use_entry(before: u64, who: u64, m: Pose, place: u64) -> Entry
     ensures { result ≡ use_entry before who m place }
 {
-    let at = m.at;
     Entry {
         kind: 9,
-        before: before,
-        who: who,
+        before,
+        who,
         clear: sheet::flag_word(m.clear),
         flip: sheet::flag_word(m.flip),
         angle: m.angle,
-        scale: 0,
-        sx: 0,
-        sy: 0,
-        ex: sheet::x_word(at),
-        ey: sheet::y_word(at),
-        cx: 0,
-        cy: 0,
-        count: 0,
-        place: place,
+        ex: sheet::x_word(m.at),
+        ey: sheet::y_word(m.at),
+        place,
+        ..Entry::default()
     }
 }
 
 // The entry that opens a block; the start and the height of the container around it are kept there meanwhile.
+#[tactic(auto, unfolding(crate::specs::Entries::block_entry))]
 fn block_entry(before: u64, who: u64, start: u64, height: u64, place: u64) -> Entry
     ensures { result ≡ block_entry before who start height place }
 {
     Entry {
         kind: 11,
-        before: before,
-        who: who,
-        clear: 0,
-        flip: 0,
-        angle: 0,
-        scale: 0,
+        before,
+        who,
         sx: start,
         sy: height,
-        ex: 0,
-        ey: 0,
-        cx: 0,
-        cy: 0,
-        count: 0,
-        place: place,
+        place,
+        ..Entry::default()
     }
 }
 
 // The entry that opens a repeat; the start of the top level is kept there meanwhile.
+#[tactic(auto, unfolding(crate::specs::Entries::repeat_entry))]
 fn repeat_entry(before: u64, start: u64, s: Repeat, place: u64) -> Entry
     ensures { result ≡ repeat_entry before start s place }
 {
     Entry {
         kind: 10,
-        before: before,
+        before,
         who: start,
-        clear: 0,
-        flip: 0,
-        angle: 0,
-        scale: 0,
         sx: s.nx,
         sy: s.ny,
-        ex: 0,
-        ey: 0,
         cx: s.dx,
         cy: s.dy,
-        count: 0,
-        place: place,
+        place,
+        ..Entry::default()
     }
 }
 
 // The height of a container in which a block of height k is flashed.
+#[tactic(auto, unfolding(crate::specs::Builder::raised))]
 fn raise(h: u64, k: u64) -> u64
     requires { k ≤ 8 }
     ensures { result ≡ raised h k }
 {
-    if h <= k {
-        return k + 1;
-    }
-    h
+    h.max(k + 1)
 }
 
 // An entry more in the innermost container, which puts out k items; there is room for it.
+#[tactic(auto, unfolding(crate::specs::Builder::grown))]
 fn add(e: &mut [u64], b: Builder, r: Entry, k: u64, h: u64) -> Builder
     requires high_bound { b.closed + b.high < entry_room e.old }
     requires k_bound { b.items + k ≤ 18446744073709551615 }
@@ -183,26 +158,26 @@ fn add(e: &mut [u64], b: Builder, r: Entry, k: u64, h: u64) -> Builder
 {
     push(e, b.high, r);
     Builder {
-        closed: b.closed,
         high: b.high + 1,
-        start: b.start,
         height: h,
         items: b.items + k,
+        ..b
     }
 }
 
 // An entry more, after which a container of height h opens; there is room for it.
+#[tactic(auto, unfolding(crate::specs::Builder::inner))]
 fn begin(e: &mut [u64], b: Builder, r: Entry, h: u64) -> Builder
     requires { b.closed + b.high < entry_room e.old }
     ensures { (result ≡ inner b h) × (e.new ≡ pushed e.old b.high r) }
 {
     push(e, b.high, r);
     Builder {
-        closed: b.closed,
         high: b.high + 1,
         start: b.high + 1,
         height: h,
         items: 0,
+        ..b
     }
 }
 
@@ -249,26 +224,14 @@ pub fn open_repeat(e: &mut [u64], b: Builder, s: Repeat, place: u64) -> Builder
 // A contour's edges: each is counted in the contour's entry and put after the others. The contour itself is put as an item without edges.
 
 // The entry with one edge more.
+#[tactic(auto, unfolding(crate::specs::Counted::counted))]
 fn one_more(r: Entry) -> Entry
     requires { r.count ≤ 1000000000000 }
     ensures { result ≡ counted r }
 {
     Entry {
-        kind: r.kind,
-        before: r.before,
-        who: r.who,
-        clear: r.clear,
-        flip: r.flip,
-        angle: r.angle,
-        scale: r.scale,
-        sx: r.sx,
-        sy: r.sy,
-        ex: r.ex,
-        ey: r.ey,
-        cx: r.cx,
-        cy: r.cy,
         count: r.count + 1,
-        place: r.place,
+        ..r
     }
 }
 
@@ -297,6 +260,7 @@ pub fn add_edge(e: &mut [u64], b: Builder, c: usize, t: Item) -> Builder
 const MARK: u64 = 5716828633109713478;
 
 // The entry that a closed block leaves.
+#[tactic(auto, unfolding(law_open_store::specs::Closing::defines))]
 fn block_left(o: Entry) -> Entry
     ensures { result ≡ defines o }
 {
@@ -304,22 +268,13 @@ fn block_left(o: Entry) -> Entry
         kind: 11,
         before: o.before,
         who: o.who,
-        clear: 0,
-        flip: 0,
-        angle: 0,
-        scale: 0,
-        sx: 0,
-        sy: 0,
-        ex: 0,
-        ey: 0,
-        cx: 0,
-        cy: 0,
-        count: 0,
         place: o.place,
+        ..Entry::default()
     }
 }
 
 // The entry that a closed repeat leaves: its body is len entries from `first` on, with t items.
+#[tactic(auto, unfolding(law_open_store::specs::Closing::repeats))]
 fn repeat_left(o: Entry, first: u64, len: u64, t: u64) -> Entry
     ensures { result ≡ repeats o first len t }
 {
@@ -327,18 +282,14 @@ fn repeat_left(o: Entry, first: u64, len: u64, t: u64) -> Entry
         kind: 10,
         before: o.before,
         who: first,
-        clear: 0,
-        flip: 0,
-        angle: 0,
         scale: len,
         sx: o.sx,
         sy: o.sy,
-        ex: 0,
-        ey: 0,
         cx: o.cx,
         cy: o.cy,
         count: t,
         place: o.place,
+        ..Entry::default()
     }
 }
 
@@ -416,11 +367,7 @@ fn clear_from(e: &mut [u64], p: usize)
     requires { p ≤ length e.old }
     ensures { e.new ≡ take p e.old ++ replicate (length e.old - p) 0 }
 {
-    let mut i = p;
-    while i < e.len() {
-        e[i] = 0;
-        i += 1;
-    }
+    e[p..].fill(0);
 }
 
 // The end of the marks: the top level is put after all that is closed, and 0 after it.
@@ -434,6 +381,7 @@ pub fn finish(e: &mut [u64], b: Builder)
 }
 
 // The head of a sheet: what was used, and the top level.
+#[tactic(auto, unfolding(crate::specs::Closed::head_of))]
 pub fn head_words(unit: u64, b: Builder, apertures: u64, macros: u64, numbers: u64) -> [u64; 8]
     requires { b.closed + b.high ≤ 18446744073709551615 }
     ensures { result ≡ head_of unit b apertures macros numbers }

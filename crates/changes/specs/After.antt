@@ -1,12 +1,10 @@
 -- What each command changes of the graphics state (01, State; decisions 81 to 89).
-use Rattle.std.specs.Prelude.{ℕ, ◌^◌, Bool, true, false, cond, not, eqb, ℤ, nat_abs, ◌+ℤ◌}
+use Rattle.std.specs.Prelude.{ℕ, ◌^◌, Bool, true, false, cond, not, eqb, ℤ, nat_abs, ◌+ℤ◌, None, Option, Some}
 use Rattle.base.specs.And.{◌and◌}
 use Rattle.base.specs.Choose.{pick}
 use Rattle.formats.specs.declared.Format.{Format}
 use Rattle.points.specs.Points.{pt, Within}
 use Rattle.points.specs.declared.Point.{Point}
-use Rattle.command.specs.declared.Axis.{Axis}
-use Rattle.command.specs.declared.Axis.TheVariants as axis
 use Rattle.command.specs.declared.Setting.{Setting}
 use Rattle.command.specs.declared.Setting.TheVariants as setting
 use Rattle.command.specs.declared.Operation.{Operation}
@@ -22,12 +20,12 @@ use Rattle.graphics.specs.declared.Region.{Region}
 use Rattle.graphics.specs.declared.Graphics.{Graphics}
 
 -- "a missing X or Y keeps the current one"; in incremental notation a written one is added to it
-unfoldable pub along : Bool → Axis → ℤ → ℤ
-along incremental axis.Missing old = old
-along incremental (axis.At v) old = cond incremental (old +ℤ v) v
+unfoldable pub along : Bool → Option ℤ → ℤ → ℤ
+along incremental None old = old
+along incremental (Some v) old = cond incremental (old +ℤ v) v
 
 -- the point that an operation goes to; "incremental coordinates count from (0, 0) while the point is unset" (02, [9]), where it lies then
-unfoldable pub target : Graphics → Axis → Axis → Point
+unfoldable pub target : Graphics → Option ℤ → Option ℤ → Point
 target g x y = pt (along g.incremental x g.point.at.x) (along g.incremental y g.point.at.y)
 
 unfoldable pub going_to : Point → Graphics → Graphics

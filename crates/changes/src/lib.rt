@@ -7,201 +7,166 @@ ghost use Rattle.graphics.specs.Orientation.{angle_of};
 ghost use Rattle.graphics.specs.Graphics.{unset, no_region, with_header, with_notation, with_point, with_transform, with_region};
 ghost use Rattle.changes.specs.After.{along, target, goal, going_to, empty_region, starts_contour, drawing, ended, with_format, with_unit, with_coded, with_clear, with_mirror, with_rotation, with_scale, after_setting, mode_of, after_operation, after, Reached};
 
-use command::{Axis, Command, Operation, Setting};
+use command::{Command, Operation, Setting};
 use decimal::Amount;
 use formats::Format;
 use graphics::{Current, Graphics, Header, Mirror, Region, Transform};
 use points::Point;
 
-// The sum of two numbers.
-fn sum(a: i64, b: i64) -> i64
-    requires { nat_abs (a +ℤ b) ≤ 10 ^ 12 }
-    ensures { result ≡ a +ℤ b }
-{
-    a + b
-}
-
 // A coordinate as it is given, counted from the old one in incremental notation; else the old one.
-fn along(incremental: bool, a: Axis, old: i64) -> i64
+#[tactic(auto, unfolding(crate::specs::After::along))]
+fn along(incremental: bool, a: Option<i64>, old: i64) -> i64
     requires { nat_abs (along incremental a old) ≤ 10 ^ 12 }
     ensures { result ≡ along incremental a old }
 {
     match a {
-        Axis::Missing => old,
-        Axis::At(v) => {
+        None => old,
+        Some(v) => {
             if incremental {
-                return sum(old, v);
+                return old + v;
             }
             v
         }
     }
 }
 
-// The point with the x that is given, else as it was.
-fn across(incremental: bool, p: Point, a: Axis) -> Point
-    requires { nat_abs (along incremental a p.x) ≤ 10 ^ 12 }
-    ensures { result ≡ pt (along incremental a p.x) p.y }
-{
-    Point {
-        x: along(incremental, a, p.x),
-        y: p.y,
-    }
-}
-
-// The point with the y that is given, else as it was.
-fn up(incremental: bool, p: Point, a: Axis) -> Point
-    requires { nat_abs (along incremental a p.y) ≤ 10 ^ 12 }
-    ensures { result ≡ pt p.x (along incremental a p.y) }
-{
-    Point {
-        x: p.x,
-        y: along(incremental, a, p.y),
-    }
-}
-
 // The point that an operation goes to.
-pub fn target(g: Graphics, x: Axis, y: Axis) -> Point
+#[tactic(auto, unfolding(crate::specs::After::target))]
+pub fn target(g: Graphics, x: Option<i64>, y: Option<i64>) -> Point
     requires { Within (10 ^ 12) (target g x y) }
     ensures { result ≡ target g x y }
 {
     let p = g.point.at;
-    up(g.incremental, across(g.incremental, p, x), y)
+    Point {
+        x: along(g.incremental, x, p.x),
+        y: along(g.incremental, y, p.y),
+    }
 }
 
 // A D01 here is the first of a contour.
+#[tactic(auto, using(base::proofs::And::ands), unfolding(crate::specs::After::starts_contour))]
 pub fn starts_contour(r: Region) -> bool
     ensures { result ≡ starts_contour r }
 {
-    base::both(r.on, !r.contour)
+    r.on && !r.contour
 }
 
 // The region after a D01 from p on.
+#[tactic(auto, unfolding(crate::specs::After::drawing))]
 pub fn drawing(r: Region, p: Point) -> Region
     ensures { result ≡ drawing r p }
 {
-    if starts_contour(r) {
-        return Region {
-            on: r.on,
-            moved: r.moved,
-            contour: r.on,
-            first: p,
-        };
-    }
-    let first = r.first;
+    let first = if starts_contour(r) { p } else { r.first };
     Region {
-        on: r.on,
-        moved: r.moved,
         contour: r.on,
         first,
+        ..r
     }
 }
 
 // The region after a D02.
+#[tactic(auto, unfolding(crate::specs::After::ended, graphics::specs::Graphics::origin))]
 pub fn ended(r: Region) -> Region
     ensures { result ≡ ended r }
 {
     Region {
-        on: r.on,
         moved: r.on,
         contour: false,
         first: Point { x: 0, y: 0 },
+        ..r
     }
 }
 
 // FS: its notation counts from here on.
+#[tactic(auto, unfolding(crate::specs::After::with_format))]
 fn set_format(f: Format, g: Graphics) -> Graphics
     ensures { result ≡ with_notation f.incremental (with_header (with_format f g.header) g) }
 {
     let h = Header {
         format: f,
-        unit: g.header.unit,
-        coded: g.header.coded,
+        ..g.header
     };
     graphics::with_notation(f.incremental, graphics::with_header(h, g))
 }
 
 // MO.
+#[tactic(auto, unfolding(crate::specs::After::with_unit))]
 fn set_unit(u: u64, g: Graphics) -> Graphics
     ensures { result ≡ with_header (with_unit u g.header) g }
 {
-    let format = g.header.format;
     let h = Header {
-        format,
         unit: u,
-        coded: g.header.coded,
+        ..g.header
     };
     graphics::with_header(h, g)
 }
 
 // G70 and G71: the first of them counts.
+#[tactic(auto, unfolding(base::specs::Choose::pick, crate::specs::After::with_coded))]
 fn set_coded(u: u64, g: Graphics) -> Graphics
     ensures { result ≡ with_header (with_coded u g.header) g }
 {
-    let format = g.header.format;
     let h = Header {
-        format,
-        unit: g.header.unit,
-        coded: base::row(g.header.coded == 0, u, g.header.coded),
+        coded: if g.header.coded == 0 {
+            u
+        } else {
+            g.header.coded
+        },
+        ..g.header
     };
     graphics::with_header(h, g)
 }
 
 // LP.
+#[tactic(auto, unfolding(crate::specs::After::with_clear))]
 fn set_clear(clear: bool, g: Graphics) -> Graphics
     ensures { result ≡ with_transform (with_clear clear g.transform) g }
 {
-    let mirror = g.transform.mirror;
     let t = Transform {
         clear,
-        mirror,
-        rotation: g.transform.rotation,
-        scale: g.transform.scale,
+        ..g.transform
     };
     graphics::with_transform(t, g)
 }
 
 // LM.
+#[tactic(auto, unfolding(crate::specs::After::with_mirror))]
 fn set_mirror(mirror: Mirror, g: Graphics) -> Graphics
     ensures { result ≡ with_transform (with_mirror mirror g.transform) g }
 {
     let t = Transform {
-        clear: g.transform.clear,
         mirror,
-        rotation: g.transform.rotation,
-        scale: g.transform.scale,
+        ..g.transform
     };
     graphics::with_transform(t, g)
 }
 
 // LR.
+#[tactic(auto, unfolding(crate::specs::After::with_rotation))]
 fn set_rotation(a: Amount, g: Graphics) -> Graphics
     ensures { result ≡ with_transform (with_rotation (angle_of a.millionths) g.transform) g }
 {
-    let mirror = g.transform.mirror;
     let t = Transform {
-        clear: g.transform.clear,
-        mirror,
         rotation: graphics::angle_of(a.millionths),
-        scale: g.transform.scale,
+        ..g.transform
     };
     graphics::with_transform(t, g)
 }
 
 // LS.
+#[tactic(auto, unfolding(crate::specs::After::with_scale))]
 fn set_scale(a: Amount, g: Graphics) -> Graphics
     ensures { result ≡ with_transform (with_scale (nat_abs a.millionths) g.transform) g }
 {
-    let mirror = g.transform.mirror;
     let t = Transform {
-        clear: g.transform.clear,
-        mirror,
-        rotation: g.transform.rotation,
-        scale: ints::size(a.millionths),
+        scale: a.millionths.unsigned_abs(),
+        ..g.transform
     };
     graphics::with_transform(t, g)
 }
 
 // G36.
+#[tactic(auto, unfolding(crate::specs::After::empty_region, graphics::specs::Graphics::origin))]
 fn begin_region(g: Graphics) -> Graphics
     ensures { result ≡ with_region empty_region g }
 {
@@ -215,6 +180,7 @@ fn begin_region(g: Graphics) -> Graphics
 }
 
 // G37.
+#[tactic(auto, unfolding(graphics::specs::Graphics::no_region, graphics::specs::Graphics::origin))]
 fn end_region(g: Graphics) -> Graphics
     ensures { result ≡ with_region no_region g }
 {
@@ -228,6 +194,7 @@ fn end_region(g: Graphics) -> Graphics
 }
 
 // AB and SR, opening and closing.
+#[tactic(auto, unfolding(graphics::specs::Graphics::unset, graphics::specs::Graphics::origin))]
 pub fn unplaced(g: Graphics) -> Graphics
     ensures { result ≡ with_point unset g }
 {
@@ -239,6 +206,7 @@ pub fn unplaced(g: Graphics) -> Graphics
 }
 
 // The current point is p.
+#[tactic(auto, unfolding(crate::specs::After::going_to))]
 fn going_to(p: Point, g: Graphics) -> Graphics
     ensures { result ≡ going_to p g }
 {
@@ -246,26 +214,24 @@ fn going_to(p: Point, g: Graphics) -> Graphics
 }
 
 // D01.
-fn drawn(x: Axis, y: Axis, g: Graphics) -> Graphics
+fn drawn(x: Option<i64>, y: Option<i64>, g: Graphics) -> Graphics
     requires { Within (10 ^ 12) (target g x y) }
     ensures { result ≡ going_to (target g x y) (with_region (drawing g.region g.point.at) g) }
 {
-    let r = g.region;
-    let p = g.point.at;
-    going_to(target(g, x, y), graphics::with_region(drawing(r, p), g))
+    let region = drawing(g.region, g.point.at);
+    going_to(target(g, x, y), graphics::with_region(region, g))
 }
 
 // D02.
-fn moved(x: Axis, y: Axis, g: Graphics) -> Graphics
+fn moved(x: Option<i64>, y: Option<i64>, g: Graphics) -> Graphics
     requires { Within (10 ^ 12) (target g x y) }
     ensures { result ≡ going_to (target g x y) (with_region (ended g.region) g) }
 {
-    let r = g.region;
-    going_to(target(g, x, y), graphics::with_region(ended(r), g))
+    going_to(target(g, x, y), graphics::with_region(ended(g.region), g))
 }
 
 // D03.
-fn flashed(x: Axis, y: Axis, g: Graphics) -> Graphics
+fn flashed(x: Option<i64>, y: Option<i64>, g: Graphics) -> Graphics
     requires { Within (10 ^ 12) (target g x y) }
     ensures { result ≡ going_to (target g x y) g }
 {
@@ -273,6 +239,7 @@ fn flashed(x: Axis, y: Axis, g: Graphics) -> Graphics
 }
 
 // The state after a setting that is accepted.
+#[tactic(auto, unfolding(crate::specs::After::after_setting))]
 pub fn after_setting(s: Setting, g: Graphics) -> Graphics
     ensures { result ≡ after_setting s g }
 {
@@ -301,34 +268,20 @@ pub fn after_setting(s: Setting, g: Graphics) -> Graphics
 }
 
 // The mode of a setting that changes the mode alone: 1 for G01, 2 for G02, 3 for G03, and 0 for any other.
+#[tactic(auto, unfolding(crate::specs::After::mode_of))]
 pub fn mode_of(s: Setting) -> u64
     ensures { result ≡ mode_of s }
 {
     match s {
-        Setting::Format(_) => 0,
-        Setting::Absolute => 0,
-        Setting::Incremental => 0,
-        Setting::Millimetres => 0,
-        Setting::Inches => 0,
-        Setting::CodedMillimetres => 0,
-        Setting::CodedInches => 0,
         Setting::Linear => 1,
         Setting::Clockwise => 2,
         Setting::Counterclockwise => 3,
-        Setting::SingleQuadrant => 0,
-        Setting::MultiQuadrant => 0,
-        Setting::Dark => 0,
-        Setting::Clear => 0,
-        Setting::Mirror { .. } => 0,
-        Setting::Rotation { .. } => 0,
-        Setting::Scale { .. } => 0,
-        Setting::RegionStart => 0,
-        Setting::RegionEnd => 0,
-        Setting::Halt => 0,
+        _ => 0,
     }
 }
 
 // The state after a D01, D02 or D03 that is accepted.
+#[tactic(auto, unfolding(crate::specs::After::after_operation, crate::specs::After::goal))]
 pub fn after_operation(o: Operation, g: Graphics) -> Graphics
     requires { Within (10 ^ 12) (goal o g) }
     ensures { result ≡ after_operation o g }
@@ -341,6 +294,7 @@ pub fn after_operation(o: Operation, g: Graphics) -> Graphics
 }
 
 // The state after a command that is accepted.
+#[tactic(auto, unfolding(crate::specs::After::after, crate::specs::After::Reached))]
 pub fn after(c: Command, g: Graphics) -> Graphics
     requires { Reached c g }
     ensures { result ≡ after c g }
@@ -350,11 +304,6 @@ pub fn after(c: Command, g: Graphics) -> Graphics
         Command::Operate(o) => after_operation(o, g),
         Command::Coded { code, operation } => after_operation(operation, after_setting(code, g)),
         Command::Contain(_) => unplaced(g),
-        Command::Broken(_) => g,
-        Command::Note => g,
-        Command::End => g,
-        Command::Select(_) => g,
-        Command::Define(_) => g,
-        Command::Attribute(_) => g,
+        _ => g,
     }
 }

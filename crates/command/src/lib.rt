@@ -5,11 +5,13 @@ ghost use Rattle.std.specs.Prelude.{◌≡◌};
 ghost use Rattle.base.specs.Bytes.{same_bytes};
 ghost use Rattle.base.specs.Choose.{pick};
 ghost use Rattle.command.specs.Flaws.{flaw_number};
+ghost use Rattle.faults.specs.Rule.{number_of_rule};
 ghost use Rattle.command.specs.Rounded.{counted, rounded_in_setting, rounded_in_definition, rounded_in_bracket, rounded_of};
 ghost use Rattle.command.specs.Numbers.{judged, in_range, aperture_number, any_size, copies_of, sized_as, size_of};
 
 use decimal::{Amount, Decimal};
-use digits::Natural;
+use digits::NumberError;
+use faults::Rule;
 use formats::Format;
 use points::Point;
 
@@ -20,18 +22,11 @@ pub struct Span {
     pub to: usize,
 }
 
-// X or Y of an operation, in millionths.
-#[derive(Clone, Copy)]
-pub enum Axis {
-    Missing,
-    At(i64),
-}
-
 // I and J of a D01, together, and whether one of them has a sign.
 #[derive(Clone, Copy)]
-pub enum Offset {
-    Missing,
-    By { offset: Point, signed: bool },
+pub struct Offset {
+    pub offset: Point,
+    pub signed: bool,
 }
 
 // A number of a command as it is written: whether it is none (4), whether it is too long or outside its range (5), and its value,
@@ -102,9 +97,19 @@ pub enum Setting {
 // D01, D02 and D03.
 #[derive(Clone, Copy)]
 pub enum Operation {
-    Draw { x: Axis, y: Axis, centre: Offset },
-    Move { x: Axis, y: Axis },
-    Flash { x: Axis, y: Axis },
+    Draw {
+        x: Option<i64>,
+        y: Option<i64>,
+        centre: Option<Offset>,
+    },
+    Move {
+        x: Option<i64>,
+        y: Option<i64>,
+    },
+    Flash {
+        x: Option<i64>,
+        y: Option<i64>,
+    },
 }
 
 // What defines an aperture or a macro, and how many of its decimals were rounded.
@@ -176,7 +181,8 @@ pub enum Command {
 }
 
 // The first where the test holds, else the second.
-pub fn pick(test: bool, yes: Command, no: Command) -> Command
+#[tactic(auto, unfolding(base::specs::Choose::pick))]
+pub fn pick<T: Copy>(test: bool, yes: T, no: T) -> T
     ensures { result ≡ pick test yes no }
 {
     if test { yes } else { no }
@@ -190,6 +196,7 @@ pub fn row(s: &[u8], w: &[u8], c: Command, other: Command) -> Command
 }
 
 // 4 where the form is broken, else 5 where a number is too long, else the command.
+#[tactic(auto, unfolding(crate::specs::Numbers::judged))]
 pub fn judged(formless: bool, long: bool, c: Command) -> Command
     ensures { result ≡ judged formless long c }
 {
@@ -201,21 +208,22 @@ pub fn judged(formless: bool, long: bool, c: Command) -> Command
 }
 
 // The number of an aperture, of its digits.
-fn in_range(n: Natural) -> Number
+#[tactic(auto, unfolding(crate::specs::Numbers::in_range))]
+fn in_range(n: Result<u64, NumberError>) -> Number
     ensures { result ≡ in_range n }
 {
     match n {
-        Natural::NotForm => Number {
+        Err(NumberError::NotForm) => Number {
             formless: true,
             long: false,
             value: 0,
         },
-        Natural::TooLarge => Number {
+        Err(NumberError::TooLong) => Number {
             formless: false,
             long: true,
             value: 0,
         },
-        Natural::Value(v) => Number {
+        Ok(v) => Number {
             formless: v < 10,
             long: 2147483648 <= v,
             value: v,
@@ -231,21 +239,22 @@ pub fn aperture_number(t: &[u8]) -> Number
 }
 
 // A repeat's number of copies, of its digits.
-fn any_size(n: Natural) -> Number
+#[tactic(auto, unfolding(crate::specs::Numbers::any_size))]
+fn any_size(n: Result<u64, NumberError>) -> Number
     ensures { result ≡ any_size n }
 {
     match n {
-        Natural::NotForm => Number {
+        Err(NumberError::NotForm) => Number {
             formless: true,
             long: false,
             value: 0,
         },
-        Natural::TooLarge => Number {
+        Err(NumberError::TooLong) => Number {
             formless: false,
             long: false,
             value: 1000000000000,
         },
-        Natural::Value(v) => Number {
+        Ok(v) => Number {
             formless: false,
             long: false,
             value: v,
@@ -261,23 +270,24 @@ pub fn copies(t: &[u8]) -> Number
 }
 
 // A decimal with its faults.
-fn sized(d: Decimal) -> Size
+#[tactic(auto, unfolding(crate::specs::Numbers::sized_as))]
+fn sized(d: Result<Decimal, NumberError>) -> Size
     ensures { result ≡ sized_as d }
 {
     match d {
-        Decimal::NotForm => Size {
+        Err(NumberError::NotForm) => Size {
             formless: true,
             long: false,
             rounded: false,
             value: Amount { millionths: 0 },
         },
-        Decimal::TooLong => Size {
+        Err(NumberError::TooLong) => Size {
             formless: false,
             long: true,
             rounded: false,
             value: Amount { millionths: 0 },
         },
-        Decimal::Value { amount, rounded } => Size {
+        Ok(Decimal { amount, rounded }) => Size {
             formless: false,
             long: false,
             rounded,
@@ -293,75 +303,60 @@ pub fn size_of(t: &[u8]) -> Size
     sized(decimal::decimal(t, 0, t.len()))
 }
 
-// The number of a flaw.
-pub fn flaw_number(f: Flaw) -> u64
-    ensures { result ≡ flaw_number f }
+// The rule that a flaw breaks.
+#[tactic(auto, unfolding(crate::specs::Flaws::flaw_number, faults::specs::Rule::number_of_rule))]
+pub fn rule_of(f: Flaw) -> Rule
+    ensures { number_of_rule result ≡ flaw_number f }
 {
     match f {
-        Flaw::NotForm => 4,
-        Flaw::Unread => 30,
-        Flaw::TooLong => 5,
+        Flaw::NotForm => Rule::NotOfForm,
+        Flaw::Unread => Rule::Unread,
+        Flaw::TooLong => Rule::OutOfRange,
     }
 }
 
 // 1 where a decimal was rounded.
+#[tactic(auto, unfolding(crate::specs::Rounded::counted))]
 pub fn counted(rounded: bool) -> usize
     ensures { result ≡ counted rounded }
 {
-    if rounded { 1 } else { 0 }
+    usize::from(rounded)
 }
 
 // How many decimals of a setting were rounded.
+#[tactic(auto, unfolding(crate::specs::Rounded::rounded_in_setting))]
 fn rounded_in_setting(s: Setting) -> usize
     ensures { result ≡ rounded_in_setting s }
 {
     match s {
-        Setting::Rotation { rounded, .. } => rounded,
-        Setting::Scale { rounded, .. } => rounded,
-        Setting::Linear => 0,
-        Setting::Clockwise => 0,
-        Setting::Counterclockwise => 0,
-        Setting::SingleQuadrant => 0,
-        Setting::MultiQuadrant => 0,
-        Setting::RegionStart => 0,
-        Setting::RegionEnd => 0,
-        Setting::Format(_) => 0,
-        Setting::Absolute => 0,
-        Setting::Incremental => 0,
-        Setting::Millimetres => 0,
-        Setting::Inches => 0,
-        Setting::CodedMillimetres => 0,
-        Setting::CodedInches => 0,
-        Setting::Halt => 0,
-        Setting::Dark => 0,
-        Setting::Clear => 0,
-        Setting::Mirror { .. } => 0,
+        Setting::Rotation { rounded, .. } | Setting::Scale { rounded, .. } => rounded,
+        _ => 0,
     }
 }
 
 // How many decimals of a definition were rounded.
+#[tactic(auto, unfolding(crate::specs::Rounded::rounded_in_definition))]
 fn rounded_in_definition(d: Definition) -> usize
     ensures { result ≡ rounded_in_definition d }
 {
     match d {
-        Definition::Aperture { rounded, .. } => rounded,
-        Definition::Macro { rounded, .. } => rounded,
+        Definition::Aperture { rounded, .. } | Definition::Macro { rounded, .. } => rounded,
     }
 }
 
 // How many decimals of AB or SR were rounded.
+#[tactic(auto, unfolding(crate::specs::Rounded::rounded_in_bracket))]
 fn rounded_in_bracket(b: Bracket) -> usize
     ensures { result ≡ rounded_in_bracket b }
 {
     match b {
         Bracket::RepeatStart { rounded, .. } => rounded,
-        Bracket::BlockStart(_) => 0,
-        Bracket::BlockEnd => 0,
-        Bracket::RepeatEnd => 0,
+        _ => 0,
     }
 }
 
 // How many decimals of a command were rounded.
+#[tactic(auto, unfolding(crate::specs::Rounded::rounded_of))]
 pub fn rounded_of(c: Command) -> usize
     ensures { result ≡ rounded_of c }
 {
@@ -369,12 +364,6 @@ pub fn rounded_of(c: Command) -> usize
         Command::Set(s) => rounded_in_setting(s),
         Command::Define(d) => rounded_in_definition(d),
         Command::Contain(b) => rounded_in_bracket(b),
-        Command::Broken(_) => 0,
-        Command::Note => 0,
-        Command::End => 0,
-        Command::Operate(_) => 0,
-        Command::Coded { .. } => 0,
-        Command::Select(_) => 0,
-        Command::Attribute(_) => 0,
+        _ => 0,
     }
 }

@@ -1,149 +1,235 @@
-// The rules of every command but D01, D02 and D03: the number of the first that is broken, 0 where all are kept.
+// The rules of every command but D01, D02 and D03: the first that is broken, if one is.
 #![tactic(auto)]
 
 ghost use Rattle.std.specs.Prelude.{◌≡◌};
+ghost use Rattle.faults.specs.Rule.{number_told};
 ghost use Rattle.command_rules.specs.Bounds.{is_count, is_repeat};
 ghost use Rattle.command_rules.specs.Settings.{setting_fault};
 ghost use Rattle.command_rules.specs.Rules.{region_fault, format_fault, unit_fault, scale_fault, select_fault, aperture_fault, macro_fault, block_start_fault, closing_fault, repeat_start_fault, file_attribute_fault, end_fault};
 
 use command::Setting;
 use decimal::Amount;
+use faults::Rule;
 use graphics::{Graphics, Level};
 
 // A number of copies of SR.
+#[tactic(auto, using(base::proofs::Or::joins), unfolding(crate::specs::Bounds::is_count))]
 fn is_count(n: u64) -> bool
     ensures { result ≡ is_count n }
 {
-    base::both(n >= 1, n <= 9999)
+    (1..=9999).contains(&n)
 }
 
 // SR keeps its bounds.
+#[tactic(auto, using(base::proofs::Or::joins), unfolding(crate::specs::Bounds::is_repeat))]
 pub fn is_repeat(nx: u64, ny: u64, dx: Amount, dy: Amount) -> bool
     ensures { result ≡ is_repeat nx ny dx dy }
 {
-    base::both(
-        base::both(is_count(nx), is_count(ny)),
-        base::both(decimal::at_least_zero(dx), decimal::at_least_zero(dy)),
-    )
+    is_count(nx) && is_count(ny) && (decimal::at_least_zero(dx) && decimal::at_least_zero(dy))
 }
 
 // G36, G70, G71, G90, G91, M00, M01, LP, LM, LR, TA, TO and TD.
-pub fn region_fault(g: Graphics) -> u64
-    ensures { result ≡ region_fault g }
+#[tactic(auto, unfolding(faults::specs::Rule::number_told, faults::specs::Rule::number_of_rule, crate::specs::Rules::region_fault, base::specs::Choose::pick))]
+pub fn region_fault(g: Graphics) -> Result<(), Rule>
+    ensures { number_told result ≡ region_fault g }
 {
-    base::row(g.region.on, 7, 0)
+    if g.region.on {
+        return Err(Rule::Misplaced);
+    }
+    Ok(())
 }
 
 // FS.
-pub fn format_fault(g: Graphics) -> u64
-    ensures { result ≡ format_fault g }
+#[tactic(auto, unfolding(faults::specs::Rule::number_told, faults::specs::Rule::number_of_rule, crate::specs::Rules::format_fault, base::specs::Choose::pick))]
+pub fn format_fault(g: Graphics) -> Result<(), Rule>
+    ensures { number_told result ≡ format_fault g }
 {
-    base::row(
-        operation_tests::is_formatted(g),
-        6,
-        base::row(g.region.on, 7, 0),
-    )
+    if operation_tests::is_formatted(g) {
+        return Err(Rule::Header);
+    }
+    if g.region.on {
+        return Err(Rule::Misplaced);
+    }
+    Ok(())
 }
 
 // MO.
-pub fn unit_fault(g: Graphics) -> u64
-    ensures { result ≡ unit_fault g }
+#[tactic(auto, unfolding(faults::specs::Rule::number_told, faults::specs::Rule::number_of_rule, crate::specs::Rules::unit_fault, base::specs::Choose::pick))]
+pub fn unit_fault(g: Graphics) -> Result<(), Rule>
+    ensures { number_told result ≡ unit_fault g }
 {
-    base::row(g.header.unit != 0, 6, base::row(g.region.on, 7, 0))
+    if g.header.unit != 0 {
+        return Err(Rule::Header);
+    }
+    if g.region.on {
+        return Err(Rule::Misplaced);
+    }
+    Ok(())
 }
 
 // LS.
-pub fn scale_fault(g: Graphics, a: Amount) -> u64
-    ensures { result ≡ scale_fault g a }
+#[tactic(auto, unfolding(faults::specs::Rule::number_told, faults::specs::Rule::number_of_rule, crate::specs::Rules::scale_fault, base::specs::Choose::pick))]
+pub fn scale_fault(g: Graphics, a: Amount) -> Result<(), Rule>
+    ensures { number_told result ≡ scale_fault g a }
 {
-    base::row(g.region.on, 7, base::row(!decimal::above_zero(a), 10, 0))
+    if g.region.on {
+        return Err(Rule::Misplaced);
+    }
+    if !decimal::above_zero(a) {
+        return Err(Rule::Parameter);
+    }
+    Ok(())
 }
 
 // A setting.
-pub fn setting_fault(g: Graphics, s: Setting) -> u64
-    ensures { result ≡ setting_fault g s }
+#[tactic(auto, unfolding(faults::specs::Rule::number_told, faults::specs::Rule::number_of_rule, crate::specs::Settings::setting_fault, crate::specs::Settings::setting_rules, crate::specs::Rules::region_fault, crate::specs::Rules::format_fault, crate::specs::Rules::unit_fault, crate::specs::Rules::scale_fault, operation_rules::specs::Faults::region_end_fault))]
+pub fn setting_fault(g: Graphics, s: Setting) -> Result<(), Rule>
+    ensures { number_told result ≡ setting_fault g s }
 {
     match s {
-        Setting::Linear => 0,
-        Setting::Clockwise => 0,
-        Setting::Counterclockwise => 0,
-        Setting::SingleQuadrant => 0,
-        Setting::MultiQuadrant => 0,
-        Setting::Absolute => region_fault(g),
-        Setting::Incremental => region_fault(g),
-        Setting::CodedMillimetres => region_fault(g),
-        Setting::CodedInches => region_fault(g),
-        Setting::Halt => region_fault(g),
-        Setting::RegionStart => region_fault(g),
+        Setting::Linear
+        | Setting::Clockwise
+        | Setting::Counterclockwise
+        | Setting::SingleQuadrant
+        | Setting::MultiQuadrant => Ok(()),
         Setting::RegionEnd => operation_rules::region_end_fault(g),
         Setting::Format(_) => format_fault(g),
-        Setting::Millimetres => unit_fault(g),
-        Setting::Inches => unit_fault(g),
-        Setting::Dark => region_fault(g),
-        Setting::Clear => region_fault(g),
-        Setting::Mirror { .. } => region_fault(g),
-        Setting::Rotation { .. } => region_fault(g),
+        Setting::Millimetres | Setting::Inches => unit_fault(g),
         Setting::Scale { factor, .. } => scale_fault(g, factor),
+        _ => region_fault(g),
     }
 }
 
 // Dn, whose aperture is known and closed or not.
-pub fn select_fault(g: Graphics, known: bool) -> u64
-    ensures { result ≡ select_fault g known }
+#[tactic(auto, unfolding(faults::specs::Rule::number_told, faults::specs::Rule::number_of_rule, crate::specs::Rules::select_fault, base::specs::Choose::pick))]
+pub fn select_fault(g: Graphics, known: bool) -> Result<(), Rule>
+    ensures { number_told result ≡ select_fault g known }
 {
-    base::row(g.region.on, 7, base::row(!known, 8, 0))
+    if g.region.on {
+        return Err(Rule::Misplaced);
+    }
+    if !known {
+        return Err(Rule::UnknownOrTaken);
+    }
+    Ok(())
 }
 
 // AD.
-pub fn aperture_fault(g: Graphics, taken: bool, worked: u64, full: bool) -> u64
-    ensures { result ≡ aperture_fault g taken worked full }
+#[tactic(auto, unfolding(faults::specs::Rule::number_told, faults::specs::Rule::number_of_rule, crate::specs::Rules::aperture_fault, base::specs::Choose::pick))]
+pub fn aperture_fault(
+    g: Graphics,
+    taken: bool,
+    worked: Result<(), Rule>,
+    full: bool,
+) -> Result<(), Rule>
+    ensures { number_told result ≡ aperture_fault g taken (number_told worked) full }
 {
-    let parameters = base::row(worked != 0, worked, base::row(full, 17, 0));
-    base::row(g.region.on, 7, base::row(taken, 8, parameters))
+    if g.region.on {
+        return Err(Rule::Misplaced);
+    }
+    if taken {
+        return Err(Rule::UnknownOrTaken);
+    }
+    worked?;
+    if full {
+        return Err(Rule::NoRoom);
+    }
+    Ok(())
 }
 
 // AM.
-pub fn macro_fault(g: Graphics, taken: bool, deep: bool, full: bool) -> u64
-    ensures { result ≡ macro_fault g taken deep full }
+#[tactic(auto, unfolding(faults::specs::Rule::number_told, faults::specs::Rule::number_of_rule, crate::specs::Rules::macro_fault, base::specs::Choose::pick))]
+pub fn macro_fault(g: Graphics, taken: bool, deep: bool, full: bool) -> Result<(), Rule>
+    ensures { number_told result ≡ macro_fault g taken deep full }
 {
-    let depth = base::row(deep, 15, base::row(full, 17, 0));
-    base::row(g.region.on, 7, base::row(taken, 8, depth))
+    if g.region.on {
+        return Err(Rule::Misplaced);
+    }
+    if taken {
+        return Err(Rule::UnknownOrTaken);
+    }
+    if deep {
+        return Err(Rule::TooDeep);
+    }
+    if full {
+        return Err(Rule::NoRoom);
+    }
+    Ok(())
 }
 
 // AB, opening.
-pub fn block_start_fault(g: Graphics, l: Level, taken: bool, full: bool) -> u64
-    ensures { result ≡ block_start_fault g l taken full }
+#[tactic(auto, unfolding(faults::specs::Rule::number_told, faults::specs::Rule::number_of_rule, crate::specs::Rules::block_start_fault, base::specs::Choose::pick))]
+pub fn block_start_fault(g: Graphics, l: Level, taken: bool, full: bool) -> Result<(), Rule>
+    ensures { number_told result ≡ block_start_fault g l taken full }
 {
-    let depth = base::row(l.depth >= 8, 15, base::row(full, 17, 0));
-    base::row(g.region.on, 7, base::row(taken, 8, depth))
+    if g.region.on {
+        return Err(Rule::Misplaced);
+    }
+    if taken {
+        return Err(Rule::UnknownOrTaken);
+    }
+    if l.depth >= 8 {
+        return Err(Rule::TooDeep);
+    }
+    if full {
+        return Err(Rule::NoRoom);
+    }
+    Ok(())
 }
 
 // AB or SR, closing what was opened.
-pub fn closing_fault(g: Graphics, l: Level, opened: u64) -> u64
-    ensures { result ≡ closing_fault g l opened }
+#[tactic(auto, using(base::proofs::Or::joins), unfolding(faults::specs::Rule::number_told, faults::specs::Rule::number_of_rule, crate::specs::Rules::closing_fault, base::specs::Choose::pick))]
+pub fn closing_fault(g: Graphics, l: Level, opened: u64) -> Result<(), Rule>
+    ensures { number_told result ≡ closing_fault g l opened }
 {
-    base::row(base::either(g.region.on, l.inside != opened), 7, 0)
+    if g.region.on || l.inside != opened {
+        return Err(Rule::Misplaced);
+    }
+    Ok(())
 }
 
 // SR, opening.
-pub fn repeat_start_fault(g: Graphics, l: Level, in_bounds: bool, full: bool) -> u64
-    ensures { result ≡ repeat_start_fault g l in_bounds full }
+#[tactic(auto, using(base::proofs::Or::joins), unfolding(faults::specs::Rule::number_told, faults::specs::Rule::number_of_rule, crate::specs::Rules::repeat_start_fault, base::specs::Choose::pick))]
+pub fn repeat_start_fault(g: Graphics, l: Level, in_bounds: bool, full: bool) -> Result<(), Rule>
+    ensures { number_told result ≡ repeat_start_fault g l in_bounds full }
 {
-    let bounds = base::row(!in_bounds, 10, base::row(full, 17, 0));
-    base::row(base::either(g.region.on, l.inside != 0), 7, bounds)
+    if g.region.on || l.inside != 0 {
+        return Err(Rule::Misplaced);
+    }
+    if !in_bounds {
+        return Err(Rule::Parameter);
+    }
+    if full {
+        return Err(Rule::NoRoom);
+    }
+    Ok(())
 }
 
 // TF.
-pub fn file_attribute_fault(g: Graphics, twice: bool) -> u64
-    ensures { result ≡ file_attribute_fault g twice }
+#[tactic(auto, unfolding(faults::specs::Rule::number_told, faults::specs::Rule::number_of_rule, crate::specs::Rules::file_attribute_fault, base::specs::Choose::pick))]
+pub fn file_attribute_fault(g: Graphics, twice: bool) -> Result<(), Rule>
+    ensures { number_told result ≡ file_attribute_fault g twice }
 {
-    base::row(g.region.on, 7, base::row(twice, 19, 0))
+    if g.region.on {
+        return Err(Rule::Misplaced);
+    }
+    if twice {
+        return Err(Rule::NameTwice);
+    }
+    Ok(())
 }
 
 // M02.
-pub fn end_fault(g: Graphics, l: Level) -> u64
-    ensures { result ≡ end_fault g l }
+#[tactic(auto, using(base::proofs::Or::joins), unfolding(faults::specs::Rule::number_told, faults::specs::Rule::number_of_rule, crate::specs::Rules::end_fault, base::specs::Choose::pick))]
+pub fn end_fault(g: Graphics, l: Level) -> Result<(), Rule>
+    ensures { number_told result ≡ end_fault g l }
 {
-    let open = base::row(base::either(g.region.on, l.inside != 0), 7, 0);
-    base::row(operation_tests::is_unready(g), 6, open)
+    if operation_tests::is_unready(g) {
+        return Err(Rule::Header);
+    }
+    let unclosed = g.region.on || l.inside != 0;
+    if unclosed {
+        return Err(Rule::Misplaced);
+    }
+    Ok(())
 }

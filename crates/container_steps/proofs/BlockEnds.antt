@@ -1,5 +1,8 @@
 -- A block that closes: its fault, and what is known after it.
 -- Assumes nothing.
+use Rattle.faults.specs.Rule.{number_of_rule}
+use Rattle.faults.specs.declared.Rule.{Rule}
+use Rattle.std.specs.Prelude.{Err, Ok}
 use Prim.Native.Nat.{ℕ, ◌+◌, ◌-◌, ◌≤◌, ◌<◌}
 use mathlib.Core.Path.{◌≡◌, refl, sym, ap, ◌∙◌}
 use mathlib.Core.Bool.{false, not}
@@ -40,7 +43,6 @@ use Rattle.progress.specs.Levels.{level_of}
 use Rattle.progress.specs.Tables.{ApertureTable, Chosen}
 use Rattle.progress.specs.Around.{Around}
 use Rattle.progress.specs.Knows.{Knows, Known, Follows, StepsTo}
-use Rattle.progress.specs.declared.Stepped.TheVariants.{Next, Fault}
 use Rattle.progress.proofs.Around.{start_low, openers_kept, around_kept}
 use Rattle.progress.proofs.Outside.{no_contour}
 use Rattle.progress.proofs.Levels.{block_level, items_known}
@@ -173,9 +175,9 @@ module _ (e a : List ℕ) (p : Progress) (l : Level) (level-told : l ≡ level_o
   fault_is : fault ≡ closing_fault p.graphics (level_of p) 1
   fault_is = fault-told ∙ (λ i. closing_fault p.graphics (level-told i) 1)
 
-  pub block_end_refused : (e' a' : List ℕ) → 1 ≤ fault → (place : ℕ) → StepsTo (λ room s. block_end_step place s) lends (λ w. with_apertures a' (with_entries e' w)) p (Fault fault)
+  pub block_end_refused : (e' a' : List ℕ) (rule : Rule) → number_of_rule rule ≡ fault → (place : ℕ) → StepsTo (λ room s. block_end_step place s) lends (λ w. with_apertures a' (with_entries e' w)) p (Err rule)
   unfolding Follows
-  block_end_refused e' a' some place w s q k = (block_end_fault w s p k place ∙ sym fault_is, some)
+  block_end_refused e' a' rule is place w s q k = block_end_fault w s p k place ∙ sym fault_is ∙ sym is
 
   module _ (known : Known lends p) (none : fault ≡ 0) where
     pub block_end_deep : 1 ≤ p.depth
@@ -188,7 +190,7 @@ module _ (e a : List ℕ) (p : Progress) (l : Level) (level-told : l ≡ level_o
         rw (← known.is.0, ← known.is.1) (block_closes w known.state p k (sym fault_is ∙ none), block_record w known.state p k (sym fault_is ∙ none))
 
     pub block_end_ends : (e' a' : List ℕ) (b : Builder) → BlockClosed e e' a a' p.builder b → {g : Graphics} → g ≡ after (command.Contain bracket.BlockEnd) p.graphics → {r : Progress} → r ≡ unblocked p g b →
-        (place : ℕ) → StepsTo (λ room s. block_end_step place s) lends (λ w. with_apertures a' (with_entries e' w)) p (Next r)
+        (place : ℕ) → StepsTo (λ room s. block_end_step place s) lends (λ w. with_apertures a' (with_entries e' w)) p (Ok r)
     unfolding Follows
     block_end_ends e' a' b c g-is r-is place w s q k =
         let closed : BlockClosed w.entries e' w.apertures a' p.builder b = rw (q.0, q.1) c in

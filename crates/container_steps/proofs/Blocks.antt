@@ -1,5 +1,8 @@
 -- A block that opens: its fault, and what is known after it.
 -- Assumes nothing.
+use Rattle.faults.specs.Rule.{number_of_rule}
+use Rattle.faults.specs.declared.Rule.{Rule}
+use Rattle.std.specs.Prelude.{Err, Ok, Result, ℕ}
 use Prim.Native.Nat.{ℕ, suc, ◌+◌, ◌-◌, ◌≤◌, ◌<◌}
 use mathlib.Core.Path.{◌≡◌, refl, sym, ap, subst, ◌∙◌}
 use mathlib.Core.Bool.{Bool, true, false, not}
@@ -23,8 +26,6 @@ use Rattle.base.proofs.Faults.{unbroken}
 use Rattle.command_rules.specs.Rules.{block_start_fault}
 use Rattle.marks.specs.Marks.{bracket_marks, marks_of}
 use Rattle.law_bounds.proofs.Tables.{neither}
-use Rattle.index.specs.declared.Search.{Search}
-use Rattle.index.specs.declared.Search.TheVariants.{At, Free}
 use Rattle.index.specs.Numbers.{numbered, Numbered}
 use Rattle.sheet.specs.Records.{entry_room, aperture_of, aperture_room}
 use Rattle.sheet.specs.Valid.{is_block}
@@ -57,7 +58,6 @@ use Rattle.progress.specs.Levels.{level_at, level_of, Counted}
 use Rattle.progress.specs.Tables.{as_stored, as_read, ApertureTable}
 use Rattle.progress.specs.Around.{Around}
 use Rattle.progress.specs.Knows.{Knows, Known, Follows, StepsTo}
-use Rattle.progress.specs.declared.Stepped.TheVariants.{Next, Fault}
 use Rattle.progress.proofs.Around.{start_low, around_kept}
 use Rattle.progress.proofs.Outside.{no_contour}
 use Rattle.progress.proofs.Levels.{block_level}
@@ -96,7 +96,7 @@ module _ (w : Lent) (s : State) (p : Progress) (k : Knows w p s) (place n : ℕ)
       let used = known_long w.apertures p.apertures s.apertures k.apertures in
       λ i. block_start_fault (sym k.graphics i) (sym k.level i) (q i) (full i or leb (aperture_room w.apertures) (used i))
 
-  module _ (link : ℕ) (free : numbered w.apertures p.apertures n ≡ Free link)
+  module _ (link : ℕ) (free : numbered w.apertures p.apertures n ≡ Err link)
       (none : block_start_fault p.graphics (level_of p) false (full_at w.entries w.apertures p) ≡ 0) where
     passes : (p.graphics.region.on ≡ false) × (leb 8 (level_of p).depth ≡ false) × (full_at w.entries w.apertures p ≡ false)
     unfolding block_start_fault
@@ -126,7 +126,7 @@ module _ (w : Lent) (s : State) (p : Progress) (k : Knows w p s) (place n : ℕ)
     abbrev records : List ℕ
     records = added w.apertures p.apertures link (aperture_words (open_record n))
 
-    opening_free : numbered w.apertures p.apertures (open_record n).number ≡ Free link
+    opening_free : numbered w.apertures p.apertures (open_record n).number ≡ Err link
     opening_free = free
 
     kept : (i : ℕ) → i < p.apertures → aperture_of records i ≡ aperture_of w.apertures i
@@ -219,7 +219,7 @@ lent_numbered e a p known = rw known.is.1 at known.knows.apertures.indexed
 module _ (e a : List ℕ) (p : Progress) (place n : ℕ) (known : Known (λ w. (w.entries ≡ e) × (w.apertures ≡ a)) p)
     (room : Bool) (room_is : room ≡ has_room e p.builder.closed p.builder.high)
     (full : Bool) (full-told : full ≡ (not room or leb (aperture_room a) p.apertures)) (l : Level) (level-told : l ≡ level_of p)
-    (found : Search) (found-told : found ≡ numbered a p.apertures n) where
+    (found : Result ℕ ℕ) (found-told : found ≡ numbered a p.apertures n) where
   full_at_lem : full ≡ full_at e a p
   full_at_lem = full-told ∙ (λ i. not (room_is i) or leb (aperture_room a) p.apertures)
 
@@ -229,35 +229,35 @@ module _ (e a : List ℕ) (p : Progress) (place n : ℕ) (known : Known (λ w. (
   abbrev lends : Lent → Type 0
   lends w = (w.entries ≡ e) × (w.apertures ≡ a)
 
-  pub block_taken : (e' a' : List ℕ) (i : ℕ) → found ≡ At i → (fault : ℕ) → fault ≡ block_start_fault p.graphics l true full →
-      StepsTo step lends (λ w. with_apertures a' (with_entries e' w)) p (Fault fault)
-  unfolding Follows
-  block_taken e' a' i at fault fault-told w s q k =
-      let found_at : numbered w.apertures p.apertures n ≡ At i = rw q.1 (sym found-told ∙ at) in
+  pub block_taken : (e' a' : List ℕ) (i : ℕ) → found ≡ Ok i → (rule : Rule) → number_of_rule rule ≡ pick p.graphics.region.on 7 8 →
+      StepsTo step lends (λ w. with_apertures a' (with_entries e' w)) p (Err rule)
+  unfolding Follows block_start_fault pick
+  block_taken e' a' i at rule told w s q k =
+      let found_at : numbered w.apertures p.apertures n ≡ Ok i = rw q.1 (sym found-told ∙ at) in
       let here = block_fault w s p k place n true (taken_at_lem w.apertures p.apertures s.apertures k.apertures n i found_at) in
-      (here ∙ rw (q.0, q.1) (λ i. block_start_fault p.graphics (sym level-told i) true (sym full_at_lem i)) ∙ sym fault-told, rw fault-told (taken_fault p.graphics l full))
+      here ∙ sym told
 
-  module _ (link : ℕ) (free : found ≡ Free link) (fault : ℕ) (fault-told : fault ≡ block_start_fault p.graphics l false full) where
+  module _ (link : ℕ) (free : found ≡ Err link) (fault : ℕ) (fault-told : fault ≡ block_start_fault p.graphics l false full) where
     fault_is : fault ≡ block_start_fault p.graphics (level_of p) false (full_at e a p)
     fault_is = fault-told ∙ (λ i. block_start_fault p.graphics (level-told i) false (full_at_lem i))
 
-    free_is : numbered a p.apertures n ≡ Free link
+    free_is : numbered a p.apertures n ≡ Err link
     free_is = sym found-told ∙ free
 
     found_fault : (w : Lent) (s : State) → lends w → Knows w p s → (step (room_of w) s).fault ≡ fault
     found_fault w s q k =
-        let found-free : numbered w.apertures p.apertures n ≡ Free link = rw q.1 free_is in
+        let found-free : numbered w.apertures p.apertures n ≡ Err link = rw q.1 free_is in
         block_fault w s p k place n false (taken_free w.apertures p.apertures s.apertures k.apertures n link found-free) ∙ rw (q.0, q.1) (sym fault_is)
 
-    pub block_refused : (e' a' : List ℕ) → 1 ≤ fault → StepsTo step lends (λ w. with_apertures a' (with_entries e' w)) p (Fault fault)
+    pub block_refused : (e' a' : List ℕ) (rule : Rule) → number_of_rule rule ≡ fault → StepsTo step lends (λ w. with_apertures a' (with_entries e' w)) p (Err rule)
     unfolding Follows
-    block_refused e' a' some w s q k = (found_fault w s q k, some)
+    block_refused e' a' rule is w s q k = found_fault w s q k ∙ sym is
 
     module _ (none : fault ≡ 0) where
       none_at : (w : Lent) → lends w → block_start_fault p.graphics (level_of p) false (full_at w.entries w.apertures p) ≡ 0
       none_at w q = rw (q.0, q.1) (sym fault_is ∙ none)
 
-      free_at : (w : Lent) → lends w → numbered w.apertures p.apertures n ≡ Free link
+      free_at : (w : Lent) → lends w → numbered w.apertures p.apertures n ≡ Err link
       free_at w q = rw q.1 free_is
 
       pub block_deeper : p.depth < 8
@@ -272,7 +272,7 @@ module _ (e a : List ℕ) (p : Progress) (place n : ℕ) (known : Known (λ w. (
       pub block_opens : (e' a' : List ℕ) → a' ≡ added a p.apertures link (aperture_words (record { number = n; kind = 0; first = 0; len = 0; items = 0; height = 0 })) →
           {b : Builder} → (b ≡ inner p.builder 1) × (e' ≡ pushed e p.builder.high (block_entry p.builder.items p.apertures p.builder.start p.builder.height place)) →
           {g : Graphics} → g ≡ after (command.Contain (bracket.BlockStart n)) p.graphics → {r : Progress} → r ≡ blocked p g b →
-          StepsTo step lends (λ w. with_apertures a' (with_entries e' w)) p (Next r)
+          StepsTo step lends (λ w. with_apertures a' (with_entries e' w)) p (Ok r)
       unfolding Follows opening
       block_opens e' a' a'-is put g-is r-is w s q k =
           rw (r-is, g-is, put.0, put.1, a'-is, ← q.0, ← q.1) (found_fault w s q k ∙ none, block_begins w s p k place n link (free_at w q) (none_at w q))

@@ -1,5 +1,8 @@
 -- A repeat that closes: its fault, and what is known after it.
 -- Assumes nothing.
+use Rattle.faults.specs.Rule.{number_of_rule}
+use Rattle.faults.specs.declared.Rule.{Rule}
+use Rattle.std.specs.Prelude.{Err, Ok}
 use Prim.Native.Nat.{ℕ, ◌+◌, ◌*◌, ◌≤◌}
 use mathlib.Core.Path.{◌≡◌, refl, sym, ap, ◌∙◌}
 use mathlib.Core.Bool.{false, not}
@@ -39,7 +42,6 @@ use Rattle.progress.specs.Lent.{Lent, with_entries}
 use Rattle.progress.specs.Levels.{level_of, Counted}
 use Rattle.progress.specs.Around.{Around}
 use Rattle.progress.specs.Knows.{Knows, Known, Follows, StepsTo}
-use Rattle.progress.specs.declared.Stepped.TheVariants.{Next, Fault}
 use Rattle.progress.proofs.Around.{start_low, around_kept}
 use Rattle.progress.proofs.Outside.{no_contour}
 use Rattle.progress.proofs.Levels.{repeat_level, top_level_lem}
@@ -160,9 +162,9 @@ module _ (e : List ℕ) (p : Progress) (l : Level) (level-told : l ≡ level_of 
   fault_is : fault ≡ closing_fault p.graphics (level_of p) 2
   fault_is = fault-told ∙ (λ i. closing_fault p.graphics (level-told i) 2)
 
-  pub repeat_end_refused : (e' : List ℕ) → 1 ≤ fault → (place : ℕ) → StepsTo (λ room s. repeat_end_step place s) (λ w. w.entries ≡ e) (with_entries e') p (Fault fault)
+  pub repeat_end_refused : (e' : List ℕ) (rule : Rule) → number_of_rule rule ≡ fault → (place : ℕ) → StepsTo (λ room s. repeat_end_step place s) (λ w. w.entries ≡ e) (with_entries e') p (Err rule)
   unfolding Follows
-  repeat_end_refused e' some place w s q k = (repeat_end_fault w s p k place ∙ sym fault_is, some)
+  repeat_end_refused e' rule is place w s q k = repeat_end_fault w s p k place ∙ sym fault_is ∙ sym is
 
   module _ (known : Known (λ w. w.entries ≡ e) p) (none : fault ≡ 0) where
     pub repeat_end_closes : Closes e p.builder × ((opener e (entry_room e) p.builder.start).before + p.copies * p.builder.items ≤ most)
@@ -172,7 +174,7 @@ module _ (e : List ℕ) (p : Progress) (l : Level) (level-told : l ≡ level_of 
         rw (← known.is) (repeat_closes w known.state p k (sym fault_is ∙ none), repeat_whole w known.state p k (sym fault_is ∙ none))
 
     pub repeat_end_ends : (e' : List ℕ) (b : Builder) → RepeatClosed e e' p.builder p.copies b → {g : Graphics} → g ≡ after (command.Contain bracket.RepeatEnd) p.graphics → {r : Progress} → r ≡ unrepeated p g b →
-        (place : ℕ) → StepsTo (λ room s. repeat_end_step place s) (λ w. w.entries ≡ e) (with_entries e') p (Next r)
+        (place : ℕ) → StepsTo (λ room s. repeat_end_step place s) (λ w. w.entries ≡ e) (with_entries e') p (Ok r)
     unfolding Follows
     repeat_end_ends e' b c g-is r-is place w s q k =
         let closed : RepeatClosed w.entries e' p.builder p.copies b = rw q c in

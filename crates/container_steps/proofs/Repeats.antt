@@ -1,5 +1,8 @@
 -- A repeat that opens: what is known after it.
 -- Assumes nothing.
+use Rattle.faults.specs.Rule.{number_of_rule}
+use Rattle.faults.specs.declared.Rule.{Rule}
+use Rattle.std.specs.Prelude.{Err, Ok}
 use Prim.Native.Nat.{ℕ, ◌+◌, ◌-◌, ◌*◌, ◌≤◌, ◌<◌}
 use mathlib.Core.Path.{◌≡◌, refl, sym, ap, ◌∙◌}
 use mathlib.Core.Bool.{Bool, true, false, not}
@@ -47,7 +50,6 @@ use Rattle.progress.specs.Lent.{Lent, room_of, with_entries}
 use Rattle.progress.specs.Levels.{level_of, Counted}
 use Rattle.progress.specs.Around.{Around}
 use Rattle.progress.specs.Knows.{Knows, Known, Follows, StepsTo}
-use Rattle.progress.specs.declared.Stepped.TheVariants.{Next, Fault}
 use Rattle.progress.proofs.Outside.{no_contour}
 use Rattle.progress.proofs.Levels.{repeat_level, top_level_lem, items_known}
 use Rattle.container_steps.proofs.Levels.{inside_top, around_top}
@@ -196,9 +198,9 @@ module _ (e : List ℕ) (p : Progress) (place nx ny : ℕ) (dx dy : Amount) (bou
   fault_is : fault ≡ repeat_start_fault p.graphics (level_of p) (is_repeat nx ny dx dy) (not (has_room e p.builder.closed p.builder.high))
   fault_is = fault-told ∙ (λ i. repeat_start_fault p.graphics (level-told i) (keeps-is i) (not (room_is i)))
 
-  pub repeat_refused : (e' : List ℕ) → 1 ≤ fault → StepsTo (λ room s. repeat_start_step room place nx ny dx dy s) (λ w. w.entries ≡ e) (with_entries e') p (Fault fault)
+  pub repeat_refused : (e' : List ℕ) (rule : Rule) → number_of_rule rule ≡ fault → StepsTo (λ room s. repeat_start_step room place nx ny dx dy s) (λ w. w.entries ≡ e) (with_entries e') p (Err rule)
   unfolding Follows
-  repeat_refused e' some w s q k = (repeat_fault w s p k place nx ny dx dy bounds ∙ rw q (sym fault_is), some)
+  repeat_refused e' rule is w s q k = repeat_fault w s p k place nx ny dx dy bounds ∙ rw q (sym fault_is) ∙ sym is
 
   module _ (known : Known (λ w. w.entries ≡ e) p) (none : fault ≡ 0) where
     none_is : repeat_start_fault p.graphics (level_of p) (is_repeat nx ny dx dy) (not (has_room known.lent.entries p.builder.closed p.builder.high)) ≡ 0
@@ -213,7 +215,7 @@ module _ (e : List ℕ) (p : Progress) (place nx ny : ℕ) (dx dy : Amount) (bou
     pub repeat_opens : (e' : List ℕ) {r : Repeat} → r ≡ repeat_of nx ny dx dy →
         {b : Builder} → (b ≡ inner p.builder 9) × (e' ≡ pushed e p.builder.high (repeat_entry p.builder.items p.builder.start r place)) →
         {g : Graphics} → g ≡ after (command.Contain (bracket.RepeatStart nx ny dx dy 0)) p.graphics → {next : Progress} → next ≡ repeated p nx ny g b →
-        StepsTo (λ room s. repeat_start_step room place nx ny dx dy s) (λ w. w.entries ≡ e) (with_entries e') p (Next next)
+        StepsTo (λ room s. repeat_start_step room place nx ny dx dy s) (λ w. w.entries ≡ e) (with_entries e') p (Ok next)
     unfolding Follows
     repeat_opens e' r-is put g-is next_is w s q k =
         let none_here = rw (← q) at (sym fault_is ∙ none) in

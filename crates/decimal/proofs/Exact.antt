@@ -1,6 +1,7 @@
 -- A decimal is told to be rounded exactly when what is written is no whole number of millionths: of the digits that count after the point
 -- the last is no zero, so that from the seventh on no number of millionths has them.
 -- Assumes nothing.
+use Rattle.std.specs.Prelude.{Err, Ok, Result}
 use Prim.Native.Nat.{ℕ, suc, ◌+◌, ◌*◌, ◌-◌, ◌/◌, ◌^◌, ◌≤◌, ◌<◌}
 use mathlib.Core.Path.{◌≡◌, refl, sym, ap, ◌∙◌, subst}
 use mathlib.Core.Bool.{Bool, true, false, cond}
@@ -25,10 +26,11 @@ use Rattle.decimal.specs.Decimal.{is_decimal, in_millionths, is_rounded, amount_
 use Rattle.decimal.specs.Exact.{Worth, Writes}
 use Rattle.decimal.specs.Point.{before_point, after_point}
 use Rattle.decimal.specs.declared.answers.Amount.{Amount}
-use Rattle.decimal.specs.declared.answers.Decimal.{Decimal}
-use Rattle.decimal.specs.declared.answers.Decimal.TheVariants.{NotForm, TooLong, Value}
 use Rattle.decimal.proofs.Rounding.{kept_exactly}
 use Rattle.decimal.proofs.Ways.{numeral_digits}
+use Rattle.digits.specs.declared.answers.NumberError.TheVariants as number_error
+use Rattle.digits.specs.declared.answers.NumberError.{NumberError}
+use Rattle.decimal.specs.declared.answers.Decimal.{Decimal}
 
 -- ---- the digits after the point that count
 
@@ -119,17 +121,16 @@ exact whole fraction h =
 -- ---- the answer
 
 -- what an answer tells of the digits before the point and after it
-abbrev Told : List ℕ → List ℕ → Decimal → Type 0
-Told whole fraction NotForm = Unit
-Told whole fraction TooLong = Unit
-Told whole fraction (Value a true) = (m : ℕ) → Worth whole fraction m → ⊥
-Told whole fraction (Value a false) = Worth whole fraction (nat_abs a.millionths)
+abbrev Told : List ℕ → List ℕ → Result Decimal NumberError → Type 0
+Told whole fraction (Err number_error.NotForm) = Unit
+Told whole fraction (Err number_error.TooLong) = Unit
+Told whole fraction (Ok d) = elim d.rounded [ true ↦ (m : ℕ) → Worth whole fraction m → ⊥ | false ↦ Worth whole fraction (nat_abs d.amount.millionths) ]
 
 module _ (minus : Bool) (whole fraction : List ℕ) (d : all_digits fraction ≡ true) where
   abbrev size : ℕ
   size = in_millionths (drop_leading_zeros whole) (drop_trailing_zeros fraction)
 
-  value_told : (t : Bool) → is_rounded (drop_trailing_zeros fraction) ≡ t → Told whole fraction (Value (record { millionths = signed minus size }) t)
+  value_told : (t : Bool) → is_rounded (drop_trailing_zeros fraction) ≡ t → Told whole fraction (Ok (record { amount = record { millionths = signed minus size }; rounded = t }))
   unfolding is_rounded
   value_told true e = no_millionths whole fraction (drop_trailing_zeros fraction) (fewer fraction) (leb-true 7 _ e) (counts fraction d)
   value_told false e = rw (abs_signed minus size) (exact whole fraction (omega (arith, leb-false 7 (length (drop_trailing_zeros fraction)) e)))
@@ -138,7 +139,7 @@ module _ (minus : Bool) (whole fraction : List ℕ) (d : all_digits fraction ≡
   unfolding amount_of
   amount_told = by (leb (length (drop_leading_zeros whole)) 6 and leb (length (drop_trailing_zeros fraction)) 18) (leb (10 ^ 12) size)
     where
-      by : (fits large : Bool) → Told whole fraction (cond fits (cond large TooLong (Value (record { millionths = signed minus size }) (is_rounded (drop_trailing_zeros fraction)))) TooLong)
+      by : (fits large : Bool) → Told whole fraction (cond fits (cond large (Err number_error.TooLong) (Ok (record { amount = record { millionths = signed minus size }; rounded = is_rounded (drop_trailing_zeros fraction) }))) (Err number_error.TooLong))
       by true true = tt
       by true false = value_told (is_rounded (drop_trailing_zeros fraction)) refl
       by false large = tt
@@ -147,19 +148,19 @@ numeral_told : (minus : Bool) (whole fraction : List ℕ) → Told whole fractio
 unfolding numeral_of
 numeral_told minus whole fraction = by (is_decimal whole fraction) refl
   where
-    by : (t : Bool) → is_decimal whole fraction ≡ t → Told whole fraction (cond t (amount_of minus (drop_leading_zeros whole) (drop_trailing_zeros fraction)) NotForm)
+    by : (t : Bool) → is_decimal whole fraction ≡ t → Told whole fraction (cond t (amount_of minus (drop_leading_zeros whole) (drop_trailing_zeros fraction)) (Err number_error.NotForm))
     by true e = amount_told minus whole fraction (numeral_digits minus whole fraction e).1
     by false e = tt
 
 module _ (s : List ℕ) (a : Amount) where
-  told : (rounded : Bool) → decimal_of s ≡ Value a rounded → Told (before_point (after_sign s)) (after_point (after_sign s)) (Value a rounded)
+  told : (rounded : Bool) → decimal_of s ≡ Ok (record { amount = a; rounded = rounded }) → Told (before_point (after_sign s)) (after_point (after_sign s)) (Ok (record { amount = a; rounded = rounded }))
   unfolding decimal_of
   told rounded e = subst (Told (before_point (after_sign s)) (after_point (after_sign s))) e (numeral_told (has_minus s) (before_point (after_sign s)) (after_point (after_sign s)))
 
   -- told to be rounded: what is written is no whole number of millionths
-  pub rounded_writes_none : decimal_of s ≡ Value a true → (m : ℕ) → Writes s m → ⊥
+  pub rounded_writes_none : decimal_of s ≡ Ok (record { amount = a; rounded = true }) → (m : ℕ) → Writes s m → ⊥
   rounded_writes_none e = told true e
 
   -- told not to be: it is, and the amount is that number
-  pub unrounded_writes : decimal_of s ≡ Value a false → Writes s (nat_abs a.millionths)
+  pub unrounded_writes : decimal_of s ≡ Ok (record { amount = a; rounded = false }) → Writes s (nat_abs a.millionths)
   unrounded_writes e = told false e

@@ -1,45 +1,40 @@
--- The parts of a text at its first point, found byte by byte: what was passed has no point.
+-- The parts of a text at its first point are those before and after the first of its bytes that is a point.
 -- Assumes nothing.
-use Prim.Native.Nat.{ℕ, ◌+◌, ◌≤◌, ◌<◌}
-use mathlib.Core.Path.{◌≡◌, refl, sym, ap, ◌∙◌}
-use mathlib.Core.List.{List, [], ◌∷◌, ◌++◌, append-nil}
-use native.Mathlib.Numerals.{add-one}
-use lib.ListN.{length, take, drop, get_or, drop_of_length-le}
-use lib.Seq.{take-suc, append_snoc, drop-drop}
-use borrow.Author.Tests.{ne_eqb}
-use Rattle.base.proofs.Lists.{drop_next}
+use Prim.Native.Nat.{ℕ, suc, ◌+◌}
+use mathlib.Core.Path.{◌≡◌, refl, ap, ◌∙◌}
+use mathlib.Core.Bool.{Bool, true, false}
+use mathlib.Core.List.{List, [], ◌∷◌}
+use native.Mathlib.Omega.{arith}
+use lib.Dec.{eqb}
+use lib.ListN.{take, drop}
+use Rattle.text.specs.First.{first_in, place, before_byte, after_byte}
+use Rattle.text.proofs.First.{in_further}
 use Rattle.decimal.specs.Point.{before_point, after_point}
 
--- the bytes before i have no point, and the parts are told by the rest
-pub record Passed (s : List ℕ) (i : ℕ) : Type 0 where
-  pub front : before_point s ≡ take i s ++ before_point (drop i s)
-  pub back : after_point s ≡ after_point (drop i s)
+-- the place of the first point
+abbrev at : List ℕ → ℕ
+at s = place 46 s 0
 
-pub passed_none : (s : List ℕ) → Passed s 0
-passed_none s = record { front = refl; back = refl }
+-- it is one place further on behind another byte
+at_next : (s : List ℕ) → first_in (λ x. eqb x 46) s (0 + 1) ≡ suc (at s)
+at_next s = let h = in_further (λ x. eqb x 46) s 0 in omega arith
 
-module _ (s : List ℕ) (i : ℕ) (p : Passed s i) where
-  pub passed_on : i < length s → (get_or s i 0 ≡ 46 → ⊥) → Passed s (i + 1)
-  unfolding before_point after_point
-  passed_on h e =
-      let f : before_point (drop i s) ≡ get_or s i 0 ∷ before_point (drop (i + 1) s) = rw (drop_next s i h, before_point, ne_eqb (get_or s i 0) 46 e) in
-      let g : after_point (drop i s) ≡ after_point (drop (i + 1) s) = rw (drop_next s i h, after_point, ne_eqb (get_or s i 0) 46 e) in
-      let t : take (i + 1) s ≡ take i s ++ get_or s i 0 ∷ [] = rw add-one (take-suc s i 0 h) in
-      record {
-        front = p.front ∙ ap (λ l. take i s ++ l) f ∙ sym (append_snoc (take i s) (get_or s i 0) (before_point (drop (i + 1) s))) ∙ ap (λ l. l ++ before_point (drop (i + 1) s)) (sym t);
-        back = p.back ∙ g;
-      }
+pub before_first : (s : List ℕ) → before_byte 46 s ≡ before_point s
+unfolding before_byte before_point first_in
+before_first [] = refl
+before_first (b ∷ s) = go (eqb b 46) (before_first s)
+  where
+    go : (t : Bool) → take (at s) s ≡ before_point s →
+        take (elim t [ true ↦ 0 | false ↦ first_in (λ x. eqb x 46) s (0 + 1) ]) (b ∷ s) ≡ elim t [ true ↦ [] | false ↦ b ∷ before_point s ]
+    go true ih = refl
+    go false ih = ap (λ (n : ℕ). take n (b ∷ s)) (at_next s) ∙ ap (λ l. b ∷ l) ih
 
-  pub point_here : i < length s → get_or s i 0 ≡ 46 → (take i s ≡ before_point s) × (drop 1 (drop i s) ≡ after_point s)
-  unfolding before_point after_point
-  point_here h e =
-      let f : before_point (drop i s) ≡ [] = rw (drop_next s i h, e) in
-      let g : after_point (drop i s) ≡ drop (i + 1) s = rw (drop_next s i h, e) in
-      (sym (p.front ∙ ap (λ l. take i s ++ l) f ∙ append-nil (take i s)), drop-drop 1 i s ∙ sym (p.back ∙ g))
-
-  pub no_point : length s ≤ i → (take i s ≡ before_point s) × (drop 1 (drop i s) ≡ after_point s)
-  unfolding before_point after_point
-  no_point h =
-      let f : before_point (drop i s) ≡ [] = rw (drop_of_length-le s h) in
-      let g : after_point (drop i s) ≡ [] = rw (drop_of_length-le s h) in
-      (sym (p.front ∙ ap (λ l. take i s ++ l) f ∙ append-nil (take i s)), ap (drop 1) (drop_of_length-le s h) ∙ sym (p.back ∙ g))
+pub after_first : (s : List ℕ) → after_byte 46 s ≡ after_point s
+unfolding after_byte after_point first_in
+after_first [] = refl
+after_first (b ∷ s) = go (eqb b 46) (after_first s)
+  where
+    go : (t : Bool) → drop 1 (drop (at s) s) ≡ after_point s →
+        drop 1 (drop (elim t [ true ↦ 0 | false ↦ first_in (λ x. eqb x 46) s (0 + 1) ]) (b ∷ s)) ≡ elim t [ true ↦ s | false ↦ after_point s ]
+    go true ih = refl
+    go false ih = ap (λ (n : ℕ). drop 1 (drop n (b ∷ s))) (at_next s) ∙ ih

@@ -1,11 +1,13 @@
 -- The ways out of the reading of a decimal, as laws: what the tests found in, the definition out.
 -- Assumes nothing.
+use Rattle.std.specs.Prelude.{Err, Ok}
 use Prim.Native.Nat.{ℕ, ◌+◌, ◌^◌, ◌≤◌, ◌<◌}
-use mathlib.Core.Path.{◌≡◌}
-use mathlib.Core.Bool.{Bool, true, false}
+use mathlib.Core.Path.{◌≡◌, refl}
+use mathlib.Core.Bool.{Bool, true, false, cond}
 use mathlib.Core.List.{List}
 use lib.Dec.{leb}
-use lib.ListN.{length, get_or}
+use mir.Val.{bool_byte}
+use lib.ListN.{length}
 use lib.IntN.{ℤ}
 use Rattle.base.specs.And.{◌and◌}
 use Rattle.base.proofs.And.{and_l, and_r, ands}
@@ -14,39 +16,33 @@ use Rattle.ints.specs.Ints.{signed}
 use Rattle.digits.specs.Digits.{all_digits}
 use Rattle.digits.specs.Zeros.{drop_leading_zeros, drop_trailing_zeros}
 use Rattle.decimal.specs.Decimal.{is_decimal, in_millionths, is_rounded, amount_of, numeral_of}
-use Rattle.decimal.specs.Kept.{carry_of}
-use Rattle.decimal.specs.declared.answers.Decimal.TheVariants as decimal
+use Rattle.digits.specs.declared.answers.NumberError.TheVariants as number_error
 
--- the seventh digit after the point
-module _ (fraction : List ℕ) where
-  pub carry_up : 53 ≤ get_or fraction 6 0 → 1 ≡ carry_of fraction
-  unfolding carry_of
-  carry_up h = simp tests
-
-  pub carry_none : get_or fraction 6 0 < 53 → 0 ≡ carry_of fraction
-  unfolding carry_of
-  carry_none h = simp tests
+-- a test that holds counts for one
+pub counted : (t : Bool) → bool_byte t ≡ cond t 1 0
+counted true = refl
+counted false = refl
 
 -- digits before the point and digits after it
 module _ (minus : Bool) (whole fraction : List ℕ) where
-  pub amount_long_whole : 6 < length whole → decimal.TooLong ≡ amount_of minus whole fraction
+  pub amount_long_whole : 6 < length whole → Err number_error.TooLong ≡ amount_of minus whole fraction
   unfolding amount_of
   amount_long_whole h = simp (tests, ands)
 
-  pub amount_long_fraction : length whole ≤ 6 → 18 < length fraction → decimal.TooLong ≡ amount_of minus whole fraction
+  pub amount_long_fraction : length whole ≤ 6 → 18 < length fraction → Err number_error.TooLong ≡ amount_of minus whole fraction
   unfolding amount_of
   amount_long_fraction h k = simp (tests, ands)
 
-  pub amount_large : length whole ≤ 6 → length fraction ≤ 18 → 10 ^ 12 ≤ in_millionths whole fraction → decimal.TooLong ≡ amount_of minus whole fraction
+  pub amount_large : length whole ≤ 6 → length fraction ≤ 18 → 10 ^ 12 ≤ in_millionths whole fraction → Err number_error.TooLong ≡ amount_of minus whole fraction
   unfolding amount_of
   amount_large h k l = simp (tests, ands)
 
   pub amount_value : (z : ℤ) (t : Bool) → length whole ≤ 6 → length fraction ≤ 18 → in_millionths whole fraction < 10 ^ 12 → z ≡ signed minus (in_millionths whole fraction)
-      → t ≡ is_rounded fraction → decimal.Value (record { millionths = z }) t ≡ amount_of minus whole fraction
+      → t ≡ is_rounded fraction → Ok (record { amount = record { millionths = z }; rounded = t }) ≡ amount_of minus whole fraction
   unfolding amount_of
-  amount_value z t h k l e r = simp (tests, ands) (λ i. decimal.Value (record { millionths = e i }) (r i))
+  amount_value z t h k l e r = simp (tests, ands) (λ i. Ok (record { amount = record { millionths = e i }; rounded = r i }))
 
-  pub numeral_other : is_decimal whole fraction ≡ false → decimal.NotForm ≡ numeral_of minus whole fraction
+  pub numeral_other : is_decimal whole fraction ≡ false → Err number_error.NotForm ≡ numeral_of minus whole fraction
   unfolding numeral_of
   numeral_other e = simp e
 

@@ -6,10 +6,9 @@ pub struct Amount {
     pub millionths: i64,
 }
 
+// A decimal to the nearest millionth, and whether it had to be rounded.
 #[derive(Clone, Copy)]
-pub enum Decimal {
-    NotForm,
-    TooLong,
-    // to the nearest millionth, and whether it had to be rounded
-    Value { amount: Amount, rounded: bool },
+pub struct Decimal {
+    pub amount: Amount,
+    pub rounded: bool,
 }

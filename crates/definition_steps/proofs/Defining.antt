@@ -1,5 +1,6 @@
 -- AD: the aperture that is put is the one that reading adds, its numbers stand after the others, and all else is known as before.
 -- Assumes nothing.
+use Rattle.std.specs.Prelude.{Err, Ok}
 use Prim.Native.Nat.{ℕ, ◌+◌, ◌-◌, ◌≤◌, ◌<◌}
 use mathlib.Core.Path.{◌≡◌, refl, sym, ap, ◌∙◌}
 use mathlib.Core.Bool.{Bool, true, false, not, cond}
@@ -12,13 +13,13 @@ use lib.ListN.{length}
 use borrow.Author.Tests.{ltb-true, not-false, ne_eqb}
 use Rattle.base.specs.Or.{◌or◌}
 use Rattle.base.specs.Choose.{pick}
-use Rattle.index.specs.declared.Search.TheVariants.{At, Free}
 use Rattle.index.specs.Numbers.{numbered}
 use Rattle.sheet.specs.Records.{entry_room, aperture_room}
 use Rattle.sheet.specs.declared.Aperture.{Aperture}
 use Rattle.tables.specs.Added.{has_room, added}
 use Rattle.tables.specs.Apertures.{aperture_words}
-use Rattle.macros.specs.Says.{outcome_by}
+use Rattle.faults.specs.Rule.{number_of_rule, number_told}
+use Rattle.faults.specs.declared.Rule.{Rule}
 use Rattle.macros.specs.declared.Outcome.{Outcome}
 use Rattle.templates.specs.Templates.{kind_of}
 use Rattle.graphics.specs.declared.Graphics.{Graphics}
@@ -36,7 +37,6 @@ use Rattle.progress.specs.Levels.{level_of}
 use Rattle.progress.specs.Tables.{as_stored, ApertureTable, NumberTable}
 use Rattle.progress.specs.Knows.{Knows, Follows}
 use Rattle.progress.specs.declared.Progress.{Progress}
-use Rattle.progress.specs.declared.Stepped.TheVariants.{Next, Fault}
 use Rattle.progress.proofs.Around.{around_kept}
 use Rattle.progress.proofs.Outside.{no_contour}
 use Rattle.progress.proofs.AsRead.{other_as_read}
@@ -128,15 +128,14 @@ module _ (w : Lent) (p : Progress) (s : State) (k : Knows w p s) (file a m : Lis
   abbrev e : reading.Outcome
   e = outcome_of name parameters s.macros
 
-  pub aperture_taken : (i : ℕ) → numbered a p.apertures n ≡ At i → (K : Progress → State → Type 0) (fault : ℕ) → fault ≡ aperture_fault p.graphics true 0 false
-      → Follows K (aperture_step (room_of w) n name parameters s) (Fault fault)
-  unfolding Follows aperture_step ◌or◌
-  aperture_taken i at K fault ef =
-      (rw (taken_at_lem a p.apertures s.apertures table n i at, ← k.graphics) (taken_fault p.graphics _ _ _ _ ∙ sym ef), rw ef (taken_some p.graphics 0 false))
+  pub aperture_taken : (i : ℕ) → numbered a p.apertures n ≡ Ok i → (K : Progress → State → Type 0) (rule : Rule) → number_of_rule rule ≡ pick p.graphics.region.on 7 8
+      → Follows K (aperture_step (room_of w) n name parameters s) (Err rule)
+  unfolding Follows aperture_step aperture_fault pick ◌or◌
+  aperture_taken i at K rule told = rw (taken_at_lem a p.apertures s.apertures table n i at, ← k.graphics) (sym told)
 
-  module _ (link : ℕ) (free : numbered a p.apertures n ≡ Free link) (l' : List ℤ) (o : Outcome)
+  module _ (link : ℕ) (free : numbered a p.apertures n ≡ Err link) (l' : List ℤ) (o : Outcome)
       (works : WorksOut file m p.macros name parameters numbers l' p.numbers o) (room : Bool) (er : room ≡ has_room a p.apertures)
-      (fault : ℕ) (ef : fault ≡ aperture_fault p.graphics false o.number (not room)) where
+      (fault : ℕ) (ef : fault ≡ aperture_fault p.graphics false (number_told o.worked) (not room)) where
     abbrev is_known : Bool
     is_known = is_standard name or is_among name (names_of s.macros)
 
@@ -148,15 +147,15 @@ module _ (w : Lent) (p : Progress) (s : State) (k : Knows w p s) (file a m : Lis
 
     -- what is worked out, or 8, is what the rules say
     fault_by : (b : Bool) → Works b e numbers l' p.numbers o → aperture_fault p.graphics (not b) e.fault (not room or over) ≡ fault
-    unfolding Works outcome_by
+    unfolding Works number_told number_of_rule
     fault_by true c =
-        let number : o.number ≡ cond (eqb e.fault 0) (cond over 17 0) e.fault =
-        ap (λ x. x.number) c.says
+        let number : number_told o.worked ≡ cond (eqb e.fault 0) (cond over 17 0) e.fault =
+        c.says.worked
         ∙ ap (λ x. cond (eqb e.fault 0) (cond x 17 0) e.fault) (over_is (length numbers) p.numbers e.kept numbered_so.fits) in
         sym (worked_fault p.graphics e.fault over (not room)) ∙ ap (λ x. aperture_fault p.graphics false x (not room)) (sym number) ∙ sym ef
     fault_by false c =
         unknown_fault p.graphics (not room) e.fault (not room or over)
-        ∙ ap (λ x. aperture_fault p.graphics false x (not room)) (sym (ap (λ x. x.number) c)) ∙ sym ef
+        ∙ ap (λ x. aperture_fault p.graphics false x (not room)) (sym (ap (λ x. number_told x.worked) c)) ∙ sym ef
 
     fault_is : (aperture_step (room_of w) n name parameters s).fault ≡ fault
     unfolding aperture_step room_of has_room ◌or◌
@@ -166,44 +165,42 @@ module _ (w : Lent) (p : Progress) (s : State) (k : Knows w p s) (file a m : Lis
         let more : ltb (length w.numbers - length s.numbers) (length e.kept) ≡ over = rw (lends.numbers_are, numbered_so.long) in
         rw (taken, full, more, ← k.graphics) (fault_by is_known works_so)
 
-    pub aperture_refused : (K : Progress → State → Type 0) → (fault ≡ 0 → ⊥) → Follows K (aperture_step (room_of w) n name parameters s) (Fault fault)
+    pub aperture_refused : (K : Progress → State → Type 0) (rule : Rule) → number_of_rule rule ≡ fault → Follows K (aperture_step (room_of w) n name parameters s) (Err rule)
     unfolding Follows
-    aperture_refused K h = (fault_is, omega arith)
+    aperture_refused K rule is = fault_is ∙ sym is
 
     -- what a fault of 0 says
     module _ (z : fault ≡ 0) where
-      none : aperture_fault p.graphics false o.number (not room) ≡ 0
+      none : aperture_fault p.graphics false (number_told o.worked) (not room) ≡ 0
       none = sym ef ∙ z
 
       outside : s.graphics.region.on ≡ false
       unfolding aperture_fault
       outside = rw (← k.graphics) (unbroken (omega arith) none).0
 
-      rest : (o.number ≡ 0) × (pick {A = ℕ} (not room) 17 0 ≡ 0)
+      rest : (number_told o.worked ≡ 0) × (pick {A = ℕ} (not room) 17 0 ≡ 0)
       unfolding aperture_fault
-      rest = passes_number o.number _ (unbroken (omega arith) (unbroken (omega arith) none).1).1
+      rest = passes_number (number_told o.worked) _ (unbroken (omega arith) (unbroken (omega arith) none).1).1
 
       there : p.apertures < aperture_room a
       unfolding has_room
       there = ltb-true _ _ (sym er ∙ not-false _ (unbroken (omega arith) rest.1).0)
 
       comes_by : (b : Bool) → Works b e numbers l' p.numbers o → Comes e numbers l' p.numbers o
-      unfolding Works
+      unfolding Works number_told number_of_rule
       comes_by true c = c
-      comes_by false c = absurd (let q : o.number ≡ 8 = ap (λ x. x.number) c in let y = rest.0 in omega arith)
+      comes_by false c = absurd (let q : number_told o.worked ≡ 8 = ap (λ x. number_told x.worked) c in let y = rest.0 in omega arith)
 
       comes : Comes e numbers l' p.numbers o
       comes = comes_by is_known works_so
 
       fits : over ≡ false
-      unfolding outcome_by
       fits =
           sym (over_is (length numbers) p.numbers e.kept numbered_so.fits)
-          ∙ worked_fits e.fault _ (sym (ap (λ x. x.number) comes.says) ∙ rest.0)
+          ∙ worked_fits e.fault _ (sym comes.says.worked ∙ rest.0)
 
       used_is : o.used ≡ p.numbers + length e.kept
-      unfolding outcome_by
-      used_is = ap (λ x. x.used) comes.says ∙ behind_kept (length numbers) p.numbers e.kept numbered_so.fits fits
+      used_is = comes.says.used ∙ behind_kept (length numbers) p.numbers e.kept numbered_so.fits fits
 
       more_numbers : NumberTable l' o.used (s.numbers ++ e.kept)
       more_numbers = rw (used_is, comes.stores)
@@ -226,7 +223,7 @@ module _ (w : Lent) (p : Progress) (s : State) (k : Knows w p s) (file a m : Lis
 
         pub aperture_goes : (a' : List ℕ) → a' ≡ added a p.apertures link (aperture_words r)
             → {next : Progress} → next ≡ parts.with_apertures (p.apertures + 1) (parts.with_numbers o.used p)
-            → Follows (Knows (with_apertures a' (with_numbers l' w))) (aperture_step (room_of w) n name parameters s) (Next next)
+            → Follows (Knows (with_apertures a' (with_numbers l' w))) (aperture_step (room_of w) n name parameters s) (Ok next)
         unfolding Follows aperture_step steps.with_apertures steps.with_numbers with_apertures with_numbers level_of
         aperture_goes a' ea next_is =
             let kept = record_kept a p.apertures s.apertures table link r there free in (

@@ -2,7 +2,7 @@
 -- Assumes nothing.
 use Prim.Native.Nat.{ℕ, ◌+◌, ◌<◌, ◌≤◌}
 use Prim.Native.Char.{code}
-use mathlib.Core.Path.{◌≡◌, refl, ap, ◌∙◌}
+use mathlib.Core.Path.{◌≡◌, ap, subst, ◌∙◌}
 use mathlib.Core.Bool.{Bool, true, false, cond}
 use mathlib.Core.List.{List, [], ◌∷◌}
 use native.Mathlib.Omega.{arith}
@@ -12,15 +12,14 @@ use lib.ListN.{length, drop, set}
 use lib.Seq.{slice}
 use Rattle.text.specs.First.{place}
 use Rattle.text.proofs.First.{first_from_lem}
-use Rattle.base.specs.Choose.{pick}
 use Rattle.command.specs.Numbers.{size_of}
 use Rattle.decimal.specs.declared.answers.Amount.{Amount}
 use Rattle.text.proofs.Pieces.{pieces_next, pieces_end}
 use Rattle.primitives.specs.Asked.{added}
 use Rattle.primitives.specs.declared.Asked.{Asked}
-use Rattle.macros.specs.Pen.{penned}
-use Rattle.macros.specs.Says.{outcome_by}
-use Rattle.macros.specs.Work.{Values, onward}
+use Rattle.macros.specs.Pen.{penned, pens}
+use Rattle.macros.specs.Says.{Told}
+use Rattle.macros.specs.Work.{Values, onward, verdict}
 use Rattle.macros.specs.declared.Outcome.{Outcome}
 use Rattle.macros.specs.declared.Pen.{Pen}
 use Rattle.macros.proofs.Gathering.{Gathering, gathering_goes, gathering_ends}
@@ -31,11 +30,6 @@ use Rattle.definition_steps.specs.Worked.{standard_of, Comes}
 -- every parameter has a value
 abbrev pub given : List ℕ → Values
 given s = record { fine = true; values = values_of s }
-
-pick_cond : (b : Bool) (x y : ℕ) → pick b x y ≡ cond b x y
-unfolding pick
-pick_cond true x y = refl
-pick_cond false x y = refl
 
 module _ (t : List ℕ) (at : ℕ) where
   given_next : at < length t → given (drop at t)
@@ -58,11 +52,11 @@ module _ (t : List ℕ) (at next : ℕ) (l₀ l : List ℤ) (p₀ p : Pen) (q : 
       (gathering_goes (given t) l₀ l p₀ p q at (given (drop (place (code "X") t (at + 1)) t)) (size_of (slice (at + 1) (place (code "X") t (at + 1)) t)).value.millionths _ (omega arith) (rw (given_next t at h) at g))
 
   pub standard_end : length t ≤ at → (kind used : ℕ) → p₀ ≡ record { at = used; over = false } → (kept : Bool) → kept ≡ keeps kind q
-      → (fault : ℕ) → fault ≡ pick kept 0 10 → (o : Outcome) → o ≡ outcome_by fault p → Comes (standard_of kind t) l₀ l used o
-  unfolding standard_of
+      → (fault : ℕ) → fault ≡ verdict true kept → (o : Outcome) → Told fault p o → Comes (standard_of kind t) l₀ l used o
+  unfolding standard_of verdict
   standard_end h kind used e₀ kept ek fault ef o eo =
       let f = gathering_ends (given t) l₀ l p₀ p q at true (rw (given_end t at h) at g) in
       record {
-        says = eo ∙ (λ i. outcome_by ((ef ∙ pick_cond kept 0 10 ∙ ap (λ b. cond b 0 10) (ek ∙ ap (keeps kind) f.1)) i) ((rw e₀ at f.2) i));
+        says = subst (λ n. Told n (pens (length l₀) (record { at = used; over = false }) (values_of t)) o) (ef ∙ ap (λ b. cond b 0 10) (ek ∙ ap (keeps kind) f.1)) (subst (λ q. Told fault q o) (rw e₀ at f.2) eo);
         stores = rw e₀ at f.3;
       }

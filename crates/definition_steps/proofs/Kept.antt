@@ -11,7 +11,6 @@ use lib.ListN.{length, take, drop, replicate, length-append, length-replicate, r
 use lib.Seq.{take_at, drop_at, drop-drop}
 use borrow.Author.Tests.{ltb-true, ltb-false}
 use Rattle.macros.specs.Pen.{pens, laid}
-use Rattle.macros.specs.Says.{outcome_by}
 use Rattle.macros.specs.declared.Outcome.{Outcome}
 use Rattle.macros.specs.declared.Pen.{Pen}
 use Rattle.macros.proofs.Laid.{length_laid}
@@ -72,6 +71,6 @@ numbers_more l known zs used t h =
 
 -- no working out gives numbers back
 pub works_on : (b : Bool) (e : reading.Outcome) (l l' : List ℤ) (used : ℕ) (o : Outcome) → Works b e l l' used o → used ≤ length l → used ≤ o.used
-unfolding Works outcome_by
-works_on true e l l' used o c h = let q = ap (λ x. x.used) c.says in let n = never_back (length l) used e.kept h in omega arith
+unfolding Works
+works_on true e l l' used o c h = let q = c.says.used in let n = never_back (length l) used e.kept h in omega arith
 works_on false e l l' used o c h = let q = ap (λ x. x.used) c in omega arith

@@ -1,5 +1,6 @@
 -- AM: the macro that is put is the one that reading adds, and all else is known as before.
 -- Assumes nothing.
+use Rattle.std.specs.Prelude.{Err, Ok}
 use Prim.Native.Nat.{ℕ, ◌+◌, ◌≤◌, ◌<◌}
 use mathlib.Core.Path.{◌≡◌, refl, sym, ◌∙◌}
 use mathlib.Core.Bool.{Bool, true, false, not}
@@ -11,7 +12,8 @@ use lib.Seq.{slice}
 use borrow.Author.Tests.{ltb-true, not-false}
 use Rattle.base.specs.Or.{◌or◌}
 use Rattle.base.specs.Choose.{pick}
-use Rattle.index.specs.declared.Search.TheVariants.{At, Free}
+use Rattle.faults.specs.Rule.{number_of_rule}
+use Rattle.faults.specs.declared.Rule.{Rule}
 use Rattle.index.specs.Names.{named}
 use Rattle.tables.specs.Added.{has_room, added}
 use Rattle.tables.specs.Macros.{macro_room, macro_words}
@@ -30,36 +32,22 @@ use Rattle.progress.specs.Levels.{level_of}
 use Rattle.progress.specs.Tables.{template_of, MacroTable}
 use Rattle.progress.specs.Knows.{Knows, Follows}
 use Rattle.progress.specs.declared.Progress.{Progress}
-use Rattle.progress.specs.declared.Stepped.TheVariants.{Next, Fault}
 use Rattle.progress.proofs.Macros.{among_at, among_free, known_long, table_more}
 use Rattle.definition_steps.proofs.Passing.{room_full, or_true, or_false}
-
--- a name that is taken is at fault whatever else is
-taken_fault : (g : Graphics) (deep full deep' full' : Bool) → macro_fault g true deep full ≡ macro_fault g true deep' full'
-unfolding macro_fault pick
-taken_fault g deep full deep' full' = refl
-
-taken_some : (g : Graphics) (deep full : Bool) → 1 ≤ macro_fault g true deep full
-unfolding macro_fault pick
-taken_some g deep full = go g.region.on
-  where
-    go : (b : Bool) → 1 ≤ pick b 7 8
-    go true = omega arith
-    go false = omega arith
 
 module _ (w : Lent) (p : Progress) (s : State) (k : Knows w p s) (file m : List ℕ) (file_is : w.file ≡ file) (macros-is : w.macros ≡ m)
     (name blocks : List ℕ) (deep : Bool) where
   table : MacroTable file m p.macros s.macros
   table = rw (file_is, macros-is) at k.macros
 
-  pub macro_taken : (i : ℕ) → named file m p.macros name ≡ At i → (K : Progress → State → Type 0) (fault : ℕ) → fault ≡ macro_fault p.graphics true deep false
-      → Follows K (macro_step (room_of w) name blocks deep s) (Fault fault)
-  unfolding Follows macro_step
-  macro_taken i at K fault ef =
+  pub macro_taken : (i : ℕ) → named file m p.macros name ≡ Ok i → (K : Progress → State → Type 0) (rule : Rule) → number_of_rule rule ≡ pick p.graphics.region.on 7 8
+      → Follows K (macro_step (room_of w) name blocks deep s) (Err rule)
+  unfolding Follows macro_step macro_fault pick
+  macro_taken i at K rule told =
       let among : (is_standard name or is_among name (names_of s.macros)) ≡ true = rw (among_at file m p.macros s.macros table name i at) (or_true (is_standard name)) in
-      (rw (among, ← k.graphics) (taken_fault p.graphics _ _ _ _ ∙ sym ef), rw ef (taken_some p.graphics deep false))
+      rw (among, ← k.graphics) (sym told)
 
-  module _ (link : ℕ) (free : named file m p.macros name ≡ Free link) (kind : ℕ) (ek : kind ≡ kind_of name) (room : Bool) (er : room ≡ has_room m p.macros)
+  module _ (link : ℕ) (free : named file m p.macros name ≡ Err link) (kind : ℕ) (ek : kind ≡ kind_of name) (room : Bool) (er : room ≡ has_room m p.macros)
       (fault : ℕ) (ef : fault ≡ macro_fault p.graphics (leb kind 4) deep (not room)) where
     fault_is : (macro_step (room_of w) name blocks deep s).fault ≡ fault
     unfolding macro_step room_of is_standard has_room
@@ -68,13 +56,13 @@ module _ (w : Lent) (p : Progress) (s : State) (k : Knows w p s) (file m : List 
         let full : leb (macro_room w.macros) (length s.macros) ≡ not room = rw (macros-is, known_long file m p.macros s.macros table, er) (room_full p.macros (macro_room m)) in
         rw (among, full, ← k.graphics) (sym ef)
 
-    pub macro_refused : (K : Progress → State → Type 0) → (fault ≡ 0 → ⊥) → Follows K (macro_step (room_of w) name blocks deep s) (Fault fault)
+    pub macro_refused : (K : Progress → State → Type 0) (rule : Rule) → number_of_rule rule ≡ fault → Follows K (macro_step (room_of w) name blocks deep s) (Err rule)
     unfolding Follows
-    macro_refused K h = (fault_is, omega arith)
+    macro_refused K rule is = fault_is ∙ sym is
 
     pub macro_goes : fault ≡ 0 → (r : Macro) → slice r.from r.to file ≡ name → slice r.first r.end file ≡ blocks → r.first ≤ r.end → r.end ≤ length file
         → (m' : List ℕ) → m' ≡ added m p.macros link (macro_words r) → {next : Progress} → next ≡ parts.with_macros (p.macros + 1) p
-        → Follows (Knows (with_macros m' w)) (macro_step (room_of w) name blocks deep s) (Next next)
+        → Follows (Knows (with_macros m' w)) (macro_step (room_of w) name blocks deep s) (Ok next)
     unfolding Follows macro_step steps.with_macros with_macros level_of macro_fault has_room template_of
     macro_goes z r en eb ordered inside m' em next_is =
         let f = (unbroken (omega arith) (unbroken (omega arith) (unbroken (omega arith) (sym ef ∙ z)).1).1).1 in

@@ -15,10 +15,10 @@ ghost use Rattle.definition_steps.specs.Lends.{Lends};
 ghost use Rattle.definition_steps.specs.Worked.{standard_of, Comes, WorksOut};
 
 use command::Span;
+use faults::Rule;
 use graphics::Selected;
-use index::Search;
 use macros::{Outcome, Pen};
-use progress::{Progress, Stepped};
+use progress::Progress;
 use sheet::Aperture;
 use tables::Macro;
 
@@ -28,7 +28,7 @@ fn aperture_with(a: &[u64], used: usize, n: u64) -> Selected
     ensures { result ≡ chosen_by a.now (numbered a.now used n) }
 {
     let found = index::search_number(a, used, n);
-    let Search::At(i) = found else {
+    let Ok(i) = found else {
         return Selected {
             set: false,
             number: 0,
@@ -54,17 +54,14 @@ fn aperture_with(a: &[u64], used: usize, n: u64) -> Selected
 }
 
 // Dn.
-pub fn select(a: &[u64], p: Progress, n: u64) -> Stepped
+pub fn select(a: &[u64], p: Progress, n: u64) -> Result<Progress, Rule>
     requires { Known (λ w. w.apertures ≡ a.now) p }
     ensures { StepsTo (λ room s. select_step n s) (λ w. w.apertures ≡ a.now) (λ w. w) p result }
 {
     let chosen = aperture_with(a, p.apertures, n);
     let g = p.graphics;
-    let fault = command_rules::select_fault(g, chosen.set);
-    if fault != 0 {
-        return Stepped::Fault(fault);
-    }
-    Stepped::Next(progress::with_graphics(graphics::with_aperture(chosen, g), p))
+    command_rules::select_fault(g, chosen.set)?;
+    Ok(progress::with_graphics(graphics::with_aperture(chosen, g), p))
 }
 
 // The outcome of the parameters of a standard template, from their comma on; they are written as far as there is room.
@@ -85,8 +82,8 @@ fn standard(kind: u64, t: &[u8], numbers: &mut [i64], used: usize) -> Outcome
         q = primitives::one_more(q, a);
         at = next;
     }
-    let fault = base::row(templates::keeps_rule(kind, q), 0, 10);
-    macros::answered(fault, pen)
+    let verdict = macros::verdict(true, templates::keeps_rule(kind, q));
+    macros::answered(verdict, pen)
 }
 
 // The outcome of an AD whose template has that name in the file, by its parameters t from their comma on.
@@ -107,8 +104,11 @@ fn worked(
         return standard(kind, t, numbers, used);
     }
     let found = index::search_name(file, m, known, name.from, name.to);
-    let Search::At(i) = found else {
-        return Outcome { number: 8, used };
+    let Ok(i) = found else {
+        return Outcome {
+            worked: Err(Rule::UnknownOrTaken),
+            used,
+        };
     };
     let r = tables::macro_at(m, i);
     macros::work_out(base::part(file, r.first, r.end), 0, t, 0, numbers, used)
@@ -126,14 +126,15 @@ pub fn define(
     n: u64,
     name: Span,
     parameters: Span,
-) -> Stepped
+) -> Result<Progress, Rule>
     requires { Known (Lends file.now a.old m.now numbers.old) p × (from ≤ end) × (end ≤ length file.now) × Defines (slice from end file.now) n name parameters }
     ensures { (length a.new ≡ length a.old) × (length numbers.new ≡ length numbers.old) × StepsTo (λ room s. aperture_step room n (part (slice from end file.now) name) (part (slice from end file.now) parameters) s) (Lends file.now a.old m.now numbers.old) (λ w. with_apertures a.new (with_numbers numbers.new w)) p result }
 {
     let g = p.graphics;
     let found = index::search_number(a, p.apertures, n);
-    let Search::Free(link) = found else {
-        return Stepped::Fault(command_rules::aperture_fault(g, true, 0, false));
+    let Err(link) = found else {
+        command_rules::region_fault(g)?;
+        return Err(Rule::UnknownOrTaken);
     };
     let template = Span {
         from: from + name.from,
@@ -151,11 +152,8 @@ pub fn define(
         height: 0,
     };
     let room = tables::put_aperture(a, p.apertures, link, r);
-    let fault = command_rules::aperture_fault(g, false, o.number, !room);
-    if fault != 0 {
-        return Stepped::Fault(fault);
-    }
-    Stepped::Next(progress::with_apertures(p.apertures + 1, progress::with_numbers(o.used, p)))
+    command_rules::aperture_fault(g, false, o.worked, !room)?;
+    Ok(progress::with_apertures(p.apertures + 1, progress::with_numbers(o.used, p)))
 }
 
 // AM, whose text is file[from..end]; its name and its blocks lie in the text.
@@ -168,7 +166,7 @@ pub fn add_macro(
     name: Span,
     blocks: Span,
     deep: bool,
-) -> Stepped
+) -> Result<Progress, Rule>
     requires { Known (λ w. (w.file ≡ file.now) × (w.macros ≡ m.old)) p × (from ≤ end) × (end ≤ length file.now) × Models (slice from end file.now) name blocks }
     ensures { (length m.new ≡ length m.old) × StepsTo (λ room s. macro_step room (part (slice from end file.now) name) (slice name.to blocks.to (slice from end file.now)) deep s) (λ w. (w.file ≡ file.now) × (w.macros ≡ m.old)) (with_macros m.new) p result }
 {
@@ -176,8 +174,9 @@ pub fn add_macro(
     let first = from + name.from;
     let last = from + name.to;
     let found = index::search_name(file, m, p.macros, first, last);
-    let Search::Free(link) = found else {
-        return Stepped::Fault(command_rules::macro_fault(g, true, deep, false));
+    let Err(link) = found else {
+        command_rules::region_fault(g)?;
+        return Err(Rule::UnknownOrTaken);
     };
     let r = Macro {
         from: first,
@@ -187,9 +186,6 @@ pub fn add_macro(
     };
     let room = tables::put_macro(m, p.macros, link, r);
     let kind = templates::kind_of(base::part(file, first, last));
-    let fault = command_rules::macro_fault(g, kind <= 4, deep, !room);
-    if fault != 0 {
-        return Stepped::Fault(fault);
-    }
-    Stepped::Next(progress::with_macros(p.macros + 1, p))
+    command_rules::macro_fault(g, kind <= 4, deep, !room)?;
+    Ok(progress::with_macros(p.macros + 1, p))
 }

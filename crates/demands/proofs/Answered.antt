@@ -1,5 +1,6 @@
 -- What the calls answer of a store that is a sheet with these items, and of one that is none.
 -- Assumes nothing.
+use Rattle.std.specs.Prelude.{None, Some, Err}
 use Prim.Native.Nat.{ℕ, ◌+◌, ◌-◌, ◌*◌, ◌/◌, ◌%◌, ◌≤◌, ◌<◌}
 use mathlib.Core.Path.{◌≡◌, refl, sym, ap, ◌∙◌}
 use mathlib.Core.Bool.{true, false}
@@ -21,9 +22,6 @@ use Rattle.sheet.specs.Valid.{ok_head, valid}
 use Rattle.sheet.proofs.Expand.{length_sheet}
 use Rattle.descend.specs.Answers.{total_of, answer_of}
 use Rattle.descend.specs.Slots.{item_words, slot, slots, fetch_of, fetch_number, fetched}
-use Rattle.descend.specs.declared.Total.TheVariants as total
-use Rattle.descend.specs.declared.Answer.TheVariants as item
-use Rattle.descend.specs.declared.Fetch.TheVariants as fetch
 use Rattle.descend.proofs.Slots.{run_join, slots_past, slots_join}
 use Rattle.lists.specs.Lists.{number_of, held, slot_of, listed, filled, batch_of}
 use Rattle.lists.specs.declared.Batch.{Batch}
@@ -31,13 +29,13 @@ use Rattle.lists.proofs.Joined.{refused_zeroes}
 use Rattle.law_addresses.specs.Addresses.{sheet_addresses, place_of}
 use Rattle.law_addresses.specs.Marks.{addresses_of}
 use Rattle.law_addresses.specs.Sought.{misses, sought_top_at, sought_top}
-use Rattle.law_addresses.specs.declared.Named.TheVariants.{At, Nothing}
 use Rattle.law_addresses.proofs.Matched.{as_many, place_is_sought, place_of_address}
 use Rattle.address.specs.Answers.{reply_as, reply_of}
 use Rattle.address.specs.declared.Reply.{Reply}
 use Rattle.address.specs.Addressed.{address_number, address_words}
 use Rattle.address.proofs.AddressedAnswers.{answer_is, answer_past}
 use Rattle.demands.specs.Demands.{One, Run, Listed, Addressed}
+use Rattle.descend.specs.declared.Unanswered.TheVariants as unanswered
 
 -- the slots of so many words are so many words
 slots_long : (ts : List Item) (k words : ℕ) → length (slots ts k words) ≡ words
@@ -72,7 +70,7 @@ records_join ts k next f s w n l from p q r =
     (λ x. p x ++ b x) ∙ run_join (λ i. slot_of ts i ∷ []) k n (8 - n) ∙ ap (listed ts k) e ∙ sym r
 
 module _ (head e a : List ℕ) (ts : List Item) (ok : valid head e a ≡ true) (are : sheet_items head e a ≡ ts) where
-  pub total_is : total_of head e a ≡ total.Is (length ts)
+  pub total_is : total_of head e a ≡ Some (length ts)
   unfolding total_of
   total_is = rw (ok, are)
 
@@ -102,7 +100,7 @@ module _ (head e a : List ℕ) (ts : List Item) (ok : valid head e a ≡ true) (
   eight_is k = rw (ok, are) (append-nil (listed ts k 8))
 
   -- zeros name nothing: positions count from 1
-  zeros_nothing : place_of (replicate 10 0) (sheet_addresses head e a) ≡ Nothing
+  zeros_nothing : place_of (replicate 10 0) (sheet_addresses head e a) ≡ None
   unfolding sought_top sought_top_at misses ◌or◌
   zeros_nothing = place_is_sought head e a ok (replicate 10 0) refl
 
@@ -131,15 +129,15 @@ unfolding valid ok_head ◌and◌
 zero_head head e a z = rw z
 
 module _ (head e a : List ℕ) (no : valid head e a ≡ false) where
-  pub total_none : total_of head e a ≡ total.NotSheet
+  pub total_none : total_of head e a ≡ None
   unfolding total_of
   total_none = rw no
 
-  pub one_none : (k : ℕ) → answer_of head e a k ≡ item.NotSheet
+  pub one_none : (k : ℕ) → answer_of head e a k ≡ Err unanswered.NotSheet
   unfolding answer_of
   one_none k = rw no
 
-  pub run_none : (k : ℕ) → fetch_of head e a k ≡ fetch.NotSheet
+  pub run_none : (k : ℕ) → fetch_of head e a k ≡ Err unanswered.NotSheet
   unfolding fetch_of
   run_none k = rw no
 

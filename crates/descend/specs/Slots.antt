@@ -1,5 +1,5 @@
 -- Items as words (docs/SHEET.md), and a run of them in a lent slice.
-use Rattle.std.specs.Prelude.{ℕ, ◌/◌, ◌%◌, cond, List, [], ◌∷◌, ◌++◌, ltb, length, get_or, replicate}
+use Rattle.std.specs.Prelude.{ℕ, ◌/◌, ◌%◌, cond, List, [], ◌∷◌, ◌++◌, ltb, length, get_or, replicate, Err, Ok, Result, ⊤}
 use Rattle.std.specs.Int.{w64}
 use Rattle.std.proofs.Common.{of_z}
 use Rattle.base.specs.Run.{run}
@@ -7,8 +7,8 @@ use Rattle.place.specs.declared.Item.{Item}
 use Rattle.place.specs.Item.{item_width, zero_item}
 use Rattle.sheet.specs.Meaning.{flag_word, sheet_items}
 use Rattle.sheet.specs.Valid.{valid}
-use Rattle.descend.specs.declared.Fetch.{Fetch}
-use Rattle.descend.specs.declared.Fetch.TheVariants as F
+use Rattle.descend.specs.declared.Unanswered.TheVariants as unanswered
+use Rattle.descend.specs.declared.Unanswered.{Unanswered}
 
 -- coordinates in two's complement (decision 201)
 unfoldable pub item_words : Item → List ℕ
@@ -28,14 +28,14 @@ unfoldable pub slots : List Item → ℕ → ℕ → List ℕ
 slots ts k words = run (slot ts) k (words / item_width) ++ replicate (words % item_width) 0
 
 -- the answer, "21 comes before 20"
-unfoldable pub fetch_of : List ℕ → List ℕ → List ℕ → ℕ → Fetch
-fetch_of head e a k = cond (valid head e a) (cond (ltb k (length (sheet_items head e a))) F.Done F.Past) F.NotSheet
+unfoldable pub fetch_of : List ℕ → List ℕ → List ℕ → ℕ → Result ⊤ Unanswered
+fetch_of head e a k = cond (valid head e a) (cond (ltb k (length (sheet_items head e a))) (Ok _) (Err unanswered.Past)) (Err unanswered.NotSheet)
 
 -- document 01's numbers
-unfoldable pub fetch_number : Fetch → ℕ
-fetch_number F.Done = 0
-fetch_number F.Past = 20
-fetch_number F.NotSheet = 21
+unfoldable pub fetch_number : Result ⊤ Unanswered → ℕ
+fetch_number (Ok _) = 0
+fetch_number (Err unanswered.Past) = 20
+fetch_number (Err unanswered.NotSheet) = 21
 
 -- what the lent words hold afterwards: a store that is no sheet has no item, so "20 and 21 zero the .. list"
 unfoldable pub fetched : List ℕ → List ℕ → List ℕ → ℕ → ℕ → List ℕ

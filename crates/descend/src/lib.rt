@@ -27,6 +27,7 @@ pub fn find(e: &[u64], k: Container, n: u64) -> usize
 {
     let mut low = k.first;
     let mut high = k.first + k.len;
+    // The library's search goes over a slice of entries, and here are their words.
     while low + 1 < high {
         let middle = low + (high - low) / 2;
         if before_at(e, middle) <= n {
@@ -48,6 +49,7 @@ pub enum Step {
 }
 
 // Item j of the copies of a repeat: which item of the body, in which copy.
+#[tactic(auto, unfolding(crate::specs::Search::copy_of))]
 fn copy_of(r: Entry, j: u64) -> Step
     requires { Split r j }
     ensures { result ≡ copy_of r j }
@@ -74,9 +76,7 @@ fn descend(e: &[u64], a: &[u64], k: Container, n: u64) -> Step
             r.place,
         ),
         Role::Repeats => copy_of(r, j),
-        Role::Draws => Step::Here(sheet::draw(r)),
-        Role::Defines => Step::Here(sheet::draw(r)),
-        Role::Unknown => Step::Here(sheet::draw(r)),
+        Role::Draws | Role::Defines | Role::Unknown => Step::Here(sheet::draw(r)),
     }
 }
 
@@ -96,61 +96,44 @@ pub fn item_at(e: &[u64], a: &[u64], left: u64, k: Container, n: u64) -> Item
     }
 }
 
-// The number of items.
+// Why no item is answered: 20, past the last; 21, not a sheet.
 #[derive(Clone, Copy)]
-pub enum Total {
-    Is(u64),
-    NotSheet,
-}
-
-// An item.
-#[derive(Clone, Copy)]
-pub enum Answer {
-    Is(Item),
+pub enum Unanswered {
     Past,
     NotSheet,
 }
 
 // The number of items of a sheet.
-pub fn sheet_total(head: &[u64; 8], e: &[u64], a: &[u64]) -> Total
+pub fn sheet_total(head: &[u64; 8], e: &[u64], a: &[u64]) -> Option<u64>
     ensures { result ≡ total_of head.now e.now a.now }
 {
     if inspect::is_sheet(head, e, a) {
-        return Total::Is(head[7]);
+        Some(head[7])
+    } else {
+        None
     }
-    Total::NotSheet
 }
 
 // Item n of a sheet.
-pub fn sheet_item(head: &[u64; 8], e: &[u64], a: &[u64], n: u64) -> Answer
+pub fn sheet_item(head: &[u64; 8], e: &[u64], a: &[u64], n: u64) -> Result<Item, Unanswered>
     ensures { result ≡ answer_of head.now e.now a.now n }
 {
-    if inspect::is_sheet(head, e, a) {
-        let top = sheet::top_of(head);
-        if n < top.items {
-            return Answer::Is(item_at(e, a, 10, top, n));
-        }
-        return Answer::Past;
+    if !inspect::is_sheet(head, e, a) {
+        return Err(Unanswered::NotSheet);
     }
-    Answer::NotSheet
-}
-
-// The outcome of a call for a run of items.
-#[derive(Clone, Copy)]
-pub enum Fetch {
-    Done,
-    Past,
-    NotSheet,
+    let top = sheet::top_of(head);
+    if n >= top.items {
+        return Err(Unanswered::Past);
+    }
+    Ok(item_at(e, a, 10, top, n))
 }
 
 // Stores an item's words from a place on.
+#[tactic(auto, unfolding(crate::specs::Slots::item_words))]
 fn put_item(out: &mut [u64], at: usize, t: Item)
     requires { at + item_width ≤ length out.old }
     ensures { out.new ≡ stored out.old at (item_words t) }
 {
-    let start = t.start;
-    let end = t.end;
-    let centre = t.centre;
     let w = [
         t.kind,
         t.aperture,
@@ -158,12 +141,12 @@ fn put_item(out: &mut [u64], at: usize, t: Item)
         sheet::flag_word(t.flip),
         t.angle,
         t.scale,
-        sheet::x_word(start),
-        sheet::y_word(start),
-        sheet::x_word(end),
-        sheet::y_word(end),
-        sheet::x_word(centre),
-        sheet::y_word(centre),
+        sheet::x_word(t.start),
+        sheet::y_word(t.start),
+        sheet::x_word(t.end),
+        sheet::y_word(t.end),
+        sheet::x_word(t.centre),
+        sheet::y_word(t.centre),
         t.count,
         t.place,
         t.outer,
@@ -176,31 +159,35 @@ fn fill(e: &[u64], a: &[u64], k: Container, n: u64, out: &mut [u64])
     requires { Whole e.now a.now k n × (out.old ≡ replicate (length out.old) 0) }
     ensures { out.new ≡ slots (items e.now a.now 10 k) n (length out.old) }
 {
-    let room = (out.len() / place::ITEM_WORDS) as u64;
-    let mut j: u64 = 0;
-    while j < room {
-        if n + j >= k.items {
+    let room = out.len() / place::ITEM_WORDS;
+    for j in 0..room {
+        let i = n + j as u64;
+        if i >= k.items {
             return;
         }
-        let t = item_at(e, a, 10, k, n + j);
-        put_item(out, sheet::index(j * place::ITEM_WORDS as u64), t);
-        j += 1;
+        put_item(out, j * place::ITEM_WORDS, item_at(e, a, 10, k, i));
     }
 }
 
 // Items n, n + 1, .. of a sheet, in as many slots as there is room for; the store is looked at once.
-pub fn sheet_run(head: &[u64; 8], e: &[u64], a: &[u64], n: u64, out: &mut [u64]) -> Fetch
+pub fn sheet_run(
+    head: &[u64; 8],
+    e: &[u64],
+    a: &[u64],
+    n: u64,
+    out: &mut [u64],
+) -> Result<(), Unanswered>
     ensures { (result ≡ fetch_of head.now e.now a.now n)
         × (out.new ≡ fetched head.now e.now a.now n (length out.old)) }
 {
     base::clear(out);
-    if inspect::is_sheet(head, e, a) {
-        let top = sheet::top_of(head);
-        if n < top.items {
-            fill(e, a, top, n, out);
-            return Fetch::Done;
-        }
-        return Fetch::Past;
+    if !inspect::is_sheet(head, e, a) {
+        return Err(Unanswered::NotSheet);
     }
-    Fetch::NotSheet
+    let top = sheet::top_of(head);
+    if n >= top.items {
+        return Err(Unanswered::Past);
+    }
+    fill(e, a, top, n, out);
+    Ok(())
 }

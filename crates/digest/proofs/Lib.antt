@@ -6,3 +6,4 @@ pub mod Examples
 pub mod Padding
 pub mod Runs
 pub mod Text
+pub mod Bytes

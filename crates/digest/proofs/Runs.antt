@@ -91,18 +91,19 @@ fed_blocks (suc n) s p h k l =
     fed_first s p h k (omega arith)
     ∙ (rw (counted s.length 64 (length (drop 64 p)) (length p) (omega arith)) at (fed_blocks n after (drop 64 p) (omega arith) length_empty left))
 
--- the blocks of t from `at` on: one more, or none
-module _ (t : List ℕ) (at : ℕ) (w : Words) where
-  pub blocks_next : 64 ≤ length t - at → blocks ((length t - at) / 64) (drop at t) w ≡ blocks ((length t - (at + 64)) / 64) (drop (at + 64) t) (block (take 64 (drop at t)) w)
+-- the blocks of t: one and those behind it, or none
+module _ (t : List ℕ) (w : Words) where
+  pub blocks_next : {x behind : List ℕ} → 64 ≤ length t → x ≡ take 64 t → behind ≡ drop 64 t →
+      blocks (length behind / 64) behind (block x w) ≡ blocks (length t / 64) t w
   unfolding blocks
-  blocks_next h =
-      let one : (length t - at) / 64 ≡ suc ((length t - (at + 64)) / 64) = omega arith in
-      rw (one, ← drop-drop 64 at t)
+  blocks_next h e f =
+      let one : length t / 64 ≡ suc (length (drop 64 t) / 64) = omega (arith, length-drop 64 t) in
+      rw (e, f, one)
 
-  pub blocks_none : length t - at < 64 → blocks ((length t - at) / 64) (drop at t) w ≡ w
+  pub blocks_none : length t < 64 → w ≡ blocks (length t / 64) t w
   unfolding blocks
   blocks_none h =
-      let none : (length t - at) / 64 ≡ 0 = omega arith in
+      let none : length t / 64 ≡ 0 = omega arith in
       rw none
 
 -- A run in three parts: the first `lead` bytes fill the block, whole blocks reach to `end`, and the rest follows.

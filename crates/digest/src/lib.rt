@@ -3,19 +3,16 @@
 
 mod table;
 
-ghost use Rattle.std.specs.Prelude.{◌≡◌, ◌/◌, ◌%◌, ◌<◌, not, [], ◌∷◌, length, if◌then◌else◌, slice_index};
+ghost use Rattle.std.specs.Prelude.{◌≡◌, ◌/◌, ◌%◌, ◌<◌, not, length, if◌then◌else◌};
 ghost use Rattle.digest.specs.Word.{word, words_of, rotated};
 ghost use Rattle.digest.specs.Table.{table};
-ghost use Rattle.digest.specs.Rounds.{words, mixed, place, amount, operation, row, four_rounds, added, block};
+ghost use Rattle.digest.specs.Rounds.{words, mixed, place, amounts, amount, operation, row, four_rounds, added, block};
 ghost use Rattle.base.specs.And.{◌and◌};
-ghost use Rattle.digest.specs.Bytes.{bytes_of};
 ghost use Rattle.digest.specs.Md5.{blocks, output, md5};
-ghost use Rattle.digest.specs.Runs.{started, fed, finished};
+ghost use Rattle.digest.specs.Runs.{started, pushed, fed, finished};
 ghost use Rattle.base.specs.Breaks.{is_break};
 ghost use Rattle.digest.specs.Text.{unbroken};
 
-use base::both;
-use std::num::{wrapping_add_u32, wrapping_add_u64};
 use table::T;
 
 // MD5's work on one block of 64 bytes: RFC 1321, section 3.4. Rounds, and the operations of a round, are counted from 0.
@@ -33,12 +30,7 @@ pub struct Words {
 fn four(a: u32, b: u32, c: u32, d: u32) -> Words
     ensures { result ≡ words a b c d }
 {
-    Words {
-        a: a,
-        b: b,
-        c: c,
-        d: d,
-    }
+    Words { a, b, c, d }
 }
 
 // x with its bits turned s places to the left.
@@ -46,35 +38,25 @@ fn rotate(x: u32, s: u32) -> u32
     requires { (0 < s) × (s < 32) }
     ensures { result ≡ rotated x s }
 {
-    (x << s) | (x >> (32 - s))
-}
-
-// A byte as a word.
-fn wide(b: u8) -> u32
-    ensures { (result ≡ b) × (result < 256) }
-{
-    b as u32
+    x.rotate_left(s)
 }
 
 // Word k of a block.
-fn word_at(x: &[u8], k: usize) -> u32
-    requires { (k < 16) × (length x.now ≡ 64) }
+fn word_at(x: &[u8; 64], k: usize) -> u32
+    requires { k < 16 }
     ensures { result ≡ word x.now k }
 {
     let at = 4 * k;
-    wide(x[at]) + 256 * wide(x[at + 1]) + 65536 * wide(x[at + 2]) + 16777216 * wide(x[at + 3])
+    u32::from_le_bytes([x[at], x[at + 1], x[at + 2], x[at + 3]])
 }
 
 // The sixteen words of a block.
-fn words_of(x: &[u8]) -> [u32; 16]
-    requires { length x.now ≡ 64 }
+fn words_of(x: &[u8; 64]) -> [u32; 16]
     ensures { result ≡ words_of x.now 16 }
 {
     let mut y = [0; 16];
-    let mut k: usize = 0;
-    while k < 16 {
+    for k in 0..16 {
         y[k] = word_at(x, k);
-        k += 1;
     }
     y
 }
@@ -104,28 +86,24 @@ fn place_of(r: usize, j: usize) -> usize
     }
 }
 
-// One of four numbers, in turn.
-fn in_turn(j: usize, a: u32, b: u32, c: u32, d: u32) -> u32
-    ensures { result ≡ slice_index (a ∷ b ∷ c ∷ d ∷ []) (j % 4) }
+// The places that the operations of a round rotate by, in turn.
+fn amounts_of(r: usize) -> [u32; 4]
+    ensures { result ≡ amounts r }
 {
-    match j % 4 {
-        0 => a,
-        1 => b,
-        2 => c,
-        _ => d,
+    match r {
+        0 => [7, 12, 17, 22],
+        1 => [5, 9, 14, 20],
+        2 => [4, 11, 16, 23],
+        _ => [6, 10, 15, 21],
     }
 }
 
 // The places that operation j of a round rotates by.
+#[tactic(auto, unfolding(crate::specs::Rounds::amount))]
 fn amount_of(r: usize, j: usize) -> u32
     ensures { result ≡ amount r j }
 {
-    match r {
-        0 => in_turn(j, 7, 12, 17, 22),
-        1 => in_turn(j, 5, 9, 14, 20),
-        2 => in_turn(j, 4, 11, 16, 23),
-        _ => in_turn(j, 6, 10, 15, 21),
-    }
+    amounts_of(r)[j % 4]
 }
 
 // Operation j of a round, on the words in its order: the new value of the first.
@@ -133,10 +111,10 @@ fn operate(w: Words, x: &[u32; 16], t: &[u32; 64], r: usize, j: usize) -> u32
     requires { (r < 4) × (j < 16) }
     ensures { result ≡ operation x.now t.now r j w }
 {
-    let f = wrapping_add_u32(w.a, mix(r, w.b, w.c, w.d));
-    let g = wrapping_add_u32(f, x[place_of(r, j)]);
-    let h = wrapping_add_u32(g, t[16 * r + j]);
-    wrapping_add_u32(w.b, rotate(h, amount_of(r, j)))
+    let f = w.a.wrapping_add(mix(r, w.b, w.c, w.d));
+    let g = f.wrapping_add(x[place_of(r, j)]);
+    let h = g.wrapping_add(t[16 * r + j]);
+    w.b.wrapping_add(rotate(h, amount_of(r, j)))
 }
 
 // Four operations of a round, from operation j on: each gives one word its new value.
@@ -152,14 +130,15 @@ fn operate_row(w: Words, x: &[u32; 16], t: &[u32; 64], r: usize, j: usize) -> Wo
 }
 
 // Each word added to the other's.
+#[tactic(auto, unfolding(crate::specs::Rounds::added))]
 fn add(v: Words, w: Words) -> Words
     ensures { result ≡ added v w }
 {
     four(
-        wrapping_add_u32(v.a, w.a),
-        wrapping_add_u32(v.b, w.b),
-        wrapping_add_u32(v.c, w.c),
-        wrapping_add_u32(v.d, w.d),
+        v.a.wrapping_add(w.a),
+        v.b.wrapping_add(w.b),
+        v.c.wrapping_add(w.c),
+        v.d.wrapping_add(w.d),
     )
 }
 
@@ -188,13 +167,10 @@ fn rounds(w: Words, x: &[u32; 16], t: &[u32; 64]) -> Words
 }
 
 // The words after a block of 64 bytes.
-fn block(w: Words, x: &[u8]) -> Words
-    requires { length x.now ≡ 64 }
+fn block(w: Words, x: &[u8; 64]) -> Words
     ensures { result ≡ block x.now w }
 {
-    let t = T;
-    let v = rounds(w, &words_of(x), &t);
-    add(v, w)
+    add(rounds(w, &words_of(x), &T), w)
 }
 
 // Runs of any length, and their end.
@@ -220,38 +196,37 @@ pub fn start() -> State
 }
 
 // The byte counts: any, but of a text neither CR nor LF.
+#[tactic(auto, using(base::proofs::Or::joins))]
 fn counts(text: bool, b: u8) -> bool
     ensures { result ≡ not (text and is_break b) }
 {
-    !both(text, base::is_break(b))
+    !(text && base::is_break(b))
+}
+
+// A byte more, in its place in the block; with the 64th the block is full.
+fn push(s: &mut State, b: u8)
+    ensures { s.new ≡ pushed s.old b }
+{
+    let at = (s.length % 64) as usize;
+    s.rest[at] = b;
+    s.length = s.length.wrapping_add(1);
+    if at == 63 {
+        s.words = block(s.words, &s.rest);
+        s.rest = [0; 64];
+    }
 }
 
 // A run, byte by byte; of a text the bytes that count.
 fn feed_bytes(s: State, t: &[u8], text: bool) -> State
     ensures { result ≡ fed s (if text then unbroken t.now else t.now) }
 {
-    let mut words = s.words;
-    let mut rest = s.rest;
-    let mut count = s.length;
-    let mut i: usize = 0;
-    while i < t.len() {
-        let b = t[i];
-        i += 1;
+    let mut now = s;
+    for &b in t {
         if counts(text, b) {
-            let at = (count % 64) as usize;
-            rest[at] = b;
-            count = wrapping_add_u64(count, 1);
-            if at == 63 {
-                words = block(words, &rest);
-                rest = [0; 64];
-            }
+            push(&mut now, b);
         }
     }
-    State {
-        words: words,
-        rest: rest,
-        length: count,
-    }
+    now
 }
 
 // A run of a text more, CR and LF left out.
@@ -266,10 +241,10 @@ fn feed_blocks(w: Words, t: &[u8]) -> Words
     ensures { result ≡ blocks (length t.now / 64) t.now w }
 {
     let mut v = w;
-    let mut at: usize = 0;
-    while 64 <= t.len() - at {
-        v = block(v, &t[at..at + 64]);
-        at += 64;
+    let mut left = t;
+    while let Some((x, behind)) = left.split_first_chunk::<64>() {
+        v = block(v, x);
+        left = behind;
     }
     v
 }
@@ -284,57 +259,24 @@ pub fn feed(s: State, t: &[u8]) -> State
     }
     let a = feed_bytes(s, &t[..lead], false);
     let end = t.len() - (t.len() - lead) % 64;
-    let words = feed_blocks(a.words, &t[lead..end]);
     let b = State {
-        words: words,
+        words: feed_blocks(a.words, &t[lead..end]),
         rest: [0; 64],
-        length: wrapping_add_u64(a.length, (end - lead) as u64),
+        length: a.length.wrapping_add((end - lead) as u64),
     };
     feed_bytes(b, &t[end..], false)
-}
-
-// The byte of the least weight.
-fn low(x: u64) -> u8
-    ensures { result ≡ x % 256 }
-{
-    (x % 256) as u8
-}
-
-// The bytes of a number, the one of the least weight first.
-fn bytes_of(x: u64) -> [u8; 8]
-    ensures { result ≡ bytes_of 8 x }
-{
-    let b = x / 256;
-    let c = b / 256;
-    let d = c / 256;
-    let e = d / 256;
-    let f = e / 256;
-    let g = f / 256;
-    let h = g / 256;
-    [
-        low(x),
-        low(b),
-        low(c),
-        low(d),
-        low(e),
-        low(f),
-        low(g),
-        low(h),
-    ]
 }
 
 // The words as bytes.
 fn output_of(w: Words) -> [u8; 16]
     ensures { result ≡ output w }
 {
-    let a = bytes_of(w.a as u64);
-    let b = bytes_of(w.b as u64);
-    let c = bytes_of(w.c as u64);
-    let d = bytes_of(w.d as u64);
-    [
-        a[0], a[1], a[2], a[3], b[0], b[1], b[2], b[3], c[0], c[1], c[2], c[3], d[0], d[1], d[2],
-        d[3],
-    ]
+    let mut out = [0; 16];
+    out[..4].copy_from_slice(&w.a.to_le_bytes());
+    out[4..8].copy_from_slice(&w.b.to_le_bytes());
+    out[8..12].copy_from_slice(&w.c.to_le_bytes());
+    out[12..].copy_from_slice(&w.d.to_le_bytes());
+    out
 }
 
 // The digest of all that was fed.
@@ -345,7 +287,7 @@ pub fn finish(s: State) -> [u8; 16]
     padding[0] = 128;
     let n = 1 + (119 - (s.length % 64) as usize) % 64;
     let p = feed(s, &padding[..n]);
-    let q = feed(p, &bytes_of(s.length << 3));
+    let q = feed(p, &(s.length << 3).to_le_bytes());
     output_of(q.words)
 }
 

@@ -1,6 +1,6 @@
 -- Laws of `coordinate_at`: the sign parted from the digits, and each way out of the reading.
 -- Assumes nothing.
-use Rattle.std.proofs.Common.{◌≡◌, ℕ, suc, ◌+◌, ◌-◌, ◌^◌, ◌<◌, ◌≤◌, min, Bool, true, false, not, eqb, leb, List, [], ◌∷◌, length, get_or, ℤ, sym, refl, ap, ◌∙◌, add-one, arith, le-leb, leb-false, leb-true}
+use Rattle.std.proofs.Common.{◌≡◌, ℕ, suc, ◌+◌, ◌-◌, ◌^◌, ◌<◌, ◌≤◌, min, Bool, true, false, not, eqb, leb, List, [], ◌∷◌, length, get_or, ℤ, sym, refl, ap, ◌∙◌, add-one, arith, le-leb, leb-false, leb-true, Err, Ok, Result}
 use lib.Seq.{slice, slice-cons, slice_empty, length-slice}
 use Rattle.base.specs.And.{◌and◌}
 use borrow.Author.Tests.{lt-leb}
@@ -9,13 +9,13 @@ use Rattle.text.proofs.First.{first_from_lem, first_to}
 use Rattle.digits.specs.Digits.{is_digit, past_digits, all_digits, is_number, value_of, digits_in}
 use Rattle.digits.specs.Sign.{is_sign, has_minus, after_sign, past_sign}
 use Rattle.digits.specs.Coordinate.{whole_of, coordinate_of, coordinate_end, coordinate_at}
-use Rattle.digits.specs.declared.answers.Coordinate.{Coordinate}
-use Rattle.digits.specs.declared.answers.Coordinate.TheVariants as coordinate
 use Rattle.digits.specs.declared.answers.Digits.{Digits}
 use Rattle.digits.proofs.Strings.{value_bound, bound_at}
 use Rattle.digits.proofs.Past.{passed_on, digits_passed, number_passed}
 use Rattle.digits.proofs.Sign.{sign_passed, sign_missing, past_sign_to}
 use Rattle.digits.proofs.Ways.{whole_other, whole_long, whole_value}
+use Rattle.digits.specs.declared.answers.NumberError.TheVariants as number_error
+use Rattle.digits.specs.declared.answers.NumberError.{NumberError}
 
 -- a first byte that is a sign, one that is none, and no byte
 module _ (b : ℕ) (limit : ℕ) where
@@ -63,7 +63,7 @@ module _ (s : List ℕ) (at : ℕ) (h : at ≤ length s) where
           ap (λ t. coordinate_of t limit) none ∙ without_any (get_or s at 0) limit ∙ ap (λ t. whole_of (eqb (get_or s at 0) 45) t limit) (sym none ∙ ap text (sym (sign_missing s at e)))
 
   -- a coordinate by what stands after its sign
-  by_whole : (limit next : ℕ) (c : Coordinate) → next ≡ coordinate_end s at → c ≡ whole_of (eqb (get_or s at 0) 45) (slice (past_sign s at) (coordinate_end s at) s) limit →
+  by_whole : (limit next : ℕ) (c : Result ℤ NumberError) → next ≡ coordinate_end s at → c ≡ whole_of (eqb (get_or s at 0) 45) (slice (past_sign s at) (coordinate_end s at) s) limit →
       record { coordinate = c; next = next } ≡ coordinate_at s at limit
   unfolding coordinate_at
   by_whole limit next c n e = λ i. record { coordinate = (e ∙ sym (parted limit)) i; next = n i }
@@ -91,13 +91,13 @@ module _ (s : List ℕ) (at limit from to next : ℕ) (d : Digits) (h : at ≤ l
   counted : is_number (slice from next s) ≡ leb 1 (next - from)
   counted = rw all_passed (number_passed s from from_to)
 
-  says : (c : Coordinate) → c ≡ whole_of (eqb (get_or s at 0) 45) (slice from next s) limit → record { coordinate = c; next = next } ≡ coordinate_at s at limit
+  says : (c : Result ℤ NumberError) → c ≡ whole_of (eqb (get_or s at 0) 45) (slice from next s) limit → record { coordinate = c; next = next } ≡ coordinate_at s at limit
   says c q = by_whole s at h limit next c ends (q ∙ λ i. whole_of (eqb (get_or s at 0) 45) (slice (p i) (ends i) s) limit)
 
-  pub read_none : next ≡ from → record { coordinate = coordinate.NotForm; next = next } ≡ coordinate_at s at limit
+  pub read_none : next ≡ from → record { coordinate = Err number_error.NotForm; next = next } ≡ coordinate_at s at limit
   read_none z = says _ (whole_other _ _ _ (counted ∙ lt-leb 1 (next - from) (omega arith)))
 
-  pub read_long : d.next < next → record { coordinate = coordinate.TooLong; next = next } ≡ coordinate_at s at limit
+  pub read_long : d.next < next → record { coordinate = Err number_error.TooLong; next = next } ≡ coordinate_at s at limit
   read_long z =
       let k : from + limit < next = omega (arith, stops, all_passed, in_text) in
       says _ (whole_long _ _ _ (counted ∙ le-leb 1 (next - from) (omega arith)) (rw (length-slice from next s in_text) (omega arith)))
@@ -120,6 +120,6 @@ module _ (s : List ℕ) (at limit from to next : ℕ) (d : Digits) (h : at ≤ l
     pub read_small : d.value < 10 ^ 12
     read_small = rw worth (bound_at (value_of (slice from next s)) (next - from) 12 (rw (length-slice from next s in_text) at (value_bound (slice from next s) all)) (omega (arith, few)))
 
-    pub read_value : (z : ℤ) → (next ≡ from → ⊥) → z ≡ signed (eqb (get_or s at 0) 45) d.value → record { coordinate = coordinate.Value z; next = next } ≡ coordinate_at s at limit
+    pub read_value : (z : ℤ) → (next ≡ from → ⊥) → z ≡ signed (eqb (get_or s at 0) 45) d.value → record { coordinate = Ok z; next = next } ≡ coordinate_at s at limit
     read_value z x v =
         says _ (whole_value _ _ _ z (counted ∙ le-leb 1 (next - from) (omega (arith, all_passed, first_from_lem (λ b. not (is_digit b)) s from))) (rw (length-slice from next s in_text) few) (v ∙ ap (signed (eqb (get_or s at 0) 45)) worth))

@@ -1,10 +1,13 @@
 -- Laws of digit strings: one byte more, their bounds, and their value.
 -- Assumes nothing.
-use Rattle.std.proofs.Common.{◌≡◌, ℕ, ◌+◌, ◌-◌, ◌*◌, ◌%◌, ◌^◌, ◌<◌, ◌≤◌, Bool, true, false, ltb, leb, List, [], ◌∷◌, length, get_or, drop, sym, refl, ◌∙◌, mul-le-mul_right, pow-suc, add-one, arith, ltb-false, ltb-true, le-leb, leb-true}
+use Rattle.std.proofs.Common.{◌≡◌, ℕ, ◌+◌, ◌-◌, ◌*◌, ◌%◌, ◌^◌, ◌<◌, ◌≤◌, Bool, true, false, ltb, leb, List, [], ◌∷◌, length, get_or, drop, sym, refl, ap, ◌∙◌, mul-le-mul_right, pow-suc, add-one, arith, ltb-false, ltb-true, le-leb, leb-true}
 use mathlib.Core.Bool.{false≢true}
 use native.Mathlib.Nat.{pow-le-pow_right}
+use Rattle.std.specs.List.{list_all}
+use borrow.Author.Tests.{lt-leb}
+use Rattle.std.proofs.lemmas.Bool.Decides.{nat_tests}
 use Rattle.base.specs.And.{◌and◌}
-use Rattle.base.proofs.And.{and_l, and_r, and_i}
+use Rattle.base.proofs.And.{and_l, and_r, and_i, and_is, true_and, false_and}
 use Rattle.base.proofs.Lists.{drop_next}
 use Rattle.digits.specs.Digits.{is_digit, Writes, all_digits, is_number, value_of}
 
@@ -32,6 +35,23 @@ module _ (b d : ℕ) (h : d < 2 ^ 64) (e : (d + 48) % 2 ^ 64 ≡ b) where
 pub number_digits : (s : List ℕ) → is_number s ≡ true → all_digits s ≡ true
 unfolding is_number
 number_digits s e = and_r (leb 1 (length s)) (all_digits s) e
+
+-- what the library's `all` says of each byte
+pub digits_all : (s : List ℕ) → list_all is_digit s ≡ all_digits s
+unfolding all_digits
+digits_all [] = refl
+digits_all (b ∷ s) = and_is _ _ ∙ ap (λ t. is_digit b and t) (digits_all s)
+
+-- a number has a byte, and then it is one where its bytes are digits
+pub number_some : (s : List ℕ) → 1 ≤ length s → is_number s ≡ all_digits s
+unfolding is_number
+number_some s h = rw (le-leb 1 (length s) h, true_and)
+
+pub number_none : (s : List ℕ) → length s < 1 → is_number s ≡ false
+unfolding is_number
+number_none s h = rw (lt-leb 1 (length s) h, false_and)
+
+pub ruleset numbers = (number_some, number_none, nat_tests)
 
 -- the first of digits, and the others
 module _ (b : ℕ) (s : List ℕ) (e : all_digits (b ∷ s) ≡ true) where

@@ -1,7 +1,10 @@
 -- Laws of dropped zeros: they leave digits digits, and leading ones do not count.
 -- Assumes nothing.
-use Rattle.std.proofs.Common.{◌≡◌, ℕ, ◌+◌, ◌-◌, ◌*◌, ◌^◌, ◌<◌, ◌≤◌, Bool, true, false, cond, eqb, List, [], ◌∷◌, length, refl, mul-le-mul_right, arith, eqb-true}
+use Rattle.std.proofs.Common.{◌≡◌, ℕ, ◌+◌, ◌-◌, ◌*◌, ◌^◌, ◌<◌, ◌≤◌, Bool, true, false, cond, eqb, List, [], ◌∷◌, length, get_or, take, drop, sym, ap, ◌∙◌, refl, mul-le-mul_right, arith, eq-eqb, ne_eqb, eqb-true}
 use native.Mathlib.Nat.{pow-le-pow_right}
+use lib.Seq.{take-length}
+use Rattle.base.proofs.Lists.{rest_whole}
+use Rattle.base.proofs.Trimmed.{leading_goes, leading_stops, leading_ends, trailing_goes, trailing_stops, trailing_none}
 use borrow.Author.Tests.{eqb-false}
 use Rattle.base.proofs.And.{and_i}
 use Rattle.digits.specs.Digits.{is_digit, all_digits, value_of}
@@ -65,3 +68,26 @@ pub trailing_digits : (s : List ℕ) → all_digits s ≡ true → all_digits (d
 unfolding drop_trailing
 trailing_digits [] e = e
 trailing_digits (b ∷ s) e = before_digits b (drop_trailing_zeros s) (first_digit b s e) (trailing_digits s (other_digits b s e))
+
+-- ---- byte by byte: a zero at an end makes no difference, another byte ends them, and so does the end
+module _ (s : List ℕ) where
+  pub first_goes : 1 ≤ length s → get_or s 0 0 ≡ 48 → drop_leading_zeros (take (length s - 1) (drop 1 s)) ≡ drop_leading_zeros s
+  first_goes h e = rw rest_whole (sym (leading_goes (λ b. eqb b 48) s 0 (omega arith) (eq-eqb _ 48 e)))
+
+  pub first_stays : 1 ≤ length s → (get_or s 0 0 ≡ 48 → ⊥) → drop_leading_zeros s ≡ s
+  first_stays h e = leading_stops (λ b. eqb b 48) s 0 (omega arith) (ne_eqb _ 48 e)
+
+  pub first_none : length s < 1 → drop_leading_zeros s ≡ s
+  first_none h = leading_ends (λ b. eqb b 48) s 0 (omega arith)
+
+  pub last_goes : 1 ≤ length s → get_or s (length s - 1) 0 ≡ 48 → drop_trailing_zeros (take (length s - 1) s) ≡ drop_trailing_zeros s
+  last_goes h e = sym (trailing_goes (λ b. eqb b 48) s (length s) (omega arith) (omega arith) (eq-eqb _ 48 e)) ∙ ap drop_trailing_zeros (take-length s)
+
+  pub last_stays : 1 ≤ length s → (get_or s (length s - 1) 0 ≡ 48 → ⊥) → drop_trailing_zeros s ≡ s
+  last_stays h e =
+      ap drop_trailing_zeros (sym (take-length s)) ∙ trailing_stops (λ b. eqb b 48) s (length s) (omega arith) (omega arith) (ne_eqb _ 48 e) ∙ take-length s
+
+  pub last_none : length s < 1 → drop_trailing_zeros s ≡ s
+  last_none h = ap drop_trailing_zeros (sym (take-length s)) ∙ trailing_none (λ b. eqb b 48) s (length s) (omega arith) ∙ take-length s
+
+pub ruleset trimmed = (first_goes, first_stays, first_none, last_goes, last_stays, last_none)

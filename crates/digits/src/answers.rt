@@ -1,17 +1,16 @@
 // What a written whole number says. Document 01's number of each case stands in specs/.
 
-// A coordinate: its value as written, a whole number of millionths.
+// Why digits have no value: they are not of the form, or too many, leading zeros aside where any number of them may be written.
 #[derive(Clone, Copy)]
-pub enum Coordinate {
+pub enum NumberError {
     NotForm,
     TooLong,
-    Value(i64),
 }
 
 // The coordinate that stands at a place of a text, and the place after it.
 #[derive(Clone, Copy)]
 pub struct Taken {
-    pub coordinate: Coordinate,
+    pub coordinate: Result<i64, NumberError>,
     pub next: usize,
 }
 
@@ -20,12 +19,4 @@ pub struct Taken {
 pub struct Digits {
     pub value: u64,
     pub next: usize,
-}
-
-// A number of digits alone, however many are written; TooLarge is 10^12 or more.
-#[derive(Clone, Copy)]
-pub enum Natural {
-    NotForm,
-    TooLarge,
-    Value(u64),
 }

@@ -1,7 +1,7 @@
 // Strings of digits, and the whole numbers that they write: coordinates, and numbers of digits alone.
 #![tactic(auto)]
 
-ghost use Rattle.std.specs.Prelude.{◌≡◌, ◌+◌, ◌≤◌, min, true, length};
+ghost use Rattle.std.specs.Prelude.{◌≡◌, ◌+◌, ◌≤◌, true, length};
 ghost use Rattle.std.proofs.Math.Seq.{slice};
 ghost use Rattle.digits.specs.Digits.{is_digit, Writes, past_digits, all_digits, is_number, value_of, digits_in};
 ghost use Rattle.digits.specs.Sign.{has_minus, after_sign, past_sign};
@@ -11,35 +11,31 @@ ghost use Rattle.digits.specs.Natural.{natural_of};
 
 mod answers;
 
-pub use answers::{Coordinate, Digits, Natural, Taken};
+pub use answers::{Digits, NumberError, Taken};
 
 // '0' to '9'.
 pub fn is_digit(b: u8) -> bool
     ensures { result ≡ is_digit b }
 {
-    base::both(48 <= b, b <= 57)
+    b.is_ascii_digit()
 }
 
 // The digit that a byte writes, 10 or more where it writes none.
 fn digit(b: u8) -> u64
     ensures { Writes b result }
 {
-    std::num::wrapping_sub_u64(base::wide(b), 48)
+    u64::from(b).wrapping_sub(48)
 }
 
 // The first place from `from` on that holds no digit.
 pub fn past_digits(s: &[u8], from: usize) -> usize
     ensures { result ≡ past_digits s.now from }
 {
-    let mut at = from;
-    while at < s.len() {
-        if is_digit(s[at]) {
-            at += 1;
-        } else {
-            return at;
-        }
-    }
-    at
+    let rest = base::from_on(s, from);
+    from + rest
+        .iter()
+        .position(|b| !is_digit(*b))
+        .unwrap_or(rest.len())
 }
 
 // The digits from one place on, but none from `to` on.
@@ -48,31 +44,29 @@ fn digits_in(s: &[u8], from: usize, to: usize) -> Digits
     ensures { result ≡ digits_in s.now from to }
 {
     let mut value: u64 = 0;
-    let mut next = from;
-    while next < to {
+    for next in from..to {
         let d = digit(s[next]);
-        if d < 10 {
-            value = value * 10 + d;
-            next += 1;
-        } else {
+        if 10 <= d {
             return Digits { value, next };
         }
+        value = value * 10 + d;
     }
-    Digits { value, next }
+    Digits { value, next: to }
 }
 
 // Every byte is a digit.
 pub fn all_digits(t: &[u8]) -> bool
     ensures { result ≡ all_digits t.now }
 {
-    past_digits(t, 0) == t.len()
+    t.iter().all(|b| is_digit(*b))
 }
 
 // Digits alone, one at least.
+#[tactic(auto, using(crate::proofs::Strings::numbers))]
 pub fn is_number(t: &[u8]) -> bool
     ensures { result ≡ is_number t.now }
 {
-    base::both(1 <= t.len(), all_digits(t))
+    !t.is_empty() && all_digits(t)
 }
 
 // The value of at most 12 digits.
@@ -84,74 +78,58 @@ pub fn value(t: &[u8]) -> u64
 }
 
 // The text begins with a minus.
+#[tactic(auto, using(crate::proofs::Sign::signs))]
 pub fn has_minus(t: &[u8]) -> bool
     ensures { result ≡ has_minus t.now }
 {
-    base::byte_at(t, 0) == 45
+    matches!(t, [b'-', ..])
 }
 
 // What stands after the sign, if there is one.
+#[tactic(auto, using(crate::proofs::Sign::signs))]
 pub fn after_sign(t: &[u8]) -> &[u8]
     ensures { result.now ≡ after_sign t.now }
 {
-    let b = base::byte_at(t, 0);
-    if base::either(b == 43, b == 45) {
-        return base::from_on(t, 1);
+    match t {
+        [b'+' | b'-', rest @ ..] => rest,
+        _ => t,
     }
-    t
 }
 
 // The text from its first byte on that is no zero.
+#[tactic(auto, using(crate::proofs::Zeros::trimmed))]
 pub fn without_leading_zeros(t: &[u8]) -> &[u8]
     ensures { result.now ≡ drop_leading_zeros t.now }
 {
-    let mut i: usize = 0;
-    while i < t.len() {
-        if t[i] != 48 {
-            return base::from_on(t, i);
-        }
-        i += 1;
+    let mut rest = t;
+    while let [b'0', others @ ..] = rest {
+        rest = others;
     }
-    base::from_on(t, i)
+    rest
 }
 
 // The text up to its last byte that is no zero.
+#[tactic(auto, using(crate::proofs::Zeros::trimmed))]
 pub fn without_trailing_zeros(t: &[u8]) -> &[u8]
     ensures { result.now ≡ drop_trailing_zeros t.now }
 {
-    let mut n = t.len();
-    while 0 < n {
-        if t[n - 1] != 48 {
-            return base::up_to(t, n);
-        }
-        n -= 1;
+    let mut rest = t;
+    while let [others @ .., b'0'] = rest {
+        rest = others;
     }
-    base::up_to(t, n)
+    rest
 }
 
 // The place after the sign at a place, or that place where there is none.
+#[tactic(auto, using(crate::proofs::Sign::places))]
 fn past_sign(s: &[u8], at: usize) -> usize
     requires { at ≤ length s.now }
     ensures { result ≡ past_sign s.now at }
 {
-    if at < s.len() {
-        let b = s[at];
-        if base::either(b == 43, b == 45) {
-            return at + 1;
-        }
+    match s.get(at) {
+        Some(b'+' | b'-') => at + 1,
+        _ => at,
     }
-    at
-}
-
-// The place n bytes on, or the end where it is nearer.
-fn onward(s: &[u8], from: usize, n: usize) -> usize
-    requires { from ≤ length s.now }
-    ensures { result ≡ min (length s.now) (from + n) }
-{
-    if s.len() - from < n {
-        return s.len();
-    }
-    from + n
 }
 
 // The coordinate of at most limit digits that stands at a place, and the place after it.
@@ -159,39 +137,39 @@ pub fn coordinate_at(s: &[u8], at: usize, limit: usize) -> Taken
     requires { (at ≤ length s.now) × (limit ≤ 12) }
     ensures { result ≡ coordinate_at s.now at limit }
 {
-    let minus = base::byte_at(s, at) == 45;
+    let minus = base::byte_at(s, at) == b'-';
     let from = past_sign(s, at);
-    let digits = digits_in(s, from, onward(s, from, limit));
+    let digits = digits_in(s, from, s.len().min(from + limit));
     let next = past_digits(s, digits.next);
     if next == from {
         return Taken {
-            coordinate: Coordinate::NotForm,
+            coordinate: Err(NumberError::NotForm),
             next,
         };
     }
     if digits.next < next {
         return Taken {
-            coordinate: Coordinate::TooLong,
+            coordinate: Err(NumberError::TooLong),
             next,
         };
     }
     Taken {
-        coordinate: Coordinate::Value(ints::with_sign(minus, digits.value)),
+        coordinate: Ok(ints::with_sign(minus, digits.value)),
         next,
     }
 }
 
 // s[from..to] as a number of digits alone.
-pub fn natural(s: &[u8], from: usize, to: usize) -> Natural
+pub fn natural(s: &[u8], from: usize, to: usize) -> Result<u64, NumberError>
     ensures { result ≡ natural_of (slice from to s.now) }
 {
     let text = base::part(s, from, to);
     if !is_number(text) {
-        return Natural::NotForm;
+        return Err(NumberError::NotForm);
     }
     let digits = without_leading_zeros(text);
     if 12 < digits.len() {
-        return Natural::TooLarge;
+        return Err(NumberError::TooLong);
     }
-    Natural::Value(value(digits))
+    Ok(value(digits))
 }

@@ -1,5 +1,6 @@
 -- A chain of operators of one rank, walked through from the left: its outcome from here on is its outcome from the start.
 -- Assumes nothing.
+use Rattle.std.specs.Prelude.{Option, ℤ}
 use Prim.Native.Nat.{ℕ, zero, suc, ◌-◌, ◌^◌, ◌<◌, ◌≤◌}
 use mathlib.Core.Path.{◌≡◌, refl, sym, ap, ◌∙◌}
 use mathlib.Core.Bool.{Bool, true, false}
@@ -7,7 +8,6 @@ use mathlib.Core.List.{List}
 use native.Mathlib.Omega.{arith}
 use lib.IntN.{ℤ, nat_abs}
 use lib.ListN.{length, drop}
-use Rattle.reckon.specs.declared.Reckoned.{Reckoned}
 use Rattle.macro_tokens.specs.Tokens.{tokens}
 use Rattle.macro_tokens.specs.declared.Token.{Token}
 use Rattle.expression.specs.Grammar.{Reading, stop, go, after, joined, chain}
@@ -16,7 +16,7 @@ use Rattle.expression.specs.declared.Operator.{Operator}
 use Rattle.expression.specs.declared.Sign.{Sign}
 use Rattle.expression.specs.declared.Worked.{Worked}
 
-module _ (rank : Token → Sign) (op : Bool → ℤ → ℤ → Reckoned) (operand : List Token → Reading) where
+module _ (rank : Token → Sign) (op : Bool → ℤ → ℤ → Option ℤ) (operand : List Token → Reading) where
   pub chain_stop : (n : ℕ) (w : Reading) → after rank w ≡ stop → chain rank op operand n w ≡ w
   unfolding chain
   chain_stop zero w e = refl

@@ -1,5 +1,6 @@
 -- How large what an expression holds can be: below 10 ^ 12 millionths.
 -- Assumes nothing.
+use Rattle.std.specs.Prelude.{None, Option, Some, ℤ, Err, Ok, Result}
 use Prim.Native.Nat.{ℕ, ◌^◌, ◌<◌, ◌-◌}
 use mathlib.Core.Path.{◌≡◌, refl}
 use mathlib.Core.Bool.{Bool, true, false, cond}
@@ -14,8 +15,6 @@ use mir.Syntax.{w64}
 use mir.Val.{to_z, of_z}
 use Rattle.ints.proofs.Bounded.{fits_of}
 use Rattle.decimal.specs.Decimal.{decimal_of}
-use Rattle.decimal.specs.declared.answers.Decimal.{Decimal}
-use Rattle.decimal.specs.declared.answers.Decimal.TheVariants as decimal
 use Rattle.decimal.proofs.Sizes.{decimal_size}
 use Rattle.base.specs.Choose.{pick}
 use Rattle.command.specs.Numbers.{sized_as}
@@ -24,13 +23,14 @@ use Rattle.macro_tokens.specs.declared.Token.{Token}
 use Rattle.macro_tokens.specs.declared.Lexeme.{Lexeme}
 use Rattle.macro_tokens.specs.declared.Token.TheVariants.{End, Number, Variable, Plus, Minus, Times, Over, Open, Close, Unknown}
 use Rattle.reckon.specs.Rounding.{sum_of, difference_of, product_of, quotient_of}
-use Rattle.reckon.specs.declared.Reckoned.{Reckoned}
-use Rattle.reckon.specs.declared.Reckoned.TheVariants.{Refused, Value}
 use Rattle.reckon.proofs.Sizes.{sum_size, difference_size, product_size, quotient_size}
 use Rattle.expression.specs.Grammar.{leaf_of, sum_by, product_by}
 use Rattle.expression.specs.Reading.{Fits, worked_of}
 use Rattle.expression.specs.declared.Leaf.{Leaf}
 use Rattle.expression.specs.declared.Leaf.TheVariants as leaf
+use Rattle.digits.specs.declared.answers.NumberError.TheVariants as number_error
+use Rattle.digits.specs.declared.answers.NumberError.{NumberError}
+use Rattle.decimal.specs.declared.answers.Decimal.{Decimal}
 
 -- a number's value is small
 pub record Small (z : ℤ) : Type 0 where
@@ -59,10 +59,10 @@ pub sized_small : (t : List ℕ) → Small (sized_as (decimal_of t)).value.milli
 unfolding sized_as
 sized_small t = go (decimal_of t) refl
   where
-    go : (d : Decimal) → decimal_of t ≡ d → Small (sized_as d).value.millionths
-    go decimal.NotForm e = zero_small
-    go decimal.TooLong e = zero_small
-    go (decimal.Value a rounded) e = record { size = decimal_size t a rounded e }
+    go : (d : Result Decimal NumberError) → decimal_of t ≡ d → Small (sized_as d).value.millionths
+    go (Err number_error.NotForm) e = zero_small
+    go (Err number_error.TooLong) e = zero_small
+    go (Ok d) e = record { size = decimal_size t d.amount d.rounded e }
 
 either_small : (t : Bool) (a b : Token) → SmallToken a → SmallToken b → SmallToken (pick t a b)
 unfolding pick
@@ -104,13 +104,13 @@ leaf_small variables f Close p = tt
 leaf_small variables f Unknown p = tt
 
 -- and what operations leave
-abbrev pub SmallResult : Reckoned → Type 0
-SmallResult Refused = Unit
-SmallResult (Value z) = Small z
+abbrev pub SmallResult : Option ℤ → Type 0
+SmallResult None = Unit
+SmallResult (Some z) = Small z
 
-result_small : (r : Reckoned) → ((z : ℤ) → r ≡ Value z → nat_abs z < 10 ^ 12) → SmallResult r
-result_small Refused f = tt
-result_small (Value z) f = record { size = f z refl }
+result_small : (r : Option ℤ) → ((z : ℤ) → r ≡ Some z → nat_abs z < 10 ^ 12) → SmallResult r
+result_small None f = tt
+result_small (Some z) f = record { size = f z refl }
 
 pub sum_small : (minus : Bool) (a b : ℤ) → SmallResult (sum_by minus a b)
 unfolding sum_by
@@ -122,7 +122,7 @@ unfolding product_by
 product_small true a b = result_small (quotient_of a b) (quotient_size a b)
 product_small false a b = result_small (product_of a b) (product_size a b)
 
-pub worked_small : (r : Reckoned) (next : ℕ) → SmallResult r → nat_abs (worked_of r next).value.millionths < 10 ^ 12
+pub worked_small : (r : Option ℤ) (next : ℕ) → SmallResult r → nat_abs (worked_of r next).value.millionths < 10 ^ 12
 unfolding worked_of
-worked_small Refused next p = omega arith
-worked_small (Value z) next p = p.size
+worked_small None next p = omega arith
+worked_small (Some z) next p = p.size

@@ -1,5 +1,6 @@
 -- What answers say: of an operation, of a sign, of an operator after what was read, of a closed parenthesis.
 -- Assumes nothing.
+use Rattle.std.specs.Prelude.{None, Option, Some, ℤ}
 use Prim.Native.Nat.{ℕ, ◌^◌, ◌<◌}
 use mathlib.Core.Path.{◌≡◌, refl, sym, ◌∙◌}
 use mathlib.Core.Bool.{Bool, true, false, false≢true}
@@ -11,8 +12,6 @@ use lib.ListN.{length, drop}
 use borrow.Author.Tests.{leb-true, leb-false}
 use Rattle.base.specs.And.{◌and◌}
 use Rattle.base.proofs.And.{and_l, and_r}
-use Rattle.reckon.specs.declared.Reckoned.{Reckoned}
-use Rattle.reckon.specs.declared.Reckoned.TheVariants.{Refused, Value}
 use Rattle.macro_tokens.specs.Tokens.{tokens, lexed}
 use Rattle.macro_tokens.specs.declared.Token.{Token}
 use Rattle.expression.specs.Grammar.{Reading, refused, reads, after, kept, joined, negated, is_close, closed}
@@ -33,18 +32,18 @@ pub told_refused : (s : List ℕ) (w : Worked) → w.fine ≡ false → as_read 
 unfolding as_read
 told_refused s w e = rw e
 
-told_worked : (s : List ℕ) (r : Reckoned) (next : ℕ) → as_read s (worked_of r next) ≡ kept r (tokens (drop next s))
+told_worked : (s : List ℕ) (r : Option ℤ) (next : ℕ) → as_read s (worked_of r next) ≡ kept r (tokens (drop next s))
 unfolding as_read worked_of kept
-told_worked s Refused next = refl
-told_worked s (Value a) next = refl
+told_worked s None next = refl
+told_worked s (Some a) next = refl
 
-worked_next : (r : Reckoned) (next : ℕ) → (worked_of r next).next ≡ next
+worked_next : (r : Option ℤ) (next : ℕ) → (worked_of r next).next ≡ next
 unfolding worked_of
-worked_next Refused next = refl
-worked_next (Value a) next = refl
+worked_next None next = refl
+worked_next (Some a) next = refl
 
-module _ (op : ℤ → ℤ → Reckoned) (a b : Worked) where
-  pub join_fine : (a.fine and b.fine) ≡ true → (r : Reckoned) → r ≡ op a.value.millionths b.value.millionths → SmallResult r → Joins op a b (worked_of r b.next)
+module _ (op : ℤ → ℤ → Option ℤ) (a b : Worked) where
+  pub join_fine : (a.fine and b.fine) ≡ true → (r : Option ℤ) → r ≡ op a.value.millionths b.value.millionths → SmallResult r → Joins op a b (worked_of r b.next)
   unfolding joined
   join_fine e r q small =
       record {
@@ -103,13 +102,13 @@ close_says s w false y e f = rw e
 
 -- whether the whole text was read
 module _ (s : List ℕ) (w : Worked) where
-  pub whole_read : (w.fine and leb (length s) w.next) ≡ true → whole (as_read s w) ≡ Value w.value.millionths
+  pub whole_read : (w.fine and leb (length s) w.next) ≡ true → whole (as_read s w) ≡ Some w.value.millionths
   unfolding whole
   whole_read e =
       let h = leb-true (length s) w.next (and_r w.fine (leb (length s) w.next) e) in
       rw (told_fine s w (and_l w.fine (leb (length s) w.next) e), tokens_end s w.next h)
 
-  pub part_read : (x y : Bool) → w.fine ≡ x → leb (length s) w.next ≡ y → (x and y) ≡ false → whole (as_read s w) ≡ Refused
+  pub part_read : (x y : Bool) → w.fine ≡ x → leb (length s) w.next ≡ y → (x and y) ≡ false → whole (as_read s w) ≡ None
   unfolding whole ◌and◌
   part_read false y p q e = rw (told_refused s w p)
   part_read true false p q e = rw (told_fine s w p, tokens_next s w.next (leb-false (length s) w.next q))

@@ -1,9 +1,7 @@
 -- The grammar of expressions, with the value of each (01, Macros; decisions 59 and 64 to 70): "An expression may hold a term, a term a
 -- factor, a factor an expression in parentheses."
-use Rattle.std.specs.Prelude.{ℕ, zero, suc, ◌-◌, Bool, true, false, cond, List, [], ◌∷◌, ℤ, pos, neg_ℤ, get_or}
+use Rattle.std.specs.Prelude.{ℕ, zero, suc, ◌-◌, Bool, true, false, cond, List, [], ◌∷◌, ℤ, pos, neg_ℤ, get_or, None, Option, Some}
 use Rattle.reckon.specs.Rounding.{sum_of, difference_of, product_of, quotient_of}
-use Rattle.reckon.specs.declared.Reckoned.{Reckoned}
-use Rattle.reckon.specs.declared.Reckoned.TheVariants.{Refused, Value}
 use Rattle.macro_tokens.specs.declared.Token.{Token}
 use Rattle.macro_tokens.specs.declared.Token.TheVariants.{End, Number, Variable, Plus, Minus, Times, Over, Open, Close, Unknown}
 use Rattle.expression.specs.declared.Leaf.{Leaf}
@@ -51,10 +49,10 @@ times_over Close = sign.Nothing
 times_over Unknown = sign.Nothing
 
 -- rounded once each, 9 by a zero divisor or by size
-unfoldable pub sum_by : Bool → ℤ → ℤ → Reckoned
+unfoldable pub sum_by : Bool → ℤ → ℤ → Option ℤ
 sum_by minus a b = cond minus (difference_of a b) (sum_of a b)
 
-unfoldable pub product_by : Bool → ℤ → ℤ → Reckoned
+unfoldable pub product_by : Bool → ℤ → ℤ → Option ℤ
 product_by over a b = cond over (quotient_of a b) (product_of a b)
 
 -- ---- operators of one rank, from the left
@@ -73,17 +71,17 @@ unfoldable pub after : (Token → Sign) → Reading → Next
 after rank refused = stop
 after rank (reads a ts) = following (rank (head ts)) (tail ts)
 
-unfoldable pub kept : Reckoned → List Token → Reading
-kept Refused ts = refused
-kept (Value a) ts = reads a ts
+unfoldable pub kept : Option ℤ → List Token → Reading
+kept None ts = refused
+kept (Some a) ts = reads a ts
 
-unfoldable pub joined : (ℤ → ℤ → Reckoned) → Reading → Reading → Reading
+unfoldable pub joined : (ℤ → ℤ → Option ℤ) → Reading → Reading → Reading
 joined op refused right = refused
 joined op (reads a ts) refused = refused
 joined op (reads a ts) (reads b us) = kept (op a b) us
 
 -- a reading, then operators with their operands, each applied to what was read so far; at most n of them
-unfoldable pub chain : (Token → Sign) → (Bool → ℤ → ℤ → Reckoned) → (List Token → Reading) → ℕ → Reading → Reading
+unfoldable pub chain : (Token → Sign) → (Bool → ℤ → ℤ → Option ℤ) → (List Token → Reading) → ℕ → Reading → Reading
 chain rank op operand zero w = w
 chain rank op operand (suc n) w =
     elim (after rank w) [ stop ↦ w | go second ts ↦ chain rank op operand n (joined (op second) w (operand ts)) ]

@@ -1,7 +1,5 @@
 -- What the answers of the evaluators say of a text s.
-use Rattle.std.specs.Prelude.{ℕ, ◌^◌, ◌≤◌, ◌<◌, ◌≡◌, Bool, true, false, cond, List, ℤ, pos, nat_abs, length, get_or, drop}
-use Rattle.reckon.specs.declared.Reckoned.{Reckoned}
-use Rattle.reckon.specs.declared.Reckoned.TheVariants.{Refused, Value}
+use Rattle.std.specs.Prelude.{ℕ, ◌^◌, ◌≤◌, ◌<◌, ◌≡◌, Bool, true, false, cond, List, ℤ, pos, nat_abs, length, get_or, drop, None, Option, Some}
 use Rattle.macro_tokens.specs.Tokens.{tokens}
 use Rattle.macro_tokens.specs.declared.Token.{Token}
 use Rattle.expression.specs.Grammar.{Reading, refused, reads, Next, stop, go, head, tail, following, after, joined, negated}
@@ -47,12 +45,12 @@ pub record After (rank : Token → Sign) (s : List ℕ) (w : Worked) (o : Operat
   pub inside : o.any ≡ true → w.next < length s
   pub beyond : o.any ≡ true → w.next < o.next
 
-unfoldable pub worked_of : Reckoned → ℕ → Worked
-worked_of Refused next = record { fine = false; value = record { millionths = pos 0 }; next = next }
-worked_of (Value a) next = record { fine = true; value = record { millionths = a }; next = next }
+unfoldable pub worked_of : Option ℤ → ℕ → Worked
+worked_of None next = record { fine = false; value = record { millionths = pos 0 }; next = next }
+worked_of (Some a) next = record { fine = true; value = record { millionths = a }; next = next }
 
 -- r is the operation of a and b, for every text
-pub record Joins (op : ℤ → ℤ → Reckoned) (a b r : Worked) : Type 0 where
+pub record Joins (op : ℤ → ℤ → Option ℤ) (a b r : Worked) : Type 0 where
   pub says : (s : List ℕ) → as_read s r ≡ joined op (as_read s a) (as_read s b)
   pub next : r.next ≡ b.next
   pub small : nat_abs r.value.millionths < 10 ^ 12

@@ -9,7 +9,6 @@ ghost use Rattle.expression.specs.Value.{Comes};
 
 use decimal::Amount;
 use macro_tokens::Token;
-use reckon::Reckoned;
 
 // The variables $1 to $64, in millionths.
 #[derive(Clone, Copy)]
@@ -67,63 +66,44 @@ fn variable(v: Variables, n: u64) -> Amount
 }
 
 // What a factor begins with where it begins with this token.
+#[tactic(auto, unfolding(crate::specs::Grammar::leaf_of))]
 fn leaf_of(token: Token, v: Variables) -> Leaf
     ensures { result ≡ leaf_of v.values token }
 {
     match token {
-        Token::End => Leaf::Nothing,
-        Token::Number(n) => {
-            let a = n.value;
-            Leaf::Value(a)
-        }
+        Token::Number(n) => Leaf::Value(n.value),
         Token::Variable(n) => Leaf::Value(variable(v, n.value)),
-        Token::Plus => Leaf::Nothing,
-        Token::Minus => Leaf::Nothing,
-        Token::Times => Leaf::Nothing,
-        Token::Over => Leaf::Nothing,
         Token::Open => Leaf::Open,
-        Token::Close => Leaf::Nothing,
-        Token::Unknown => Leaf::Nothing,
+        _ => Leaf::Nothing,
     }
 }
 
 // + or -.
+#[tactic(auto, unfolding(crate::specs::Grammar::plus_minus))]
 fn plus_minus(token: Token) -> Sign
     ensures { result ≡ plus_minus token }
 {
     match token {
-        Token::End => Sign::Nothing,
-        Token::Number(n) => Sign::Nothing,
-        Token::Variable(n) => Sign::Nothing,
         Token::Plus => Sign::First,
         Token::Minus => Sign::Second,
-        Token::Times => Sign::Nothing,
-        Token::Over => Sign::Nothing,
-        Token::Open => Sign::Nothing,
-        Token::Close => Sign::Nothing,
-        Token::Unknown => Sign::Nothing,
+        _ => Sign::Nothing,
     }
 }
 
 // x or /.
+#[tactic(auto, unfolding(crate::specs::Grammar::times_over))]
 fn times_over(token: Token) -> Sign
     ensures { result ≡ times_over token }
 {
     match token {
-        Token::End => Sign::Nothing,
-        Token::Number(n) => Sign::Nothing,
-        Token::Variable(n) => Sign::Nothing,
-        Token::Plus => Sign::Nothing,
-        Token::Minus => Sign::Nothing,
         Token::Times => Sign::First,
         Token::Over => Sign::Second,
-        Token::Open => Sign::Nothing,
-        Token::Close => Sign::Nothing,
-        Token::Unknown => Sign::Nothing,
+        _ => Sign::Nothing,
     }
 }
 
 // The operator at a place, with the token after it at `next`.
+#[tactic(auto, unfolding(crate::specs::Reading::operator_of))]
 fn operator_of(sign: Sign, at: usize, next: usize) -> Operator
     ensures { result ≡ operator_of sign at next }
 {
@@ -165,7 +145,8 @@ fn times_at(s: &[u8], at: usize) -> Operator
 }
 
 // A sum, or a difference.
-fn sum_by(second: bool, a: Amount, b: Amount) -> Reckoned
+#[tactic(auto, unfolding(crate::specs::Grammar::sum_by))]
+fn sum_by(second: bool, a: Amount, b: Amount) -> Option<i64>
     requires { (nat_abs a.millionths < 10 ^ 12) × (nat_abs b.millionths < 10 ^ 12) }
     ensures { result ≡ sum_by second a.millionths b.millionths }
 {
@@ -176,7 +157,8 @@ fn sum_by(second: bool, a: Amount, b: Amount) -> Reckoned
 }
 
 // A product, or a quotient.
-fn product_by(second: bool, a: Amount, b: Amount) -> Reckoned
+#[tactic(auto, unfolding(crate::specs::Grammar::product_by))]
+fn product_by(second: bool, a: Amount, b: Amount) -> Option<i64>
     requires { (nat_abs a.millionths < 10 ^ 12) × (nat_abs b.millionths < 10 ^ 12) }
     ensures { result ≡ product_by second a.millionths b.millionths }
 {
@@ -187,16 +169,17 @@ fn product_by(second: bool, a: Amount, b: Amount) -> Reckoned
 }
 
 // The result of an operation whose second operand ends at `next`.
-fn kept(r: Reckoned, next: usize) -> Worked
+#[tactic(auto, unfolding(crate::specs::Reading::worked_of))]
+fn kept(r: Option<i64>, next: usize) -> Worked
     ensures { result ≡ worked_of r next }
 {
     match r {
-        Reckoned::Refused => Worked {
+        None => Worked {
             fine: false,
             value: Amount { millionths: 0 },
             next,
         },
-        Reckoned::Value(a) => Worked {
+        Some(a) => Worked {
             fine: true,
             value: Amount { millionths: a },
             next,
@@ -285,21 +268,11 @@ fn times_after(s: &[u8], w: Worked) -> Operator
 }
 
 // ).
+#[tactic(auto, unfolding(crate::specs::Grammar::is_close))]
 fn is_close(token: Token) -> bool
     ensures { result ≡ is_close token }
 {
-    match token {
-        Token::End => false,
-        Token::Number(n) => false,
-        Token::Variable(n) => false,
-        Token::Plus => false,
-        Token::Minus => false,
-        Token::Times => false,
-        Token::Over => false,
-        Token::Open => false,
-        Token::Close => true,
-        Token::Unknown => false,
-    }
+    matches!(token, Token::Close)
 }
 
 // What was read, with the parenthesis that closes it.
@@ -382,14 +355,14 @@ fn expression(s: &[u8], at: usize, depth: usize, v: Variables) -> Worked
 }
 
 // The value of the whole text of an expression.
-pub fn value_of(t: &[u8], v: Variables) -> Reckoned
+pub fn value_of(t: &[u8], v: Variables) -> Option<i64>
     requires { Fits v.values }
     ensures { Comes v.values t.now result }
 {
     let w = expression(t, 0, 17, v);
     if base::both(w.fine, t.len() <= w.next) {
         let a = w.value;
-        return Reckoned::Value(a.millionths);
+        return Some(a.millionths);
     }
-    Reckoned::Refused
+    None
 }

@@ -3,7 +3,7 @@
 use Rattle.std.specs.Prelude.{ℕ, Bool, not, [], ◌∷◌, ltb, eqb}
 use Rattle.base.specs.And.{◌and◌}
 use Rattle.base.specs.Or.{◌or◌}
-use Rattle.base.specs.Choose.{pick, choose}
+use Rattle.base.specs.Choose.{choose}
 
 -- the rule right after which a rule is tested; of one that is tested by its number, itself
 unfoldable pub rank_of : ℕ → ℕ

@@ -1,7 +1,7 @@
 // Where the field of a command is, told byte by byte, no byte ahead being known.
 #![tactic(auto)]
 
-ghost use Rattle.std.specs.Prelude.{◌≡◌, cond};
+ghost use Rattle.std.specs.Prelude.{◌≡◌};
 ghost use Rattle.fields.specs.Parts.{begins_text, is_field, is_over, part_after, opens_macro};
 
 use book::Book;
@@ -30,103 +30,52 @@ fn does_begin_text(b: u8) -> bool
 }
 
 // The next byte, b, is in the field.
+#[tactic(auto, unfolding(crate::specs::Parts::is_field))]
 pub fn in_field(part: Part, b: u8) -> bool
     ensures { result ≡ is_field part b }
 {
     match part {
-        Part::Start => false,
-        Part::CodeG => false,
-        Part::CodeG0 => false,
         Part::CodeG4 => does_begin_text(b),
-        Part::Mark => false,
-        Part::MarkA => false,
-        Part::MarkT => false,
-        Part::Named => false,
         Part::Field => b != b'*',
-        Part::Over => false,
+        _ => false,
     }
 }
 
 // No field comes any more: the part stays as it is.
+#[tactic(auto, unfolding(crate::specs::Parts::is_over))]
 pub fn is_over(part: Part) -> bool
     ensures { result ≡ is_over part }
 {
-    match part {
-        Part::Start => false,
-        Part::CodeG => false,
-        Part::CodeG0 => false,
-        Part::CodeG4 => false,
-        Part::Mark => false,
-        Part::MarkA => false,
-        Part::MarkT => false,
-        Part::Named => false,
-        Part::Field => false,
-        Part::Over => true,
-    }
-}
-
-// One part or another.
-fn pick(first: bool, p: Part, q: Part) -> Part
-    ensures { result ≡ cond first p q }
-{
-    if first {
-        return p;
-    }
-    q
+    matches!(part, Part::Over)
 }
 
 // The part after a byte.
+#[tactic(auto, unfolding(crate::specs::Parts::part_after))]
 pub fn part_after(book: Book, part: Part, b: u8) -> Part
     ensures { result ≡ part_after book part b }
 {
-    match part {
-        Part::Start => pick(b == b'G', Part::CodeG, Part::Over),
-        Part::CodeG => pick(
-            b == b'0',
-            Part::CodeG0,
-            pick(
-                base::both(book::is_old(book), b == b'4'),
-                Part::CodeG4,
-                Part::Over,
-            ),
-        ),
-        Part::CodeG0 => pick(b == b'4', Part::Field, Part::Over),
-        Part::CodeG4 => pick(does_begin_text(b), Part::Field, Part::Over),
-        Part::Mark => pick(
-            b == b'A',
-            Part::MarkA,
-            pick(b == b'T', Part::MarkT, Part::Over),
-        ),
-        Part::MarkA => Part::Over,
-        Part::MarkT => pick(
-            base::either(base::either(b == b'F', b == b'A'), b == b'O'),
-            Part::Named,
-            Part::Over,
-        ),
-        Part::Named => pick(
-            b == b'*',
-            Part::Over,
-            pick(b == b',', Part::Field, Part::Named),
-        ),
-        Part::Field => pick(b == b'*', Part::Over, Part::Field),
-        Part::Over => Part::Over,
+    match (part, b) {
+        (Part::Start, b'G') => Part::CodeG,
+        (Part::CodeG, b'0') => Part::CodeG0,
+        (Part::CodeG, b'4') if book::is_old(book) => Part::CodeG4,
+        (Part::CodeG0, b'4') => Part::Field,
+        (Part::CodeG4, _) if does_begin_text(b) => Part::Field,
+        (Part::Mark, b'A') => Part::MarkA,
+        (Part::Mark, b'T') => Part::MarkT,
+        (Part::MarkT, b'F' | b'A' | b'O') => Part::Named,
+        (Part::Named, b'*') => Part::Over,
+        (Part::Named, b',') => Part::Field,
+        (Part::Named, _) => Part::Named,
+        (Part::Field, b'*') => Part::Over,
+        (Part::Field, _) => Part::Field,
+        _ => Part::Over,
     }
 }
 
 // This byte makes the command a macro's: it is the M of `%AM`.
+#[tactic(auto, unfolding(crate::specs::Parts::opens_macro))]
 pub fn opens_macro(part: Part, b: u8) -> bool
     ensures { result ≡ opens_macro part b }
 {
-    match part {
-        Part::Start => false,
-        Part::CodeG => false,
-        Part::CodeG0 => false,
-        Part::CodeG4 => false,
-        Part::Mark => false,
-        Part::MarkA => b == b'M',
-        Part::MarkT => false,
-        Part::Named => false,
-        Part::Field => false,
-        Part::Over => false,
-    }
+    matches!((part, b), (Part::MarkA, b'M'))
 }

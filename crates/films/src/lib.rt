@@ -42,6 +42,7 @@ fn row(t: &[u8], w: &[u8], number: u64, other: u64) -> u64
 }
 
 // The number of a G code from G36 on, 0 where it is none of the list.
+#[tactic(auto, unfolding(crate::specs::Codes::later_codes))]
 fn later_codes(t: &[u8]) -> u64
     ensures { result ≡ later_codes t.now }
 {
@@ -57,29 +58,32 @@ fn later_codes(t: &[u8]) -> u64
 }
 
 // The number of a G code, 0 where it is none of the list.
+#[tactic(auto, using(base::proofs::Or::joins), unfolding(base::specs::Choose::pick, crate::specs::Codes::code_of))]
 fn code_of(t: &[u8]) -> u64
     ensures { result ≡ code_of t.now }
 {
-    if base::either(text::is(t, b"G01"), text::is(t, b"G1")) {
+    if text::is(t, b"G01") || text::is(t, b"G1") {
         return 1;
     }
-    if base::either(text::is(t, b"G02"), text::is(t, b"G2")) {
+    if text::is(t, b"G02") || text::is(t, b"G2") {
         return 2;
     }
-    if base::either(text::is(t, b"G03"), text::is(t, b"G3")) {
+    if text::is(t, b"G03") || text::is(t, b"G3") {
         return 3;
     }
     later_codes(t)
 }
 
 // The text ends in one of two.
+#[tactic(auto, using(base::proofs::Or::joins), unfolding(crate::specs::Codes::ends_in_one))]
 fn ends(s: &[u8], v: &[u8], w: &[u8]) -> bool
     ensures { result ≡ ends_in_one s.now v.now w.now }
 {
-    base::either(text::ends(s, v), text::ends(s, w))
+    text::ends(s, v) || text::ends(s, w)
 }
 
 // The number of the operation that a text ends in, 0 where it ends in none.
+#[tactic(auto, unfolding(base::specs::Choose::pick, crate::specs::Codes::operation_in))]
 fn operation_in(s: &[u8]) -> u64
     ensures { result ≡ operation_in s.now }
 {
@@ -96,6 +100,7 @@ fn operation_in(s: &[u8]) -> u64
 }
 
 // How many bytes the operation's code has at the end of a text: 2 or 3.
+#[tactic(auto, unfolding(base::specs::Choose::pick, crate::specs::Codes::operation_length))]
 fn operation_length(s: &[u8]) -> usize
     ensures { result ≡ operation_length s.now }
 {
@@ -106,20 +111,23 @@ fn operation_length(s: &[u8]) -> usize
 }
 
 // M02.
+#[tactic(auto, using(base::proofs::Or::joins), unfolding(crate::specs::Codes::is_end))]
 pub fn is_end(s: &[u8]) -> bool
     ensures { result ≡ is_end s.now }
 {
-    base::either(text::is(s, b"M02"), text::is(s, b"M2"))
+    text::is(s, b"M02") || text::is(s, b"M2")
 }
 
 // One test more: the text begins with w.
+#[tactic(auto, using(base::proofs::Or::joins))]
 fn or_begins(other: bool, s: &[u8], w: &[u8]) -> bool
     ensures { result ≡ (other or same_bytes (take (length w.now) s.now) w.now) }
 {
-    base::either(other, text::begins(s, w))
+    other || text::begins(s, w)
 }
 
 // A data block of the old book that is not read (30).
+#[tactic(auto, unfolding(crate::specs::Parameters::is_refused))]
 pub fn is_refused(s: &[u8]) -> bool
     ensures { result ≡ is_refused s.now }
 {
@@ -135,6 +143,7 @@ pub fn is_refused(s: &[u8]) -> bool
 }
 
 // A comment, in which no `%` stands.
+#[tactic(auto, unfolding(base::specs::Choose::pick, crate::specs::Words::comment_of))]
 fn comment_of(s: &[u8]) -> Word
     ensures { result ≡ comment_of s.now }
 {
@@ -145,6 +154,7 @@ fn comment_of(s: &[u8]) -> Word
 }
 
 // An operation, of what stands from a place on after a code, or what is said where it is none.
+#[tactic(auto, unfolding(base::specs::Choose::pick, crate::specs::Words::operate_of))]
 fn operate_of(code: u64, from: usize, s: &[u8], other: Word) -> Word
     ensures { result ≡ operate_of code from s.now other }
 {
@@ -161,6 +171,7 @@ fn operate_of(code: u64, from: usize, s: &[u8], other: Word) -> Word
 }
 
 // A G code whose digits end at a place: alone, before Dn or before an operation.
+#[tactic(auto, unfolding(base::specs::Choose::pick, crate::specs::Words::coded_of))]
 fn coded_of(code: u64, end: usize, s: &[u8]) -> Word
     ensures { result ≡ coded_of code end s.now }
 {
@@ -195,21 +206,23 @@ fn general_of(s: &[u8]) -> Word
 }
 
 // A word command that begins with M.
+#[tactic(auto, using(base::proofs::Or::joins), unfolding(base::specs::Choose::pick, crate::specs::Words::miscellaneous_of))]
 fn miscellaneous_of(s: &[u8]) -> Word
     ensures { result ≡ miscellaneous_of s.now }
 {
     if is_end(s) {
         return Word::End;
     }
-    let stop = base::either(text::is(s, b"M00"), text::is(s, b"M0"));
-    let optional = base::either(text::is(s, b"M01"), text::is(s, b"M1"));
-    if base::either(stop, optional) {
+    let stop = text::is(s, b"M00") || text::is(s, b"M0");
+    let optional = text::is(s, b"M01") || text::is(s, b"M1");
+    if stop || optional {
         return Word::Halt;
     }
     Word::NotForm
 }
 
 // A word command that begins with neither: an operation, or Dn.
+#[tactic(auto, unfolding(base::specs::Choose::pick, crate::specs::Words::other_of))]
 fn other_of(s: &[u8]) -> Word
     ensures { result ≡ other_of s.now }
 {
@@ -220,6 +233,7 @@ fn other_of(s: &[u8]) -> Word
 }
 
 // A word command, of its text without the `*`.
+#[tactic(auto, unfolding(base::specs::Choose::pick, crate::specs::Words::word_of))]
 pub fn word_of(s: &[u8]) -> Word
     ensures { result ≡ word_of s.now }
 {

@@ -1,5 +1,6 @@
 -- What the newer edition's FS says, it says in the old one too.
 -- Assumes nothing.
+use Rattle.std.specs.Prelude.{Err, Ok}
 use Prim.Native.Nat.{ℕ, ◌-◌, ◌≤◌}
 use mathlib.Core.Path.{◌≡◌, refl, ap, ◌∙◌}
 use mathlib.Core.Bool.{Bool, true, false}
@@ -20,7 +21,7 @@ use Rattle.text.specs.Text.{text, among}
 use Rattle.formats.specs.Format.{newer}
 use Rattle.formats.specs.Texts.{newer_format, of_form, old_format}
 use Rattle.formats.specs.declared.Format.{Format}
-use Rattle.formats.specs.declared.Said.TheVariants.{NotForm, Is}
+use Rattle.formats.specs.declared.FormatError.TheVariants as format_error
 
 abbrev form : ℕ → List ℕ
 form n = text "FSLAX" ++ n ∷ text "6Y" ++ n ∷ text "6"
@@ -35,17 +36,17 @@ module _ (n : ℕ) (low : 49 ≤ n) (high : n ≤ 54) where
       let z : n ≡ 48 → ⊥ = λ e. omega arith in
       simp (tests, ands, same_refl)
 
-  old_form : old_format (form n) ≡ Is (newer (n - 48))
+  old_form : old_format (form n) ≡ Ok (newer (n - 48))
   unfolding old_format newer pick ◌or◌
   old_form =
       let z : n ≡ 55 → ⊥ = λ e. omega arith in
       simp (tests, is_of_form)
 
-pub newer_is_old : (s : List ℕ) (f : Format) → newer_format s ≡ Is f → old_format s ≡ Is f
+pub newer_is_old : (s : List ℕ) (f : Format) → newer_format s ≡ Ok f → old_format s ≡ Ok f
 unfolding newer_format pick
 newer_is_old s f e = by_test (range "1" "6" (get_or s 5 0) and same_bytes s (form (get_or s 5 0))) refl e
   where
-    by_test : (t : Bool) → (range "1" "6" (get_or s 5 0) and same_bytes s (form (get_or s 5 0))) ≡ t → pick t (Is (newer (get_or s 5 0 - 48))) NotForm ≡ Is f → old_format s ≡ Is f
+    by_test : (t : Bool) → (range "1" "6" (get_or s 5 0) and same_bytes s (form (get_or s 5 0))) ≡ t → pick t (Ok (newer (get_or s 5 0 - 48))) (Err format_error.NotForm) ≡ Ok f → old_format s ≡ Ok f
     by_test true g h =
         let n = get_or s 5 0 in
         let r = and_l (range "1" "6" n) (same_bytes s (form n)) g in

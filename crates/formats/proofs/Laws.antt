@@ -1,6 +1,7 @@
 -- What a format promises: in the newer edition's a coordinate is worth what it is written as, full digits do not tell which zeros are
 -- left out, and every value is below 10 ^ 12; and the old book reads the newer edition's FS.
 -- Assumes nothing.
+use Rattle.std.specs.Prelude.{Err, Ok}
 use Prim.Native.Nat.{ℕ, ◌+◌, ◌*◌, ◌^◌, ◌≤◌, ◌<◌}
 use mathlib.Core.Path.{◌≡◌, refl, sym, ap, ◌∙◌}
 use mathlib.Core.Bool.{Bool, true, false, not, cond}
@@ -18,12 +19,12 @@ use Rattle.ints.proofs.Bounded.{abs_signed}
 use Rattle.digits.specs.Digits.{is_number, value_of}
 use Rattle.digits.specs.Sign.{has_minus, after_sign}
 use Rattle.digits.specs.Coordinate.{coordinate_of}
-use Rattle.digits.specs.declared.answers.Coordinate.TheVariants.{NotForm, TooLong, Value}
 use Rattle.formats.specs.Format.{is_format, newer, no_format, in_force, places_of}
 use Rattle.formats.specs.Values.{value_in, whole_in, coordinate_in}
 use Rattle.formats.specs.Raised.{zeros_behind}
 use Rattle.formats.specs.declared.Format.{Format}
 use Rattle.formats.proofs.Raised.{few, raised_value, raised_small, whole_plain}
+use Rattle.digits.specs.declared.answers.NumberError.TheVariants as number_error
 
 -- the newer edition's format is in force as it is
 newer_in_force : (n : ℕ) → n ≤ 6 → in_force (newer n) ≡ newer n
@@ -54,7 +55,7 @@ module _ (n m : ℕ) (incremental : Bool) where
 
   full_whole : (minus : Bool) (s : List ℕ) → length s ≡ n + m → whole_in (leaving true) minus s ≡ whole_in (leaving false) minus s
   unfolding whole_in places_of
-  full_whole minus s l = ap (λ (v : ℕ). cond (is_number s) (cond (leb (length s) (n + m)) (Value (signed minus v)) TooLong) NotForm) (full_value s l)
+  full_whole minus s l = ap (λ (v : ℕ). cond (is_number s) (cond (leb (length s) (n + m)) (Ok (signed minus v)) (Err number_error.TooLong)) (Err number_error.NotForm)) (full_value s l)
 
   pub full_length : (s : List ℕ) → length (after_sign s) ≡ n + m → coordinate_in (leaving true) s ≡ coordinate_in (leaving false) s
   unfolding coordinate_in in_force is_format
@@ -65,12 +66,12 @@ module _ (n m : ℕ) (incremental : Bool) where
       by_test false = refl
 
 -- every value is below 10 ^ 12 in size
-pub coordinate_small : (f : Format) (s : List ℕ) (z : ℤ) → coordinate_in f s ≡ Value z → nat_abs z < 10 ^ 12
+pub coordinate_small : (f : Format) (s : List ℕ) (z : ℤ) → coordinate_in f s ≡ Ok z → nat_abs z < 10 ^ 12
 unfolding coordinate_in whole_in
 coordinate_small f s z q = by_tests_lem (is_number (after_sign s)) (leb (length (after_sign s)) (places_of (in_force f))) refl refl q
   where
     by_tests_lem : (t u : Bool) → is_number (after_sign s) ≡ t → leb (length (after_sign s)) (places_of (in_force f)) ≡ u
-        → cond t (cond u (Value (signed (has_minus s) (value_in (in_force f) (after_sign s)))) TooLong) NotForm ≡ Value z → nat_abs z < 10 ^ 12
+        → cond t (cond u (Ok (signed (has_minus s) (value_in (in_force f) (after_sign s)))) (Err number_error.TooLong)) (Err number_error.NotForm) ≡ Ok z → nat_abs z < 10 ^ 12
     by_tests_lem true true e l p =
         let v : nat_abs z ≡ value_in (in_force f) (after_sign s) = let y : signed (has_minus s) (value_in (in_force f) (after_sign s)) ≡ z = cc in ap nat_abs (sym y) ∙ abs_signed (has_minus s) (value_in (in_force f) (after_sign s)) in
         rw (v, raised_value (in_force f) (after_sign s)) (raised_small (in_force f) (few f) (has_minus s) (after_sign s) e (leb-true _ _ l))

@@ -1,5 +1,6 @@
 -- A coordinate in a format is the outcome of its digits as written, raised; and how large it can be.
 -- Assumes nothing.
+use Rattle.std.specs.Prelude.{Err, Ok}
 use Prim.Native.Nat.{ℕ, zero, suc, ◌+◌, ◌*◌, ◌-◌, ◌^◌, ◌≤◌, ◌<◌}
 use mathlib.Core.Path.{◌≡◌, refl, sym, ap, ◌∙◌}
 use mathlib.Core.Bool.{Bool, true, false, cond}
@@ -17,12 +18,12 @@ use Rattle.ints.specs.Ints.{signed}
 use Rattle.ints.proofs.Bounded.{abs_signed}
 use Rattle.digits.specs.Digits.{is_number, value_of}
 use Rattle.digits.specs.Coordinate.{whole_of}
-use Rattle.digits.specs.declared.answers.Coordinate.TheVariants.{NotForm, TooLong, Value}
 use Rattle.digits.proofs.Strings.{value_bound, bound_at, number_digits}
 use Rattle.formats.specs.Format.{is_format, newer, in_force, places_of}
 use Rattle.formats.specs.Values.{filled, value_in, whole_in}
 use Rattle.formats.specs.Raised.{Few, zeros_behind, raised}
 use Rattle.formats.specs.declared.Format.{Format}
+use Rattle.digits.specs.declared.answers.NumberError.TheVariants as number_error
 
 -- a format that FS can write has six places at most, before the point and after it
 is_few : (f : Format) → is_format f ≡ true → Few f
@@ -80,8 +81,8 @@ module _ (f : Format) where
     unfolding whole_in whole_of raised
     whole_raised = by_tests_lem (is_number s) (leb (length s) (places_of f))
       where
-        by_tests_lem : (t u : Bool) → raised minus (zeros_behind f (length s)) (cond t (cond u (Value (signed minus (value_of s))) TooLong) NotForm)
-            ≡ cond t (cond u (Value (signed minus (value_in f s))) TooLong) NotForm
+        by_tests_lem : (t u : Bool) → raised minus (zeros_behind f (length s)) (cond t (cond u (Ok (signed minus (value_of s))) (Err number_error.TooLong)) (Err number_error.NotForm))
+            ≡ cond t (cond u (Ok (signed minus (value_in f s))) (Err number_error.TooLong)) (Err number_error.NotForm)
         by_tests_lem true true = rw (abs_signed minus (value_of s), raised_value s)
         by_tests_lem true false = refl
         by_tests_lem false u = refl
@@ -104,11 +105,11 @@ module _ (f : Format) where
     pub raised_small : is_number s ≡ true → length s ≤ places_of f → value_of s * 10 ^ zeros_behind f (length s) < 10 ^ 12
     raised_small e l = raise_below _ (length s) _ 12 (value_bound s (number_digits s e)) (zeros_few l)
 
-    pub whole_fits : (z : ℤ) → whole_of minus s (places_of f) ≡ Value z → nat_abs z * 10 ^ zeros_behind f (length s) < 10 ^ 12
+    pub whole_fits : (z : ℤ) → whole_of minus s (places_of f) ≡ Ok z → nat_abs z * 10 ^ zeros_behind f (length s) < 10 ^ 12
     unfolding whole_of
     whole_fits z q = by_tests_lem (is_number s) (leb (length s) (places_of f)) refl refl q
       where
-        by_tests_lem : (t u : Bool) → is_number s ≡ t → leb (length s) (places_of f) ≡ u → cond t (cond u (Value (signed minus (value_of s))) TooLong) NotForm ≡ Value z
+        by_tests_lem : (t u : Bool) → is_number s ≡ t → leb (length s) (places_of f) ≡ u → cond t (cond u (Ok (signed minus (value_of s))) (Err number_error.TooLong)) (Err number_error.NotForm) ≡ Ok z
             → nat_abs z * 10 ^ zeros_behind f (length s) < 10 ^ 12
         by_tests_lem true true e l p =
             let v : nat_abs z ≡ value_of s = let y : signed minus (value_of s) ≡ z = cc in ap nat_abs (sym y) ∙ abs_signed minus (value_of s) in

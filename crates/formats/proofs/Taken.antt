@@ -1,5 +1,6 @@
 -- The coordinate that was read by its digits at a place, raised, is the one that stands there in the format.
 -- Assumes nothing.
+use Rattle.std.specs.Prelude.{Ok, Result, ℤ}
 use Prim.Native.Nat.{ℕ, ◌*◌, ◌^◌, ◌≤◌, ◌<◌}
 use mathlib.Core.Path.{◌≡◌, refl, sym, ap, ◌∙◌}
 use mathlib.Core.Bool.{Bool, true, false, not, false≢true}
@@ -13,14 +14,13 @@ use Rattle.base.specs.And.{◌and◌}
 use Rattle.base.proofs.And.{and_l, and_r}
 use Rattle.digits.specs.Sign.{has_minus, after_sign}
 use Rattle.digits.specs.Coordinate.{coordinate_of, coordinate_end, coordinate_at}
-use Rattle.digits.specs.declared.answers.Coordinate.{Coordinate}
-use Rattle.digits.specs.declared.answers.Coordinate.TheVariants.{Value}
 use Rattle.digits.specs.declared.answers.Taken.{Taken}
 use Rattle.formats.specs.Format.{in_force, places_of}
 use Rattle.formats.specs.Values.{coordinate_in, taken_in}
 use Rattle.formats.specs.Raised.{zeros_behind, raised}
 use Rattle.formats.specs.declared.Format.{Format}
 use Rattle.formats.proofs.Raised.{few, whole_raised, whole_plain, whole_fits, zeros_twelve}
+use Rattle.digits.specs.declared.answers.NumberError.{NumberError}
 
 not-true : (b : Bool) → not b ≡ true → b ≡ false
 not-true true e = absurd (false≢true e)
@@ -63,11 +63,11 @@ module _ (f g : Format) (s : List ℕ) (at limit : ℕ) (taken : Taken) (eg : g 
     pub taken_twelve : zeros ≤ 12
     taken_twelve = rw zeros_are (zeros_twelve (in_force f) (few f) true (after_sign t))
 
-    pub taken_fits : (z : ℤ) → taken.coordinate ≡ Value z → nat_abs z * 10 ^ zeros < 10 ^ 12
+    pub taken_fits : (z : ℤ) → taken.coordinate ≡ Ok z → nat_abs z * 10 ^ zeros < 10 ^ 12
     unfolding coordinate_of
     taken_fits z q = rw zeros_are (whole_fits (in_force f) (few f) (has_minus t) (after_sign t) z (sym reads ∙ q))
 
-    pub taken_raised : (minus : Bool) (c : Coordinate) → minus ≡ has_minus t → c ≡ raised minus zeros taken.coordinate → record { coordinate = c; next = taken.next } ≡ taken_in f s at
+    pub taken_raised : (minus : Bool) (c : Result ℤ NumberError) → minus ≡ has_minus t → c ≡ raised minus zeros taken.coordinate → record { coordinate = c; next = taken.next } ≡ taken_in f s at
     unfolding taken_in coordinate_in coordinate_of
     taken_raised minus c em ec =
         let as_read : raised minus zeros taken.coordinate ≡ raised (has_minus t) (zeros_behind (in_force f) (length (after_sign t))) (coordinate_of t (places_of (in_force f))) =

@@ -2,13 +2,12 @@
 #![tactic(auto)]
 
 ghost use Rattle.std.specs.Prelude.{◌≡◌, ◌*◌, ◌-◌, ◌^◌, ◌<◌, ◌≤◌, ℤ, nat_abs, length};
-ghost use Rattle.digits.specs.declared.answers.Coordinate.TheVariants.{Value};
 ghost use Rattle.formats.specs.Format.{is_format, no_format, in_force, places_of, exact_places};
 ghost use Rattle.formats.specs.Texts.{of_form, newer_format, old_format};
 ghost use Rattle.formats.specs.Values.{taken_in};
 ghost use Rattle.formats.specs.Raised.{Few, zeros_behind, raised};
 
-use digits::{Coordinate, Taken};
+use digits::{NumberError, Taken};
 
 // How many digits of a coordinate stand before the point and how many after it, whether zeros are left out at its end and not at its
 // front, and whether it counts from the point before. Both numbers are 0 before FS.
@@ -20,17 +19,17 @@ pub struct Format {
     pub incremental: bool,
 }
 
-// What FS says.
+// Why FS gives no format.
 #[derive(Clone, Copy)]
-pub enum Said {
+pub enum FormatError {
     // 4: not of its form
     NotForm,
     // 30: seven places, which are in the old book and are not read
     SevenPlaces,
-    Is(Format),
 }
 
 // None, as it is before FS.
+#[tactic(auto, unfolding(crate::specs::Format::no_format))]
 pub fn no_format() -> Format
     ensures { result ≡ no_format }
 {
@@ -46,73 +45,75 @@ pub fn no_format() -> Format
 fn digit(b: u8) -> usize
     ensures { result ≡ b - 48 }
 {
-    if b < 48 {
-        return 0;
-    }
-    (b - 48) as usize
+    usize::from(b.saturating_sub(b'0'))
 }
 
 // FS of the newer edition, of its data block without the `*`.
-pub fn newer_format(s: &[u8]) -> Said
+#[tactic(auto, using(base::proofs::Or::joins), unfolding(base::specs::Choose::pick, crate::specs::Format::newer, crate::specs::Texts::newer_format))]
+pub fn newer_format(s: &[u8]) -> Result<Format, FormatError>
     ensures { result ≡ newer_format s.now }
 {
     let n = base::byte_at(s, 5);
     let form = [b'F', b'S', b'L', b'A', b'X', n, b'6', b'Y', n, b'6'];
-    let range = base::both(b'1' <= n, n <= b'6');
-    if base::both(range, text::is(s, &form)) {
-        return Said::Is(Format {
+    if base::between(b'1', n, b'6') && text::is(s, &form) {
+        Ok(Format {
             integers: digit(n),
             decimals: 6,
             trailing: false,
             incremental: false,
-        });
+        })
+    } else {
+        Err(FormatError::NotForm)
     }
-    Said::NotForm
 }
 
 // FS of the old book with these letters and places is of its form; seven places are.
+#[tactic(auto, using(base::proofs::Or::joins), unfolding(crate::specs::Texts::of_form))]
 fn of_form(s: &[u8], zeros: u8, notation: u8, n: u8, m: u8) -> bool
     ensures { result ≡ of_form s.now zeros notation n m }
 {
     let form = [b'F', b'S', zeros, notation, b'X', n, m, b'Y', n, m];
-    let letters = base::both(text::one_of(b"LT", zeros), text::one_of(b"AI", notation));
-    let before = base::both(letters, base::both(b'0' <= n, n <= b'7'));
-    let places = base::both(before, base::both(b'0' <= m, m <= b'7'));
-    let some = base::both(places, !base::both(n == b'0', m == b'0'));
-    base::both(some, text::is(s, &form))
+    text::one_of(b"LT", zeros)
+        && text::one_of(b"AI", notation)
+        && base::between(b'0', n, b'7')
+        && base::between(b'0', m, b'7')
+        && !(n == b'0' && m == b'0')
+        && text::is(s, &form)
 }
 
 // FS of the old book, of its data block without the `*`.
-pub fn old_format(s: &[u8]) -> Said
+#[tactic(auto, using(base::proofs::Or::joins), unfolding(base::specs::Choose::pick, crate::specs::Texts::old_format))]
+pub fn old_format(s: &[u8]) -> Result<Format, FormatError>
     ensures { result ≡ old_format s.now }
 {
     let zeros = base::byte_at(s, 2);
     let notation = base::byte_at(s, 3);
     let n = base::byte_at(s, 5);
     let m = base::byte_at(s, 6);
-    if of_form(s, zeros, notation, n, m) {
-        if base::either(n == b'7', m == b'7') {
-            return Said::SevenPlaces;
-        }
-        return Said::Is(Format {
-            integers: digit(n),
-            decimals: digit(m),
-            trailing: zeros == b'T',
-            incremental: notation == b'I',
-        });
+    if !of_form(s, zeros, notation, n, m) {
+        return Err(FormatError::NotForm);
     }
-    Said::NotForm
+    if n == b'7' || m == b'7' {
+        return Err(FormatError::SevenPlaces);
+    }
+    Ok(Format {
+        integers: digit(n),
+        decimals: digit(m),
+        trailing: zeros == b'T',
+        incremental: notation == b'I',
+    })
 }
 
 // The format is one that FS can write.
+#[tactic(auto, using(base::proofs::Or::joins), unfolding(crate::specs::Format::is_format))]
 fn is_format(f: Format) -> bool
     ensures { result ≡ is_format f }
 {
-    let few = base::both(f.integers <= 6, f.decimals <= 6);
-    base::both(few, !base::both(f.integers == 0, f.decimals == 0))
+    f.integers <= 6 && f.decimals <= 6 && !(f.integers == 0 && f.decimals == 0)
 }
 
 // The format by which coordinates are read: before FS twelve digits, as they are written.
+#[tactic(auto, unfolding(crate::specs::Format::in_force, crate::specs::Format::newer, crate::specs::Format::no_format))]
 fn in_force(f: Format) -> Format
     ensures { result ≡ in_force f }
 {
@@ -122,26 +123,12 @@ fn in_force(f: Format) -> Format
     Format {
         integers: 6,
         decimals: 6,
-        trailing: false,
-        incremental: false,
+        ..no_format()
     }
-}
-
-// Ten to the n.
-fn power(n: usize) -> u64
-    requires { n ≤ 12 }
-    ensures { result ≡ 10 ^ n }
-{
-    let mut p: u64 = 1;
-    let mut i: usize = 0;
-    while i < n {
-        p *= 10;
-        i += 1;
-    }
-    p
 }
 
 // How many digits a coordinate may have.
+#[tactic(auto, unfolding(crate::specs::Format::places_of))]
 fn places(f: Format) -> usize
     requires { Few f }
     ensures { result ≡ places_of f }
@@ -150,24 +137,16 @@ fn places(f: Format) -> usize
 }
 
 // How many digits a coordinate may have whose value is that of its digits as they are written; 0 where zeros stand after them.
+#[tactic(auto, using(base::proofs::Or::joins), unfolding(crate::specs::Format::exact_places))]
 pub fn exact_places(f: Format) -> usize
     ensures { result ≡ exact_places f }
 {
     let g = in_force(f);
-    if base::both(!g.trailing, g.decimals == 6) {
-        return places(g);
+    if !g.trailing && g.decimals == 6 {
+        places(g)
+    } else {
+        0
     }
-    0
-}
-
-// How much is missing of `all`, 0 where nothing is.
-fn missing(all: usize, there: usize) -> usize
-    ensures { result ≡ all - there }
-{
-    if there < all {
-        return all - there;
-    }
-    0
 }
 
 // How many zeros stand in the value after the digits as they are written.
@@ -175,27 +154,24 @@ fn zeros_behind(f: Format, written: usize) -> usize
     requires { Few f }
     ensures { result ≡ zeros_behind f written }
 {
-    let left_out = missing(places(f), written);
+    let left_out = places(f).saturating_sub(written);
     let millionths = 6 - f.decimals;
     if f.trailing {
-        return left_out + millionths;
+        left_out + millionths
+    } else {
+        millionths
     }
-    millionths
 }
 
 // A coordinate as it was read, with so many zeros after it.
-fn raise(minus: bool, zeros: usize, c: Coordinate) -> Coordinate
+#[tactic(auto, unfolding(crate::specs::Raised::raised))]
+fn raise(minus: bool, zeros: usize, c: Result<i64, NumberError>) -> Result<i64, NumberError>
     requires zeros_bound { zeros ≤ 12 }
-    requires zeros_bound_2 { (z : ℤ) → c ≡ Value z → nat_abs z * 10 ^ zeros < 10 ^ 12 }
+    requires zeros_bound_2 { (z : ℤ) → c ≡ Ok z → nat_abs z * 10 ^ zeros < 10 ^ 12 }
     ensures { result ≡ raised minus zeros c }
 {
-    match c {
-        Coordinate::NotForm => Coordinate::NotForm,
-        Coordinate::TooLong => Coordinate::TooLong,
-        Coordinate::Value(z) => {
-            Coordinate::Value(ints::with_sign(minus, ints::size(z) * power(zeros)))
-        }
-    }
+    let z = c?;
+    Ok(ints::with_sign(minus, ints::size(z) * 10u64.pow(zeros as u32)))
 }
 
 // The coordinate that stands at a place, by its format, and the place after it.
@@ -205,7 +181,7 @@ pub fn coordinate_in(f: Format, s: &[u8], at: usize) -> Taken
 {
     let g = in_force(f);
     let taken = digits::coordinate_at(s, at, places(g));
-    if base::both(!g.trailing, g.decimals == 6) {
+    if !g.trailing && g.decimals == 6 {
         return taken;
     }
     let next = taken.next;

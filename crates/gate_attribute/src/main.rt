@@ -2,57 +2,47 @@
 // place. A line for each answer but 22: what was asked, then the answer as the second reader writes it.
 #![tactic(auto)]
 
-use attribute_call::{Answer, Kind};
+use attribute_call::Kind;
 
-// Standard output, by its number.
-const STDOUT_FILENO: i32 = 1;
+// Standard input, by its number.
+const STDIN_FILENO: i32 = 0;
 
-// A tab and a number.
-fn number(n: usize) {
-    io::write_all(STDOUT_FILENO, b"\t");
-    io::print_decimal(STDOUT_FILENO, n as u64);
+// The letters of the command that sets such an attribute.
+fn letters(kind: Kind) -> &'static str {
+    match kind {
+        Kind::Aperture => "TA",
+        Kind::Object => "TO",
+    }
 }
 
-// An answer: the place and length of the value, or the number of the refusal.
-fn answered(a: Answer) {
-    if a.number == 0 {
-        io::write_all(STDOUT_FILENO, b"\tattribute");
-        number(a.place);
-        number(a.length);
-    } else {
-        io::write_all(STDOUT_FILENO, b"\trefused\t");
-        io::print_decimal(STDOUT_FILENO, a.number);
+// One question and its answer, the place and length of the value or the number of the refusal, if a command begins at the place.
+fn ask(rt: &impl Print, file: &[u8], kind: Kind, place: usize, name: &str) -> std::io::Result<()> {
+    let a = attribute_call::attribute(book::ascii(), file, kind, place, name.as_bytes());
+    let letters = letters(kind);
+    match a.number {
+        0 => println!(rt;
+            "{letters}\t{place}\t{name}\tattribute\t{}\t{}",
+            a.place, a.length
+        ),
+        22 => Ok(()),
+        number => println!(rt; "{letters}\t{place}\t{name}\trefused\t{number}"),
     }
-    io::write_all(STDOUT_FILENO, b"\n");
-}
-
-// One question and its answer, if a command begins at the place.
-fn ask(file: &[u8], kind: Kind, letters: &[u8], place: usize, name: &[u8]) {
-    let a = attribute_call::attribute(book::ascii(), file, kind, place, name);
-    if a.number == 22 {
-        return;
-    }
-    io::write_all(STDOUT_FILENO, letters);
-    number(place);
-    io::write_all(STDOUT_FILENO, b"\t");
-    io::write_all(STDOUT_FILENO, name);
-    answered(a);
 }
 
 // A name at every place.
-fn everywhere(file: &[u8], name: &[u8]) {
-    let mut place: usize = 0;
-    while place < file.len() {
-        ask(file, Kind::Aperture, b"TA", place, name);
-        ask(file, Kind::Object, b"TO", place, name);
-        place += 1;
+fn everywhere(rt: &impl Print, file: &[u8], name: &str) -> std::io::Result<()> {
+    for place in 0..file.len() {
+        ask(rt, file, Kind::Aperture, place, name)?;
+        ask(rt, file, Kind::Object, place, name)?;
     }
+    Ok(())
 }
 
-fn main() {
+fn main(rt: HostRuntime) -> std::io::Result<()> {
     let mut room = io::large_buffer();
-    let n = io::read_full(0, &mut room);
-    everywhere(&room[..n], b"a");
-    everywhere(&room[..n], b".N");
-    everywhere(&room[..n], b"a,b");
+    let n = io::read_full(STDIN_FILENO, &mut room);
+    for name in ["a", ".N", "a,b"] {
+        everywhere(&rt, &room[..n], name)?;
+    }
+    Ok(())
 }

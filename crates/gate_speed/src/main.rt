@@ -5,18 +5,15 @@ ghost use Rattle.std.specs.Prelude.{◌≡◌, length, replicate};
 ghost use Rattle.digest.specs.Runs.{started, finished, in_runs};
 ghost use Rattle.digest.specs.Text.{unbroken};
 
-// Standard output, by its number.
-const STDOUT_FILENO: i32 = 1;
+use std::io;
 
 // A block of text, an LF after each 19 bytes.
 fn lines() -> [u8; 4096]
     ensures { 4096 ≡ length result }
 {
     let mut text = [b'X'; 4096];
-    let mut at: usize = 19;
-    while at < 4096 {
-        text[at] = 10;
-        at += 20;
+    for end in text.iter_mut().skip(19).step_by(20) {
+        *end = b'\n';
     }
     text
 }
@@ -26,16 +23,14 @@ fn repeated(text: &[u8], n: usize) -> [u8; 16]
     ensures { result ≡ finished (in_runs started (replicate n (unbroken text.now))) }
 {
     let mut s = digest::start();
-    let mut i: usize = 0;
-    while i < n {
+    for _ in 0..n {
         s = digest::feed_text(s, text);
-        i += 1;
     }
     digest::finish(s)
 }
 
-fn main() {
+fn main(rt: HostRuntime) -> io::Result<()> {
     let text = lines();
-    io::write_all(STDOUT_FILENO, &hexadecimal::hex(repeated(&text, 4096)));
-    io::write_all(STDOUT_FILENO, b"\n");
+    rt.write_all(&hexadecimal::hex(repeated(&text, 4096)))?;
+    println!(rt)
 }

@@ -97,6 +97,7 @@ pub struct Orientation {
 }
 
 // The state at the start of a file of the old edition, or of the newer one.
+#[tactic(auto, unfolding(crate::specs::Graphics::start, crate::specs::Graphics::unset, crate::specs::Graphics::origin, crate::specs::Graphics::no_aperture, crate::specs::Graphics::no_region, formats::specs::Format::no_format))]
 pub fn start(old: bool) -> Graphics
     ensures { result ≡ start old }
 {
@@ -146,169 +147,78 @@ pub fn start(old: bool) -> Graphics
 }
 
 // The state with FS, MO and the unit's code set anew.
+#[tactic(auto, unfolding(crate::specs::Graphics::with_header))]
 pub fn with_header(v: Header, g: Graphics) -> Graphics
     ensures { result ≡ with_header v g }
 {
-    let point = g.point;
-    let aperture = g.aperture;
-    let transform = g.transform;
-    let region = g.region;
-    Graphics {
-        old: g.old,
-        header: v,
-        incremental: g.incremental,
-        point: point,
-        aperture: aperture,
-        mode: g.mode,
-        quadrants: g.quadrants,
-        transform: transform,
-        region: region,
-    }
+    Graphics { header: v, ..g }
 }
 
 // The state with the notation set anew: incremental, or absolute.
+#[tactic(auto, unfolding(crate::specs::Graphics::with_notation))]
 pub fn with_notation(v: bool, g: Graphics) -> Graphics
     ensures { result ≡ with_notation v g }
 {
-    let header = g.header;
-    let point = g.point;
-    let aperture = g.aperture;
-    let transform = g.transform;
-    let region = g.region;
     Graphics {
-        old: g.old,
-        header: header,
         incremental: v,
-        point: point,
-        aperture: aperture,
-        mode: g.mode,
-        quadrants: g.quadrants,
-        transform: transform,
-        region: region,
+        ..g
     }
 }
 
 // The state with the current point set anew.
+#[tactic(auto, unfolding(crate::specs::Graphics::with_point))]
 pub fn with_point(v: Current, g: Graphics) -> Graphics
     ensures { result ≡ with_point v g }
 {
-    let header = g.header;
-    let aperture = g.aperture;
-    let transform = g.transform;
-    let region = g.region;
-    Graphics {
-        old: g.old,
-        header: header,
-        incremental: g.incremental,
-        point: v,
-        aperture: aperture,
-        mode: g.mode,
-        quadrants: g.quadrants,
-        transform: transform,
-        region: region,
-    }
+    Graphics { point: v, ..g }
 }
 
 // The state with the current aperture set anew.
+#[tactic(auto, unfolding(crate::specs::Graphics::with_aperture))]
 pub fn with_aperture(v: Selected, g: Graphics) -> Graphics
     ensures { result ≡ with_aperture v g }
 {
-    let header = g.header;
-    let point = g.point;
-    let transform = g.transform;
-    let region = g.region;
-    Graphics {
-        old: g.old,
-        header: header,
-        incremental: g.incremental,
-        point: point,
-        aperture: v,
-        mode: g.mode,
-        quadrants: g.quadrants,
-        transform: transform,
-        region: region,
-    }
+    Graphics { aperture: v, ..g }
 }
 
 // The state with the mode set anew.
+#[tactic(auto, unfolding(crate::specs::Graphics::with_mode))]
 pub fn with_mode(v: u64, g: Graphics) -> Graphics
     ensures { result ≡ with_mode v g }
 {
-    let mut h = g;
-    h.mode = v;
-    h
+    Graphics { mode: v, ..g }
 }
 
 // The state with G74 or G75 set anew.
+#[tactic(auto, unfolding(crate::specs::Graphics::with_quadrants))]
 pub fn with_quadrants(v: bool, g: Graphics) -> Graphics
     ensures { result ≡ with_quadrants v g }
 {
-    let header = g.header;
-    let point = g.point;
-    let aperture = g.aperture;
-    let transform = g.transform;
-    let region = g.region;
-    Graphics {
-        old: g.old,
-        header: header,
-        incremental: g.incremental,
-        point: point,
-        aperture: aperture,
-        mode: g.mode,
-        quadrants: v,
-        transform: transform,
-        region: region,
-    }
+    Graphics { quadrants: v, ..g }
 }
 
 // The state with LP, LM, LR and LS set anew.
+#[tactic(auto, unfolding(crate::specs::Graphics::with_transform))]
 pub fn with_transform(v: Transform, g: Graphics) -> Graphics
     ensures { result ≡ with_transform v g }
 {
-    let header = g.header;
-    let point = g.point;
-    let aperture = g.aperture;
-    let region = g.region;
-    Graphics {
-        old: g.old,
-        header: header,
-        incremental: g.incremental,
-        point: point,
-        aperture: aperture,
-        mode: g.mode,
-        quadrants: g.quadrants,
-        transform: v,
-        region: region,
-    }
+    Graphics { transform: v, ..g }
 }
 
 // The state with the region set anew.
+#[tactic(auto, unfolding(crate::specs::Graphics::with_region))]
 pub fn with_region(v: Region, g: Graphics) -> Graphics
     ensures { result ≡ with_region v g }
 {
-    let header = g.header;
-    let point = g.point;
-    let aperture = g.aperture;
-    let transform = g.transform;
-    Graphics {
-        old: g.old,
-        header: header,
-        incremental: g.incremental,
-        point: point,
-        aperture: aperture,
-        mode: g.mode,
-        quadrants: g.quadrants,
-        transform: transform,
-        region: v,
-    }
+    Graphics { region: v, ..g }
 }
 
 // The angle from 0 up to a full turn.
 pub fn angle_of(a: i64) -> u64
     ensures { result ≡ angle_of a }
 {
-    let n = ints::size(a);
-    if ints::negative(a) {
+    let n = a.unsigned_abs();
+    if a < 0 {
         return (360000000 - n % 360000000) % 360000000;
     }
     n % 360000000
@@ -325,11 +235,12 @@ fn angle_after(y: bool, rotation: u64) -> u64
 }
 
 // Flip and angle, as LM and LR give them.
+#[tactic(auto, using(place::proofs::Laws::not_beq), unfolding(crate::specs::Orientation::orientation))]
 pub fn oriented(t: Transform) -> Orientation
     ensures { result ≡ orientation t }
 {
     Orientation {
-        flip: place::differ(t.mirror.x, t.mirror.y),
+        flip: t.mirror.x != t.mirror.y,
         angle: angle_after(t.mirror.y, t.rotation),
     }
 }

@@ -26,26 +26,30 @@ ghost use Rattle.host.specs.Widths.{ItemsAre, EntriesAre, AperturesAre, MacrosAr
 
 use attribute_call::Kind;
 use command::Span;
-use descend::{Fetch, Total};
-use reader::Answer;
-use shapes::Lookup;
-use summary_by_aperture::Outcome;
+use descend::Unanswered;
+use labels::Label;
+use reader::Accepted;
+use sequence::Refusal;
+use shapes::{LookupError, Shape};
+use summary_by_aperture::SummaryError;
 
 // The number of a reading's answer, and its place, unit and rounded decimals.
-fn answered(a: Answer, place: &mut u64, unit: &mut u64, rounded: &mut u64) -> u64
+fn answered(a: Result<Accepted, Refusal>, place: &mut u64, unit: &mut u64, rounded: &mut u64) -> u64
     ensures { (result ≡ number_of a) × (place.new ≡ place_of a) × (unit.new ≡ unit_of a) × (rounded.new ≡ rounded_of a) }
 {
     match a {
-        Answer::Accepted {
-            unit: u,
-            rounded: n,
-        } => {
+        Ok(
+            Accepted {
+                unit: u,
+                rounded: n,
+            },
+        ) => {
             *place = 0;
             *unit = u;
             *rounded = n as u64;
             0
         }
-        Answer::Refused { number, place: at } => {
+        Err(Refusal { number, place: at }) => {
             *place = at as u64;
             *unit = 0;
             *rounded = 0;
@@ -117,11 +121,11 @@ pub extern "C" fn sheet_total(
 {
     let t = descend::sheet_total(head, entries, apertures);
     match t {
-        Total::Is(n) => {
+        Some(n) => {
             *total = n;
             0
         }
-        Total::NotSheet => {
+        None => {
             *total = 0;
             21
         }
@@ -161,13 +165,14 @@ pub extern "C" fn sheet_item_number(
 }
 
 // Document 01's number of a call for a summary.
-fn summary_number(r: Outcome) -> u64
+#[tactic(auto, unfolding(summary_by_aperture::specs::Answers::outcome_number))]
+fn summary_number(r: Result<(), SummaryError>) -> u64
     ensures { result ≡ outcome_number r }
 {
     match r {
-        Outcome::Done => 0,
-        Outcome::Short => 17,
-        Outcome::NotSheet => 21,
+        Ok(()) => 0,
+        Err(SummaryError::Short) => 17,
+        Err(SummaryError::NotSheet) => 21,
     }
 }
 
@@ -188,13 +193,14 @@ pub extern "C" fn sheet_summary(
 }
 
 // Document 01's number of a call for a run.
-fn fetch_number(f: Fetch) -> u64
+#[tactic(auto, unfolding(descend::specs::Slots::fetch_number))]
+fn fetch_number(f: Result<(), Unanswered>) -> u64
     ensures { result ≡ fetch_number f }
 {
     match f {
-        Fetch::Done => 0,
-        Fetch::Past => 20,
-        Fetch::NotSheet => 21,
+        Ok(()) => 0,
+        Err(Unanswered::Past) => 20,
+        Err(Unanswered::NotSheet) => 21,
     }
 }
 
@@ -404,19 +410,21 @@ pub extern "C" fn sheet_mend(
         edition, letters, file, out, report, head, entries, apertures, macros, numbers,
     );
     match a {
-        mend_call::Answer::Mended {
-            bytes: b,
-            changes: n,
-            unit: u,
-            rounded: d,
-        } => {
+        Ok(
+            mend_call::Mended {
+                bytes: b,
+                changes: n,
+                unit: u,
+                rounded: d,
+            },
+        ) => {
             *bytes = b as u64;
             *changes = n as u64;
             *unit = u;
             *rounded = d as u64;
             0
         }
-        mend_call::Answer::Refused { number } => {
+        Err(number) => {
             *bytes = 0;
             *changes = 0;
             *unit = 0;
@@ -431,35 +439,35 @@ pub extern "C" fn sheet_mend(
 pub extern "C" fn sheet_digest(bytes: &[u8], digest: &mut [u8; 16])
     ensures { digest.new ≡ md5 bytes.now }
 {
-    let d = digest::digest(bytes);
-    *digest = d;
+    *digest = digest::digest(bytes);
 }
 
 // Document 01's number of a lookup.
-fn lookup_number(l: Lookup) -> u64
+#[tactic(auto, unfolding(shapes::specs::Shapes::lookup_number))]
+fn lookup_number(l: Result<Shape, LookupError>) -> u64
     ensures { result ≡ lookup_number l }
 {
     match l {
-        Lookup::Is(_) => 0,
-        Lookup::Unknown => 8,
-        Lookup::NotSheet => 21,
+        Ok(_) => 0,
+        Err(LookupError::Unknown) => 8,
+        Err(LookupError::NotSheet) => 21,
     }
 }
 
 // The words of the aperture that is found, zeros without one.
-fn shape_words(l: Lookup) -> [u64; 5]
+#[tactic(auto, unfolding(crate::specs::Shapes::shape_words, shapes::specs::Shapes::lookup_shape, shapes::specs::Shapes::zero_shape))]
+fn shape_words(l: Result<Shape, LookupError>) -> [u64; 5]
     ensures { result ≡ shape_words (lookup_shape l) }
 {
     match l {
-        Lookup::Is(s) => [
+        Ok(s) => [
             s.number,
             s.kind,
             s.first as u64,
             s.count as u64,
             s.primitives as u64,
         ],
-        Lookup::Unknown => [0u64; 5],
-        Lookup::NotSheet => [0u64; 5],
+        Err(_) => [0; 5],
     }
 }
 
@@ -498,14 +506,15 @@ pub extern "C" fn sheet_shape_record(
 }
 
 // Document 01's number of a call for a run of primitives.
-fn primitives_number(f: shapes::Fetch) -> u64
+#[tactic(auto, unfolding(shapes::specs::Runs::fetch_number))]
+fn primitives_number(f: Result<(), shapes::FetchError>) -> u64
     ensures { result ≡ primitive_number f }
 {
     match f {
-        shapes::Fetch::Done => 0,
-        shapes::Fetch::Past => 20,
-        shapes::Fetch::Unknown => 8,
-        shapes::Fetch::NotSheet => 21,
+        Ok(()) => 0,
+        Err(shapes::FetchError::Past) => 20,
+        Err(shapes::FetchError::Unknown) => 8,
+        Err(shapes::FetchError::NotSheet) => 21,
     }
 }
 
@@ -527,13 +536,11 @@ pub extern "C" fn sheet_primitives(
 }
 
 // How many bytes a part of the file has.
+#[tactic(auto, unfolding(crate::specs::Shapes::size_of))]
 fn size_of(s: Span) -> u64
     ensures { result ≡ size_of s }
 {
-    if s.from <= s.to {
-        return (s.to - s.from) as u64;
-    }
-    0
+    s.to.saturating_sub(s.from) as u64
 }
 
 // The file attribute of this name: where its value stands in the file, and its length.
@@ -551,8 +558,7 @@ pub extern "C" fn sheet_file_attribute(
         × (size.new ≡ size_of (label_named_by (choice_of edition letters) file.now name.now).label.value) }
 {
     let a = numbered::label_named(edition, letters, file, name);
-    let l = a.label;
-    let value = l.value;
+    let value = a.label.value;
     *at = value.from as u64;
     *size = size_of(value);
     a.number
@@ -577,9 +583,7 @@ pub extern "C" fn sheet_label(
         × (size.new ≡ size_of (label_at_by (choice_of edition letters) file.now i).label.value) }
 {
     let a = numbered::label_at(edition, letters, file, i);
-    let l = a.label;
-    let name = l.name;
-    let value = l.value;
+    let Label { name, value } = a.label;
     *name_at = name.from as u64;
     *name_size = size_of(name);
     *at = value.from as u64;

@@ -1,5 +1,6 @@
 -- The laws of a search: where it stands, what it finds, and that a record linked at its end is found from then on.
 -- Assumes nothing.
+use Rattle.std.specs.Prelude.{Err, Ok, Result, ℕ}
 use Prim.Native.Nat.{ℕ, zero, suc, ◌+◌, ◌*◌, ◌-◌, ◌≤◌, ◌<◌}
 use mathlib.Core.Path.{◌≡◌, refl, sym, ap, ◌∙◌}
 use mathlib.Core.Bool.{Bool, true, false, cond}
@@ -11,30 +12,28 @@ use lib.Dec.{eqb}
 use lib.ListN.{length, get_or, set}
 use lib.Seq.{get_or-set_same, get_or-set_other}
 use borrow.Author.Tests.{eqb-true, eqb-false, eq-eqb, ne_eqb}
-use Rattle.index.specs.declared.Search.{Search}
-use Rattle.index.specs.declared.Search.TheVariants.{At}
 use Rattle.index.specs.First.{first_of}
 use Rattle.index.specs.Tree.{record_width, is_high, bits_above, link_word, link_of, next, last_link}
 use Rattle.index.specs.Indexed.{Leads, here, on, Indexed}
 
 -- what a test picks, where only one record is picked, and where none is
-module _ (is : ℕ → Bool) (other : Search) where
+module _ (is : ℕ → Bool) (other : Result ℕ ℕ) where
   pub first_none : (i n : ℕ) → ((j : ℕ) → i ≤ j → j < i + n → is j ≡ true → ⊥) → first_of is i n other ≡ other
   unfolding first_of
   first_none i zero none = refl
   first_none i (suc n) none = go (is i) refl (first_none (suc i) n (λ j l h. none j (omega arith) (omega arith)))
     where
-      go : (t : Bool) → is i ≡ t → first_of is (suc i) n other ≡ other → elim t [ true ↦ At i | false ↦ first_of is (suc i) n other ] ≡ other
+      go : (t : Bool) → is i ≡ t → first_of is (suc i) n other ≡ other → elim t [ true ↦ Ok i | false ↦ first_of is (suc i) n other ] ≡ other
       go true e rest = absurd (none i (omega arith) (omega arith) e)
       go false e rest = rest
 
-  pub first_at_lem : (i n j : ℕ) → i ≤ j → j < i + n → is j ≡ true → ((m : ℕ) → m < i + n → is m ≡ true → m ≡ j) → first_of is i n other ≡ At j
+  pub first_at_lem : (i n j : ℕ) → i ≤ j → j < i + n → is j ≡ true → ((m : ℕ) → m < i + n → is m ≡ true → m ≡ j) → first_of is i n other ≡ Ok j
   unfolding first_of
   first_at_lem i zero j l h e one = absurd (omega arith)
   first_at_lem i (suc n) j l h e one = go (is i) refl (λ k. first_at_lem (suc i) n j k (omega arith) e (λ m g. one m (omega arith)))
     where
-      go : (t : Bool) → is i ≡ t → (i < j → first_of is (suc i) n other ≡ At j) → elim t [ true ↦ At i | false ↦ first_of is (suc i) n other ] ≡ At j
-      go true f rest = ap At (one i (omega arith) f)
+      go : (t : Bool) → is i ≡ t → (i < j → first_of is (suc i) n other ≡ Ok j) → ◌≡◌ {A = Result ℕ ℕ} (elim t [ true ↦ Ok i | false ↦ first_of is (suc i) n other ]) (Ok j)
+      go true f rest = ap Ok (one i (omega arith) f)
       go false f rest = ⊎_elim
           (λ (q : i ≡ j). let z : true ≡ false = sym e ∙ ap is (sym q) ∙ f in absurd (let w : ◌≡◌ {A = ℕ} 0 1 = cc in omega arith))
           rest
@@ -101,7 +100,7 @@ module _ {s : List ℕ} {key_of : ℕ → ℕ} {used : ℕ} (t : Indexed s key_o
         }
 
     -- a search that leads nowhere finds nothing, and there is where a new record goes
-    pub seek_none : (other : Search) → next s at key ≡ 0 → first_of is 0 used other ≡ other
+    pub seek_none : (other : Result ℕ ℕ) → next s at key ≡ 0 → first_of is 0 used other ≡ other
     seek_none other z = first_none is other 0 used (λ j l h e. let w = (leads_on is f e (k.comes j (omega arith) e)).0 in omega arith)
 
     pub seek_end : next s at key ≡ 0 → link_of at key ≡ last_link s used 0 first
@@ -109,6 +108,28 @@ module _ {s : List ℕ} {key_of : ℕ → ℕ} {used : ℕ} (t : Indexed s key_o
         let l = k.standing in
         let e : used ≡ suc (used - 1) = omega arith in
         sym (rw (← e) at (last_stop s (used - 1) at key z)) ∙ k.ends
+
+-- the search stands at a record, and the record leads on by the link in a word
+pub record Standing (s : List ℕ) (is : ℕ → Bool) (used first key at link : ℕ) : Type 0 where
+  pub seeking : Seeking s is used first key at
+  pub leading : link ≡ link_of at key
+
+-- what the word holds: where the search goes on, and that it ends there where that is nowhere
+module _ {s : List ℕ} {key_of : ℕ → ℕ} {used : ℕ} (t : Indexed s key_of used) {is : ℕ → Bool} {first key at link to : ℕ}
+    (v : Standing s is used first key at link) (e : to ≡ get_or s link 0) where
+  led : to ≡ next s at key
+  led = e ∙ ap (λ i. get_or s i 0) v.leading
+
+  pub led_later : (to ≡ 0 → ⊥) → (at < to) × (to < used)
+  led_later z = let some : 0 < to = omega arith in rw (← led) at (t.later at key v.seeking.standing (rw (← led) some))
+
+  pub led_on : is at ≡ false → (to ≡ 0 → ⊥) → Seeking s is used first (bits_above key) to
+  led_on f z = let some : 0 < to = omega arith in rw led (seek_on t v.seeking f (rw (← led) some))
+
+  pub led_nowhere : is at ≡ false → to ≡ 0 → Err link ≡ first_of is 0 used (Err (last_link s used 0 first))
+  led_nowhere f z =
+      let none = sym led ∙ z in
+      ap Err (v.leading ∙ seek_end t v.seeking f none) ∙ sym (seek_none t v.seeking f _ none)
 
 -- ---- a record more
 

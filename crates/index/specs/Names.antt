@@ -1,9 +1,7 @@
 -- Records that have a name: the places in the file where it begins and ends, their first two words.
-use Rattle.std.specs.Prelude.{ℕ, ◌+◌, ◌*◌, ◌<◌, ◌≡◌, true, List, [], ◌∷◌, get_or}
+use Rattle.std.specs.Prelude.{ℕ, ◌+◌, ◌*◌, ◌<◌, ◌≡◌, true, List, [], ◌∷◌, get_or, Err, Result}
 use Rattle.std.proofs.Math.Seq.{slice}
 use Rattle.base.specs.Bytes.{same_bytes}
-use Rattle.index.specs.declared.Search.{Search}
-use Rattle.index.specs.declared.Search.TheVariants.{Free}
 use Rattle.index.specs.First.{first_of}
 use Rattle.index.specs.Tree.{record_width, last_link}
 use Rattle.index.specs.Indexed.{Indexed}
@@ -20,8 +18,8 @@ abbrev pub key_of : List ℕ → ℕ
 key_of name = key_from 0 name
 
 -- the record in use that has the name; where none has, the link at which a new one goes
-unfoldable pub named : List ℕ → List ℕ → ℕ → List ℕ → Search
-named file s used name = first_of (λ i. same_bytes (name_of file s i) name) 0 used (Free (last_link s used 0 (key_of name)))
+unfoldable pub named : List ℕ → List ℕ → ℕ → List ℕ → Result ℕ ℕ
+named file s used name = first_of (λ i. same_bytes (name_of file s i) name) 0 used (Err (last_link s used 0 (key_of name)))
 
 -- the names are a search tree, and no two records have one
 pub record Named (file s : List ℕ) (used : ℕ) : Type 0 where

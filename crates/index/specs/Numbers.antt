@@ -1,7 +1,5 @@
 -- Records that have a number, their first word.
-use Rattle.std.specs.Prelude.{ℕ, ◌*◌, ◌<◌, ◌≡◌, List, eqb, get_or}
-use Rattle.index.specs.declared.Search.{Search}
-use Rattle.index.specs.declared.Search.TheVariants.{Free}
+use Rattle.std.specs.Prelude.{ℕ, ◌*◌, ◌<◌, ◌≡◌, List, eqb, get_or, Err, Result}
 use Rattle.index.specs.First.{first_of}
 use Rattle.index.specs.Tree.{record_width, last_link}
 use Rattle.index.specs.Indexed.{Indexed}
@@ -11,8 +9,8 @@ abbrev pub number_of : List ℕ → ℕ → ℕ
 number_of s i = get_or s (i * record_width) 0
 
 -- the record in use that has the number; where none has, the link at which a new one goes
-unfoldable pub numbered : List ℕ → ℕ → ℕ → Search
-numbered s used number = first_of (λ i. eqb (number_of s i) number) 0 used (Free (last_link s used 0 number))
+unfoldable pub numbered : List ℕ → ℕ → ℕ → Result ℕ ℕ
+numbered s used number = first_of (λ i. eqb (number_of s i) number) 0 used (Err (last_link s used 0 number))
 
 -- the numbers are a search tree, no deeper than they have bits, and no two records have one
 pub record Numbered (s : List ℕ) (used : ℕ) : Type 0 where

@@ -11,14 +11,8 @@ ghost use Rattle.index.specs.Names.{name_of, key_of, named, Named};
 // The words of a record.
 pub const RECORD_WORDS: usize = 8;
 
-// The outcome of a search: the record sought, or the word of the link that is to lead to a new one.
-#[derive(Clone, Copy)]
-pub enum Search {
-    At(usize),
-    Free(usize),
-}
-
 // The word of record i that leads on high, or low.
+#[tactic(auto, unfolding(crate::specs::Tree::link_word))]
 fn link_word(i: usize, high: bool) -> usize
     requires { i * record_width + record_width ≤ 18446744073709551615 }
     ensures { result ≡ link_word i high }
@@ -31,26 +25,28 @@ fn link_word(i: usize, high: bool) -> usize
 }
 
 // The record, of the first `used`, that has the number.
-pub fn search_number(s: &[u64], used: usize, number: u64) -> Search
+pub fn search_number(s: &[u64], used: usize, number: u64) -> Result<usize, usize>
     requires { Numbered s.now used }
     ensures { result ≡ numbered s.now used number }
 {
     let mut key = number;
     let mut link = link_word(0, key % 2 == 1);
     if used == 0 {
-        return Search::Free(link);
+        return Err(link);
     }
     let mut at: usize = 0;
+    // From record to record by the links in them: no iterator walks so. The search for a name is a loop of its own, since there each
+    // turn takes its bit from the file's bytes.
     while base::word_at(s, at * RECORD_WORDS) != number {
         let to = base::word_at(s, link) as usize;
         if to == 0 {
-            return Search::Free(link);
+            return Err(link);
         }
-        key = key / 2;
+        key /= 2;
         at = to;
         link = link_word(at, key % 2 == 1);
     }
-    Search::At(at)
+    Ok(at)
 }
 
 // Bit r of a byte, counted from its lowest.
@@ -80,32 +76,35 @@ fn has_name(file: &[u8], s: &[u64], i: usize, from: usize, to: usize) -> bool
 {
     let begins = base::word_at(s, i * RECORD_WORDS) as usize;
     let ends = base::word_at(s, i * RECORD_WORDS + 1) as usize;
-    base::rest_is(
-        base::part(file, begins, ends),
-        0,
-        base::part(file, from, to),
-    )
+    base::part(file, begins, ends) == base::part(file, from, to)
 }
 
 // The record, of the first `used`, that has the name file[from..to].
-pub fn search_name(file: &[u8], s: &[u64], used: usize, from: usize, to: usize) -> Search
+pub fn search_name(
+    file: &[u8],
+    s: &[u64],
+    used: usize,
+    from: usize,
+    to: usize,
+) -> Result<usize, usize>
     requires { Named file.now s.now used × (from ≤ to) × (to ≤ length file.now) }
     ensures { result ≡ named file.now s.now used (slice from to file.now) }
 {
     let mut d: usize = 0;
     let mut link = link_word(0, name_bit(file, from, to, d));
     if used == 0 {
-        return Search::Free(link);
+        return Err(link);
     }
     let mut at: usize = 0;
+    // From record to record by the links in them, as for a number.
     while !has_name(file, s, at, from, to) {
         let next = base::word_at(s, link) as usize;
         if next == 0 {
-            return Search::Free(link);
+            return Err(link);
         }
         d += 1;
         at = next;
         link = link_word(at, name_bit(file, from, to, d));
     }
-    Search::At(at)
+    Ok(at)
 }

@@ -12,7 +12,6 @@ use book::Book;
 use digest::State;
 use scan::{Scan, Way};
 use signature::{Answer, Held};
-use std::num::wrapping_add_usize;
 
 // Between two bytes of the file: on the way to M02, as the scanner cuts it; after M02, with CR and LF only or with other bytes. A byte
 // that is not permitted stops the way on either side of M02.
@@ -43,6 +42,7 @@ pub struct Intake {
 }
 
 // A byte after M02.
+#[tactic(auto, unfolding(crate::specs::Stages::over))]
 fn stage_over(b: u8, at: usize) -> Stage
     ensures { result ≡ over b at }
 {
@@ -56,23 +56,19 @@ fn stage_over(b: u8, at: usize) -> Stage
 }
 
 // A command that is complete was M02, or another may follow.
+#[tactic(auto, unfolding(crate::specs::Stages::settled))]
 fn settle(way: Way, end: bool) -> Stage
     ensures { result ≡ settled way end }
 {
     match way {
-        Way::Between => Stage::Cut(Way::Between),
-        Way::Inside(s) => Stage::Cut(Way::Inside(s)),
-        Way::Complete { kind } => {
-            if end {
-                return Stage::Over;
-            }
-            Stage::Cut(Way::Between)
-        }
-        Way::Bad { place } => Stage::Cut(Way::Bad { place }),
+        Way::Complete { .. } if end => Stage::Over,
+        Way::Complete { .. } => Stage::Cut(Way::Between),
+        Way::Between | Way::Inside(_) | Way::Bad { .. } => Stage::Cut(way),
     }
 }
 
 // A byte more, with which the command at hand is M02 or not.
+#[tactic(auto, unfolding(crate::specs::Stages::stage_after))]
 fn stage_after(book: Book, stage: Stage, b: u8, at: usize, end: bool) -> Stage
     ensures { result ≡ stage_after book stage b at end }
 {
@@ -84,25 +80,24 @@ fn stage_after(book: Book, stage: Stage, b: u8, at: usize, end: bool) -> Stage
 }
 
 // A command begins with this byte, on this way.
+#[tactic(auto, unfolding(crate::specs::Stages::opens))]
 fn does_open(way: Way, b: u8) -> bool
     ensures { result ≡ opens way b }
 {
     match way {
         Way::Between => !base::is_break(b),
-        Way::Inside(s) => false,
-        Way::Complete { kind } => false,
-        Way::Bad { place } => false,
+        _ => false,
     }
 }
 
 // A command begins with this byte.
+#[tactic(auto, unfolding(crate::specs::Stages::begins))]
 fn does_begin(stage: Stage, b: u8) -> bool
     ensures { result ≡ begins stage b }
 {
     match stage {
         Stage::Cut(way) => does_open(way, b),
-        Stage::Over => false,
-        Stage::Past => false,
+        Stage::Over | Stage::Past => false,
     }
 }
 
@@ -110,23 +105,17 @@ fn does_begin(stage: Stage, b: u8) -> bool
 fn pick(first: bool, p: Piece, q: Piece) -> Piece
     ensures { result ≡ (if first then p else q) }
 {
-    if first {
-        return p;
-    }
-    q
+    if first { p } else { q }
 }
 
 // A run more of a command.
+#[tactic(auto, unfolding(crate::specs::Runs::grown))]
 fn grow(p: Piece, t: &[u8]) -> Piece
     ensures { result ≡ grown p t.now }
 {
-    let before = p.before;
-    let text = p.text;
-    let longer = signature::hold(text, t);
     Piece {
-        place: p.place,
-        before: before,
-        text: longer,
+        text: signature::hold(p.text, t),
+        ..p
     }
 }
 
@@ -134,54 +123,46 @@ fn grow(p: Piece, t: &[u8]) -> Piece
 fn fresh(place: usize, before: State) -> Piece
     ensures { result ≡ piece place before nothing }
 {
-    let text = signature::none();
     Piece {
-        place: place,
-        before: before,
-        text: text,
+        place,
+        before,
+        text: signature::none(),
     }
 }
 
 // No byte yet, of a file that is read by a book.
+#[tactic(auto, unfolding(crate::specs::Runs::empty))]
 pub fn start(book: Book) -> Intake
     ensures { result ≡ empty book }
 {
     let digest = digest::start();
     let none = fresh(0, digest);
-    let stage = Stage::Cut(Way::Between);
     Intake {
-        book: book,
-        stage: stage,
+        book,
+        stage: Stage::Cut(Way::Between),
         at: 0,
-        digest: digest,
+        digest,
         this: none,
         last: none,
     }
 }
 
 // A byte more.
+#[tactic(auto, unfolding(crate::specs::Runs::pushed))]
 fn push(s: Intake, b: u8) -> Intake
     ensures { result ≡ pushed s b }
 {
-    let book = s.book;
-    let stage = s.stage;
-    let before = s.digest;
-    let old = s.this;
-    let older = s.last;
     let run = [b];
-    let new = does_begin(stage, b);
-    let this = grow(pick(new, fresh(s.at, before), old), &run);
-    let text = this.text;
-    let next = stage_after(book, stage, b, s.at, signature::holds_end(book, text));
-    let digest = digest::feed_text(before, &run);
-    let last = pick(new, old, older);
+    let new = does_begin(s.stage, b);
+    let this = grow(pick(new, fresh(s.at, s.digest), s.this), &run);
+    let end = signature::holds_end(s.book, this.text);
     Intake {
-        book: book,
-        stage: next,
-        at: wrapping_add_usize(s.at, 1),
-        digest: digest,
-        this: this,
-        last: last,
+        book: s.book,
+        stage: stage_after(s.book, s.stage, b, s.at, end),
+        at: s.at.wrapping_add(1),
+        digest: digest::feed_text(s.digest, &run),
+        this,
+        last: pick(new, s.this, s.last),
     }
 }
 
@@ -190,10 +171,8 @@ pub fn take(s: Intake, t: &[u8]) -> Intake
     ensures { result ≡ taken s t.now }
 {
     let mut v = s;
-    let mut i: usize = 0;
-    while i < t.len() {
-        v = push(v, t[i]);
-        i += 1;
+    for &b in t {
+        v = push(v, b);
     }
     v
 }
@@ -202,44 +181,28 @@ pub fn take(s: Intake, t: &[u8]) -> Intake
 fn judge(this: Piece, last: Piece) -> Answer
     ensures { result ≡ judged this.place (text_of last.text) (finished last.before) }
 {
-    let text = last.text;
-    let before = last.before;
-    signature::judge(this.place, text, before)
+    signature::judge(this.place, last.text, last.before)
 }
 
 // The file ends before M02: the number and the place of what the scanner answers.
+#[tactic(auto, unfolding(crate::specs::Stages::stopped, scan::specs::Scan::number_of, scan::specs::Scan::place_of))]
 fn stop(r: Scan) -> Answer
     ensures { result ≡ stopped r }
 {
     match r {
-        Scan::Command {
-            kind,
-            place,
-            from,
-            end,
-            next,
-        } => signature::refuse(0, place),
+        Scan::Command { place, .. } => signature::refuse(0, place),
         Scan::BadByte { place } => signature::refuse(2, place),
         Scan::Ended { place } => signature::refuse(3, place),
     }
 }
 
 // The answer, once there are no more runs.
+#[tactic(auto, unfolding(crate::specs::Runs::answered))]
 pub fn tell(s: Intake) -> Answer
     ensures { result ≡ answered s }
 {
-    let stage = s.stage;
-    match stage {
+    match s.stage {
         Stage::Cut(way) => stop(scan::way_ended(way, s.at)),
-        Stage::Over => {
-            let this = s.this;
-            let last = s.last;
-            judge(this, last)
-        }
-        Stage::Past => {
-            let this = s.this;
-            let last = s.last;
-            judge(this, last)
-        }
+        Stage::Over | Stage::Past => judge(s.this, s.last),
     }
 }

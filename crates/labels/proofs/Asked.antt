@@ -1,5 +1,6 @@
 -- The one search is both questions: by name the first that has it, by number the one after so many others.
 -- Assumes nothing.
+use Rattle.std.specs.Prelude.{Option, Some}
 use Prim.Native.Nat.{ℕ, zero, suc, ◌-◌}
 use mathlib.Core.Path.{◌≡◌, refl, ap}
 use mathlib.Core.Bool.{Bool, true, false}
@@ -11,8 +12,6 @@ use Rattle.sequence.specs.Commands.{Sequence}
 use Rattle.labels.specs.Labels.{labels_in, is_named, named_in, nth_in, judged, answer_in}
 use Rattle.labels.specs.Pass.{wants, first_wanted}
 use Rattle.labels.specs.declared.Label.{Label}
-use Rattle.labels.specs.declared.Found.{Found}
-use Rattle.labels.specs.declared.Found.TheVariants.{Nothing, Is}
 
 module _ (file name : List ℕ) where
   by_name_lem : (left : ℕ) (ls : List Label) → first_wanted file true name left ls ≡ named_in file name ls
@@ -21,7 +20,7 @@ module _ (file name : List ℕ) where
   by_name_lem left (l ∷ ls) = go (is_named file name l) (by_name_lem (left - 1) ls)
     where
       go : (t : Bool) → first_wanted file true name (left - 1) ls ≡ named_in file name ls →
-          ◌≡◌ {A = Found} (elim t [ true ↦ Is l | false ↦ first_wanted file true name (left - 1) ls ]) (elim t [ true ↦ Is l | false ↦ named_in file name ls ])
+          ◌≡◌ {A = Option Label} (elim t [ true ↦ Some l | false ↦ first_wanted file true name (left - 1) ls ]) (elim t [ true ↦ Some l | false ↦ named_in file name ls ])
       go true rest = refl
       go false rest = rest
 

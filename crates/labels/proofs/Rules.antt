@@ -1,6 +1,7 @@
 -- The file attributes under the two rules of letters (02, request [8]): what the old rule answers, and is no 2, the new rule answers too; and
 -- of a file of bytes below 127 both say the same.
 -- Assumes nothing.
+use Rattle.std.specs.Prelude.{Option}
 use Prim.Native.Nat.{ℕ, ◌<◌}
 use mathlib.Core.Path.{◌≡◌, ap}
 use mathlib.Core.List.{List}
@@ -13,9 +14,8 @@ use Rattle.sequence.specs.Commands.{commands_of}
 use Rattle.sequence.proofs.Rules.{commands_kept, commands_alike}
 use Rattle.labels.specs.Labels.{refused, nth_in, named_in, judged, answer_in, label_named, label_at}
 use Rattle.labels.specs.declared.Label.{Label}
-use Rattle.labels.specs.declared.Found.{Found}
 
-module _ (book : Book) (file : List ℕ) (seek : List Label → Found) where
+module _ (book : Book) (file : List ℕ) (seek : List Label → Option Label) where
   -- a fault of the file is the answer
   faulted : (commands_of (under Old book) file).fault.number ≡ 2 → (answer_in file seek (commands_of (under Old book) file)).number ≡ 2
   unfolding answer_in judged pick refused

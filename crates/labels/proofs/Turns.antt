@@ -1,5 +1,6 @@
 -- The name of a TF that stands next lies in the file.
 -- Assumes nothing.
+use Rattle.std.specs.Prelude.{Option, Some}
 use Prim.Native.Nat.{ℕ, ◌+◌, ◌-◌, ◌≤◌}
 use mathlib.Core.Path.{◌≡◌, refl}
 use mathlib.Core.List.{List}
@@ -23,8 +24,6 @@ use Rattle.sequence.specs.declared.Placed.{Placed}
 use Rattle.sequence.specs.declared.Turn.{Turn}
 use Rattle.sequence.specs.declared.Turn.TheVariants.{Fault, Last, More}
 use Rattle.names.specs.Sets.{sets_of}
-use Rattle.names.specs.declared.Sets.{Sets}
-use Rattle.names.specs.declared.Sets.TheVariants.{Name}
 use Rattle.names.proofs.Inside.{Inside, sets_inside}
 use Rattle.labels.specs.Pass.{Lies, NameLies}
 
@@ -42,7 +41,7 @@ led_lies size n c (lead.Format m) next h = h
 led_lies size n c lead.Other next h = h
 
 -- a name inside a text lies in the file that the text is of
-inside_lies : (size from end : ℕ) (x : Sets) (n : Span) → x ≡ Name n → from ≤ end → end ≤ size → Inside (end - from) x → Lies size from n
+inside_lies : (size from end : ℕ) (x : Option Span) (n : Span) → x ≡ Some n → from ≤ end → end ≤ size → Inside (end - from) x → Lies size from n
 inside_lies size from end x n e h k i = let j = rw e at i in record { ordered = j.0; inside = omega (arith, j.1) }
 
 turned_lies : (book : Book) (n : Format) (file : List ℕ) (at : ℕ) (s : Scan) → Within (length file) at s → TurnLies (length file) (turned book n file s)

@@ -1,5 +1,5 @@
 -- The file attributes of a file, in file order (01, State: TF; decisions 112, 212, 560 and 561).
-use Rattle.std.specs.Prelude.{ℕ, zero, suc, ◌+◌, Bool, true, false, List, [], ◌∷◌, eqb, ltb, take}
+use Rattle.std.specs.Prelude.{ℕ, zero, suc, ◌+◌, Bool, true, false, List, [], ◌∷◌, eqb, ltb, take, None, Option, Some}
 use Prim.Native.Char.{code}
 use Rattle.std.proofs.Math.Seq.{slice}
 use Rattle.base.specs.Bytes.{same_bytes}
@@ -11,12 +11,8 @@ use Rattle.command.specs.declared.Span.{Span}
 use Rattle.sequence.specs.Commands.{Sequence, commands_of}
 use Rattle.sequence.specs.declared.Placed.{Placed}
 use Rattle.names.specs.Sets.{sets_of}
-use Rattle.names.specs.declared.Sets.{Sets}
-use Rattle.names.specs.declared.Sets.TheVariants as sets
 use Rattle.labels.specs.declared.Label.{Label}
 use Rattle.labels.specs.declared.Answer.{Answer}
-use Rattle.labels.specs.declared.Found.{Found}
-use Rattle.labels.specs.declared.Found.TheVariants.{Nothing, Is}
 
 unfoldable pub none : Label
 none = record { name = span 0 0; value = span 0 0 }
@@ -37,16 +33,16 @@ unfoldable pub label_of : List ℕ → Placed → Span → Label
 label_of file c n = record { name = span (c.from + n.from) (c.from + n.to); value = value_in (take c.end file) c.from }
 
 -- a TF sets a file attribute, and no other command does
-unfoldable pub label_by : List ℕ → Placed → Sets → Found
-label_by file c sets.Nothing = Nothing
-label_by file c (sets.Name n) = Is (label_of file c n)
+unfoldable pub label_by : List ℕ → Placed → Option Span → Option Label
+label_by file c None = None
+label_by file c (Some n) = Some (label_of file c n)
 
-unfoldable pub label_set_by : List ℕ → Placed → Found
+unfoldable pub label_set_by : List ℕ → Placed → Option Label
 label_set_by file c = label_by file c (sets_of c.command)
 
-unfoldable pub before : Found → List Label → List Label
-before Nothing ls = ls
-before (Is l) ls = l ∷ ls
+unfoldable pub before : Option Label → List Label → List Label
+before None ls = ls
+before (Some l) ls = l ∷ ls
 
 -- those of these commands, in order
 unfoldable pub labels_in : List ℕ → List Placed → List Label
@@ -58,26 +54,26 @@ unfoldable pub is_named : List ℕ → List ℕ → Label → Bool
 is_named file name l = same_bytes (slice l.name.from l.name.to file) name
 
 -- the first with the name; a second is 19 where the file is read
-unfoldable pub named_in : List ℕ → List ℕ → List Label → Found
-named_in file name [] = Nothing
-named_in file name (l ∷ ls) = elim (is_named file name l) [ true ↦ Is l | false ↦ named_in file name ls ]
+unfoldable pub named_in : List ℕ → List ℕ → List Label → Option Label
+named_in file name [] = None
+named_in file name (l ∷ ls) = elim (is_named file name l) [ true ↦ Some l | false ↦ named_in file name ls ]
 
 -- the one at a place of the list, counted from 0
-unfoldable pub nth_in : ℕ → List Label → Found
-nth_in i [] = Nothing
-nth_in zero (l ∷ ls) = Is l
+unfoldable pub nth_in : ℕ → List Label → Option Label
+nth_in i [] = None
+nth_in zero (l ∷ ls) = Some l
 nth_in (suc i) (l ∷ ls) = nth_in i ls
 
 -- 23 where there is none
-unfoldable pub closing : Found → Answer
-closing Nothing = refused 23
-closing (Is l) = record { number = 0; label = l }
+unfoldable pub closing : Option Label → Answer
+closing None = refused 23
+closing (Some l) = record { number = 0; label = l }
 
 -- 1 to 4 and 18 before it
-unfoldable pub judged : ℕ → Found → Answer
+unfoldable pub judged : ℕ → Option Label → Answer
 judged number found = pick (eqb number 0) (closing found) (refused number)
 
-unfoldable pub answer_in : List ℕ → (List Label → Found) → Sequence → Answer
+unfoldable pub answer_in : List ℕ → (List Label → Option Label) → Sequence → Answer
 answer_in file seek l = judged l.fault.number (seek (labels_in file l.commands))
 
 unfoldable pub label_named : Book → List ℕ → List ℕ → Answer

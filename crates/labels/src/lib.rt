@@ -9,7 +9,6 @@ ghost use Rattle.labels.specs.Pass.{Lies, NameLies, wants, met, left_after, firs
 
 use book::Book;
 use command::Span;
-use names::Sets;
 use sequence::{Placed, Turn};
 
 // Where the name and the value of a file attribute stand in the file; a value that is not there is at 0 to 0.
@@ -26,14 +25,8 @@ pub struct Answer {
     pub label: Label,
 }
 
-// A file attribute, or none.
-#[derive(Clone, Copy)]
-pub enum Found {
-    Nothing,
-    Is(Label),
-}
-
 // Without a place.
+#[tactic(auto, unfolding(crate::specs::Labels::none))]
 fn none() -> Label
     ensures { result ≡ none }
 {
@@ -44,14 +37,18 @@ fn none() -> Label
 }
 
 // A refusal, with all places 0.
+#[tactic(auto, unfolding(crate::specs::Labels::refused))]
 pub fn refused(number: u64) -> Answer
     ensures { result ≡ refused number }
 {
-    let label = none();
-    Answer { number, label }
+    Answer {
+        number,
+        label: none(),
+    }
 }
 
 // What stands after the first comma from `from` on, up to the first `*`; at 0 to 0 without a comma before it.
+#[tactic(auto, unfolding(base::specs::Choose::pick, crate::specs::Labels::value_in))]
 fn value_in(s: &[u8], from: usize) -> Span
     ensures { result ≡ value_in s.now from }
 {
@@ -67,34 +64,32 @@ fn value_in(s: &[u8], from: usize) -> Span
 }
 
 // The file attribute of a command whose name stands at n of its text.
+#[tactic(auto, unfolding(crate::specs::Labels::label_of))]
 fn label_of(file: &[u8], c: Placed, n: Span) -> Label
     requires { Lies (length file.now) c.from n }
     ensures { result ≡ label_of file.now c n }
 {
-    let from = c.from;
-    let end = c.end;
-    let name = Span {
-        from: from + n.from,
-        to: from + n.to,
-    };
-    let value = value_in(base::up_to(file, end), from);
-    Label { name, value }
-}
-
-// The file attribute that a command sets, if it is a TF.
-fn label_set_by(file: &[u8], c: Placed) -> Found
-    requires { NameLies (length file.now) c }
-    ensures { result ≡ label_set_by file.now c }
-{
-    let command = c.command;
-    let s = names::sets_of(command);
-    match s {
-        Sets::Nothing => Found::Nothing,
-        Sets::Name(n) => Found::Is(label_of(file, c, n)),
+    Label {
+        name: Span {
+            from: c.from + n.from,
+            to: c.from + n.to,
+        },
+        value: value_in(base::up_to(file, c.end), c.from),
     }
 }
 
+// The file attribute that a command sets, if it is a TF.
+#[tactic(auto, unfolding(crate::specs::Labels::label_by, crate::specs::Labels::label_set_by))]
+fn label_set_by(file: &[u8], c: Placed) -> Option<Label>
+    requires { NameLies (length file.now) c }
+    ensures { result ≡ label_set_by file.now c }
+{
+    let name = names::sets_of(c.command)?;
+    Some(label_of(file, c, name))
+}
+
 // Whether it has the name.
+#[tactic(auto, unfolding(crate::specs::Labels::is_named))]
 fn is_named(file: &[u8], name: &[u8], l: Label) -> bool
     ensures { result ≡ is_named file.now name.now l }
 {
@@ -103,60 +98,60 @@ fn is_named(file: &[u8], name: &[u8], l: Label) -> bool
 }
 
 // Whether it is the one that is asked for: by its name, or as the one after so many others.
+#[tactic(auto, unfolding(crate::specs::Pass::wants))]
 fn wants(file: &[u8], named: bool, name: &[u8], left: usize, l: Label) -> bool
     ensures { result ≡ wants file.now named name.now left l }
 {
     if named {
-        return is_named(file, name, l);
+        is_named(file, name, l)
+    } else {
+        left == 0
     }
-    left == 0
 }
 
 // What is found with a command more.
-fn met(file: &[u8], named: bool, name: &[u8], left: usize, label: Found, found: Found) -> Found
+#[tactic(auto, unfolding(base::specs::Choose::pick, crate::specs::Pass::met))]
+fn met(
+    file: &[u8],
+    named: bool,
+    name: &[u8],
+    left: usize,
+    label: Option<Label>,
+    found: Option<Label>,
+) -> Option<Label>
     ensures { result ≡ met file.now named name.now left label found }
 {
-    match found {
-        Found::Is(l) => Found::Is(l),
-        Found::Nothing => match label {
-            Found::Nothing => Found::Nothing,
-            Found::Is(l) => {
-                if wants(file, named, name, left, l) {
-                    return Found::Is(l);
-                }
-                Found::Nothing
-            }
-        },
+    match (found, label) {
+        (None, Some(l)) if wants(file, named, name, left, l) => Some(l),
+        _ => found,
     }
 }
 
 // How many file attributes are to be passed yet.
-fn left_after(left: usize, label: Found) -> usize
+#[tactic(auto, unfolding(base::specs::Choose::pick, crate::specs::Pass::left_after))]
+fn left_after(left: usize, label: Option<Label>) -> usize
     ensures { result ≡ left_after left label }
 {
     match label {
-        Found::Nothing => left,
-        Found::Is(_) => {
-            if left == 0 {
-                return 0;
-            }
-            left - 1
-        }
+        None => left,
+        Some(_) => left.saturating_sub(1),
     }
 }
 
 // What is found, or 23.
-fn closing(found: Found) -> Answer
+#[tactic(auto, unfolding(crate::specs::Labels::closing))]
+fn closing(found: Option<Label>) -> Answer
     ensures { result ≡ closing found }
 {
     match found {
-        Found::Nothing => refused(23),
-        Found::Is(label) => Answer { number: 0, label },
+        None => refused(23),
+        Some(label) => Answer { number: 0, label },
     }
 }
 
 // The answer at the end: a fault of the file, else what is found, else 23.
-fn judged(number: u64, found: Found) -> Answer
+#[tactic(auto, unfolding(base::specs::Choose::pick, crate::specs::Labels::judged))]
+fn judged(number: u64, found: Option<Label>) -> Answer
     ensures { result ≡ judged number found }
 {
     if number == 0 {
@@ -172,7 +167,8 @@ fn pass(book: Book, file: &[u8], named: bool, name: &[u8], i: usize) -> Answer
     let mut format = formats::no_format();
     let mut at: usize = 0;
     let mut left = i;
-    let mut found = Found::Nothing;
+    let mut found = None;
+    // The file's next command is known only once this one is cut: no iterator walks so.
     loop {
         let t = sequence::turn_at(book, format, file, at);
         match t {

@@ -1,5 +1,6 @@
 -- Small laws: which piece a number falls into, words that are all 0, words apart, and what a name says.
 -- Assumes nothing.
+use Rattle.std.specs.Prelude.{None, Option, Some, ℕ}
 use Prim.Native.Nat.{ℕ, zero, suc, ◌+◌, ◌-◌, ◌≤◌, ◌<◌}
 use mathlib.Core.Path.{◌≡◌, refl, sym}
 use mathlib.Core.Bool.{Bool, true, false, cond}
@@ -17,8 +18,6 @@ use Rattle.sheet.proofs.Every.{sums_grow}
 use Rattle.sheet.specs.declared.Container.{Container}
 use Rattle.law_addresses.specs.declared.Spot.{Spot}
 use Rattle.law_addresses.specs.Sought.{further, all_zero, misses}
-use Rattle.law_addresses.specs.declared.Named.{Named}
-use Rattle.law_addresses.specs.declared.Named.TheVariants.{At, Nothing}
 
 -- a number below a sum falls into one of its parts
 pub record Lies (F : ℕ → ℕ) (p len n : ℕ) : Type 0 where
@@ -81,26 +80,26 @@ length_two (x ∷ []) l = absurd (omega arith)
 length_two (x ∷ y ∷ ys) l = refl
 
 -- what names say
-pub not_named : {n : ℕ} → ◌≡◌ {A = Named} Nothing (At n) → ⊥
+pub not_named : {n : ℕ} → ◌≡◌ {A = Option ℕ} None (Some n) → ⊥
 not_named q = let z : ◌≡◌ {A = ℕ} 0 1 = cc in omega arith
 
-pub at_same : {m n : ℕ} → ◌≡◌ {A = Named} (At m) (At n) → m ≡ n
+pub at_same : {m n : ℕ} → ◌≡◌ {A = Option ℕ} (Some m) (Some n) → m ≡ n
 at_same q = cc
 
-pub further_told : (b n : ℕ) (x : Named) → further b x ≡ At n → (j : ℕ) × (x ≡ At j) × (n ≡ b + j)
+pub further_told : (b n : ℕ) (x : Option ℕ) → further b x ≡ Some n → (j : ℕ) × (x ≡ Some j) × (n ≡ b + j)
 unfolding further
-further_told b n (At j) q = (j, refl, sym (at_same q))
-further_told b n Nothing q = absurd (not_named q)
+further_told b n (Some j) q = (j, refl, sym (at_same q))
+further_told b n None q = absurd (not_named q)
 
-pub further_at : (b j : ℕ) (x : Named) → x ≡ At j → further b x ≡ At (b + j)
+pub further_at : (b j : ℕ) (x : Option ℕ) → x ≡ Some j → further b x ≡ Some (b + j)
 unfolding further
 further_at b j x q = rw q
 
-pub cond_told : (t : Bool) (n : ℕ) (x : Named) → cond t x Nothing ≡ At n → (t ≡ true) × (x ≡ At n)
+pub cond_told : (t : Bool) (n : ℕ) (x : Option ℕ) → cond t x None ≡ Some n → (t ≡ true) × (x ≡ Some n)
 cond_told true n x q = (refl, q)
 cond_told false n x q = absurd (not_named q)
 
-pub cond_not : (t : Bool) (n : ℕ) (x : Named) → cond t Nothing x ≡ At n → (t ≡ false) × (x ≡ At n)
+pub cond_not : (t : Bool) (n : ℕ) (x : Option ℕ) → cond t None x ≡ Some n → (t ≡ false) × (x ≡ Some n)
 cond_not true n x q = absurd (not_named q)
 cond_not false n x q = (refl, q)
 

@@ -1,5 +1,6 @@
 -- At the top level: the search undoes the list of addresses, and the list the search.
 -- Assumes nothing.
+use Rattle.std.specs.Prelude.{None, Some}
 use Prim.Native.Nat.{ℕ, suc, ◌+◌, ◌-◌, ◌*◌, ◌/◌, ◌%◌, ◌≤◌, ◌<◌}
 use mathlib.Core.Path.{◌≡◌, refl, sym, ap, ◌∙◌}
 use mathlib.Core.Bool.{true, false, cond}
@@ -30,7 +31,6 @@ use Rattle.law_addresses.proofs.Fitting.{no_repeat}
 use Rattle.law_addresses.specs.Chains.{entry_chains, chains}
 use Rattle.law_addresses.specs.Addresses.{raised, addresses_as, entry_addresses, sheet_addresses}
 use Rattle.law_addresses.specs.Sought.{sought_as, misses, sought, sought_top_as, sought_top_at, sought_top}
-use Rattle.law_addresses.specs.declared.Named.TheVariants.{At, Nothing}
 use Rattle.law_addresses.proofs.Length.{used_block, body_sound, body_nine, body_count, length_body, length_plain, length_chains, address_at}
 use Rattle.law_addresses.proofs.Lies.{lies, below_sum, two_rest, length_two, not_named, further_told, further_at, cond_told, cond_not, misses_not, misses_told}
 use Rattle.law_addresses.proofs.Undo.{Undone, undone, chained, found, chain_head}
@@ -101,7 +101,7 @@ module _ (head e a : List ℕ) (v : valid head e a ≡ true) where
 
   plain_sought : (i copy left : ℕ) (rest : List ℕ) → (role_of (entry i).kind ≡ Draws) ⊎ (role_of (entry i).kind ≡ Uses) →
       sought_top_as (role_of (entry i).kind) e a copy left (entry i) rest
-      ≡ cond (eqb copy 0) (sought_as (role_of (entry i).kind) a (sought e a 8) (entry i) rest) Nothing
+      ≡ cond (eqb copy 0) (sought_as (role_of (entry i).kind) a (sought e a 8) (entry i) rest) None
   unfolding sought_top_as
   plain_sought i copy left rest (inl q) = rw q
   plain_sought i copy left rest (inr q) = rw q
@@ -123,7 +123,7 @@ module _ (head e a : List ℕ) (v : valid head e a ≡ true) where
         ∙ nth_map (λ c. 0 ∷ c) (entry_chains a 8 (chains e a 8) (suc (behind i)) (entry i)) j [] [] (omega arith)
 
     plain_back : (o : (role_of (entry i).kind ≡ Draws) ⊎ (role_of (entry i).kind ≡ Uses)) (j : ℕ) → j < size_of a (entry i) →
-        sought_top e a top (get_or (entry_addresses e a (behind i) (entry i)) j []) ≡ At ((entry i).before + j)
+        sought_top e a top (get_or (entry_addresses e a (behind i) (entry i)) j []) ≡ Some ((entry i).before + j)
     plain_back o j m =
         let c = chained e a 8 (suc (behind i)) (entry i) (under i l) (not_repeat i o) j m in
         let one = c.one in
@@ -160,8 +160,8 @@ module _ (head e a : List ℕ) (v : valid head e a ≡ true) where
           one_more : (n : ℕ) → 1 + n ≡ suc n
           one_more n = omega arith
 
-      repeat_sought : (copy left : ℕ) (rest : List ℕ) → copy < (entry i).sx * (entry i).sy → (m : ℕ) → sought e a 9 (body_of (entry i)) left rest ≡ At m →
-          sought_top_as (role_of (entry i).kind) e a (suc copy) left (entry i) rest ≡ At ((entry i).before + copy * (entry i).count + m)
+      repeat_sought : (copy left : ℕ) (rest : List ℕ) → copy < (entry i).sx * (entry i).sy → (m : ℕ) → sought e a 9 (body_of (entry i)) left rest ≡ Some m →
+          sought_top_as (role_of (entry i).kind) e a (suc copy) left (entry i) rest ≡ Some ((entry i).before + copy * (entry i).count + m)
       unfolding sought_top_as ◌and◌
       repeat_sought copy left rest lc m t =
           let one : suc copy - 1 ≡ copy = omega arith in
@@ -169,7 +169,7 @@ module _ (head e a : List ℕ) (v : valid head e a ≡ true) where
           (further_at ((entry i).before + copy * (entry i).count) m _ t)
 
       repeat_back : (copy m : ℕ) → copy < (entry i).sx * (entry i).sy → m < (entry i).count →
-          sought_top e a top (get_or (entry_addresses e a (behind i) (entry i)) (copy * (entry i).count + m) []) ≡ At ((entry i).before + copy * (entry i).count + m)
+          sought_top e a top (get_or (entry_addresses e a (behind i) (entry i)) (copy * (entry i).count + m) []) ≡ Some ((entry i).before + copy * (entry i).count + m)
       unfolding raised
       repeat_back copy m lc lm =
           let nine = body_nine head e a v (entry i) in
@@ -182,7 +182,7 @@ module _ (head e a : List ℕ) (v : valid head e a ≡ true) where
           ∙ top_in i c.0 (suc copy) c.1 l c.3 (omega arith)
           ∙ repeat_sought copy c.0 c.1 lc m (sym (ap (λ w. sought e a 9 (body_of (entry i)) (get_or w 0 0) (drop 1 w)) c.2) ∙ back)
 
-      repeat_all : (j : ℕ) → j < size_of a (entry i) → sought_top e a top (get_or (entry_addresses e a (behind i) (entry i)) j []) ≡ At ((entry i).before + j)
+      repeat_all : (j : ℕ) → j < size_of a (entry i) → sought_top e a top (get_or (entry_addresses e a (behind i) (entry i)) j []) ≡ Some ((entry i).before + j)
       repeat_all j m =
           let size = size_repeats a (entry i) q in
           let inside : j < (entry i).sx * (entry i).sy * (entry i).count = omega arith in
@@ -190,15 +190,15 @@ module _ (head e a : List ℕ) (v : valid head e a ≡ true) where
           let is = div-add-mod' j (entry i).count in
           ap (λ n. sought_top e a top (get_or (entry_addresses e a (behind i) (entry i)) n [])) (sym is)
           ∙ repeat_back (j / (entry i).count) (j % (entry i).count) ((div-lt_iff_lt-mul some).1 inside) (mod-lt j some)
-          ∙ ap At (omega arith)
+          ∙ ap Some (omega arith)
 
-    entry_back : (j : ℕ) → j < size_of a (entry i) → sought_top e a top (get_or (entry_addresses e a (behind i) (entry i)) j []) ≡ At ((entry i).before + j)
+    entry_back : (j : ℕ) → j < size_of a (entry i) → sought_top e a top (get_or (entry_addresses e a (behind i) (entry i)) j []) ≡ Some ((entry i).before + j)
     entry_back j m = go (role_of (entry i).kind) refl
       where
-        nothing : size_of a (entry i) ≡ 0 → sought_top e a top (get_or (entry_addresses e a (behind i) (entry i)) j []) ≡ At ((entry i).before + j)
+        nothing : size_of a (entry i) ≡ 0 → sought_top e a top (get_or (entry_addresses e a (behind i) (entry i)) j []) ≡ Some ((entry i).before + j)
         nothing z = absurd (omega arith)
 
-        go : (role : Role) → role_of (entry i).kind ≡ role → sought_top e a top (get_or (entry_addresses e a (behind i) (entry i)) j []) ≡ At ((entry i).before + j)
+        go : (role : Role) → role_of (entry i).kind ≡ role → sought_top e a top (get_or (entry_addresses e a (behind i) (entry i)) j []) ≡ Some ((entry i).before + j)
         go Draws q = plain_back (inl q) j m
         go Uses q = plain_back (inr q) j m
         go Repeats q = repeat_all q j m
@@ -206,13 +206,13 @@ module _ (head e a : List ℕ) (v : valid head e a ≡ true) where
         go Unknown q = nothing (unfold size_of size_as in rw q)
 
   -- the address of item n names item n
-  pub top_back : (n : ℕ) → n < top.items → sought_top e a top (address n) ≡ At n
+  pub top_back : (n : ℕ) → n < top.items → sought_top e a top (address n) ≡ Some n
   top_back n l =
       let whole = (top_sound head e a v).ok.items_are in
       let y = lies (size_at e a) top.first top.len n (omega arith) in
       ap (sought_top e a top) (ap address y.is ∙ address_at head e a v y.i y.j y.i_in y.j_in)
       ∙ entry_back y.i y.i_in y.j y.j_in
-      ∙ ap (λ m. At (m + y.j)) (starts y.i y.i_in) ∙ ap At (sym y.is)
+      ∙ ap (λ m. Some (m + y.j)) (starts y.i y.i_in) ∙ ap Some (sym y.is)
 
   -- what the search finds in an entry has that address
   record Named-in (i copy left : ℕ) (rest : List ℕ) (n : ℕ) : Type 0 where
@@ -223,7 +223,7 @@ module _ (head e a : List ℕ) (v : valid head e a ≡ true) where
 
   module _ (i : ℕ) (l : i < top.len) (copy left : ℕ) (rest : List ℕ) (n : ℕ) (some : 1 ≤ left) (held : left ≤ span_of e (entry i)) (long : length rest ≡ 8) where
     plain_forth : (o : (role_of (entry i).kind ≡ Draws) ⊎ (role_of (entry i).kind ≡ Uses)) →
-        sought_top_as (role_of (entry i).kind) e a copy left (entry i) rest ≡ At n → Named-in i copy left rest n
+        sought_top_as (role_of (entry i).kind) e a copy left (entry i) rest ≡ Some n → Named-in i copy left rest n
     plain_forth o t =
         let told = cond_told (eqb copy 0) n _ (sym (plain_sought i copy left rest o) ∙ t) in
         let zero-copy = eqb-true copy 0 told.0 in
@@ -237,14 +237,14 @@ module _ (head e a : List ℕ) (v : valid head e a ≡ true) where
           words = plain_at i l o f.j f.j_in ∙ ap (λ w. 0 ∷ w) f.chain ∙ (λ t. sym zero-copy t ∷ at t ∷ rest);
         }
 
-    repeat_told : role_of (entry i).kind ≡ Repeats → sought_top_as (role_of (entry i).kind) e a copy left (entry i) rest ≡ At n →
-        (1 ≤ copy) × (copy ≤ (entry i).sx * (entry i).sy) × ((m : ℕ) × (sought e a 9 (body_of (entry i)) left rest ≡ At m) × (n ≡ (entry i).before + (copy - 1) * (entry i).count + m))
+    repeat_told : role_of (entry i).kind ≡ Repeats → sought_top_as (role_of (entry i).kind) e a copy left (entry i) rest ≡ Some n →
+        (1 ≤ copy) × (copy ≤ (entry i).sx * (entry i).sy) × ((m : ℕ) × (sought e a 9 (body_of (entry i)) left rest ≡ Some m) × (n ≡ (entry i).before + (copy - 1) * (entry i).count + m))
     unfolding sought_top_as
     repeat_told q t =
         let told = cond_told (leb 1 copy and leb copy ((entry i).sx * (entry i).sy)) n _ (rw q at t) in
         (leb-true _ _ (and_l _ _ told.0), leb-true _ _ (and_r _ _ told.0), further_told ((entry i).before + (copy - 1) * (entry i).count) n _ told.1)
 
-    repeat_forth : role_of (entry i).kind ≡ Repeats → sought_top_as (role_of (entry i).kind) e a copy left (entry i) rest ≡ At n → Named-in i copy left rest n
+    repeat_forth : role_of (entry i).kind ≡ Repeats → sought_top_as (role_of (entry i).kind) e a copy left (entry i) rest ≡ Some n → Named-in i copy left rest n
     unfolding raised
     repeat_forth q t =
         let told = repeat_told q t in
@@ -267,7 +267,7 @@ module _ (head e a : List ℕ) (v : valid head e a ≡ true) where
           words = copy_at i l q (copy - 1) m below inside ∙ (λ t. up t ∷ raised (behind i) (w.1 t));
         }
 
-    entry_forth : sought_top_as (role_of (entry i).kind) e a copy left (entry i) rest ≡ At n → Named-in i copy left rest n
+    entry_forth : sought_top_as (role_of (entry i).kind) e a copy left (entry i) rest ≡ Some n → Named-in i copy left rest n
     unfolding sought_top_as
     entry_forth t = go (role_of (entry i).kind) refl
       where
@@ -279,12 +279,12 @@ module _ (head e a : List ℕ) (v : valid head e a ≡ true) where
         go Unknown q = absurd (not_named (rw q at t))
 
   -- what an address names has that address
-  module _ (w : List ℕ) (n : ℕ) (ten : length w ≡ 10) (t : sought_top e a top w ≡ At n) where
+  module _ (w : List ℕ) (n : ℕ) (ten : length w ≡ 10) (t : sought_top e a top w ≡ Some n) where
     abbrev sp : Spot
     sp = spot (span_at e) top.first top.len (get_or w 1 0)
 
     meets : (misses top (get_or w 1 0) sp ≡ false)
-        × (sought_top_as (role_of (entry_of e sp.entry).kind) e a (get_or w 0 0) sp.left (entry_of e sp.entry) (drop 2 w) ≡ At n)
+        × (sought_top_as (role_of (entry_of e sp.entry).kind) e a (get_or w 0 0) sp.left (entry_of e sp.entry) (drop 2 w) ≡ Some n)
     unfolding sought_top sought_top_at
     meets = cond_not _ n _ t
 

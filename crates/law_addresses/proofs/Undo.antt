@@ -1,5 +1,6 @@
 -- Within a block or a body: the search undoes the list of chains, and the list the search.
 -- Assumes nothing.
+use Rattle.std.specs.Prelude.{Some}
 use Prim.Native.Nat.{ℕ, zero, suc, ◌+◌, ◌≤◌, ◌<◌}
 use mathlib.Core.Path.{◌≡◌, refl, sym, ap, subst, ◌∙◌}
 use mathlib.Core.Bool.{true, false}
@@ -25,14 +26,13 @@ use Rattle.law_addresses.proofs.Spots.{Spotted, spotted, spot_at}
 use Rattle.law_addresses.proofs.Fitting.{no_repeat}
 use Rattle.law_addresses.specs.Chains.{chains_as, entry_chains, chains}
 use Rattle.law_addresses.specs.Sought.{all_zero, sought_as, misses, sought_at, sought}
-use Rattle.law_addresses.specs.declared.Named.TheVariants.{At}
 use Rattle.law_addresses.proofs.Length.{used_low, length_chains, chain_at}
 use Rattle.law_addresses.proofs.Lies.{lies, below_sum, zeros_are, are_zeros, first_rest, length_rest, not_named, at_same, further_told, further_at, cond_told, cond_not, misses_not, misses_told}
 
 -- in the container k the two undo each other
 pub record Undone (e a : List ℕ) (h : ℕ) (k : Container) : Type 0 where
-  pub back : (n : ℕ) → n < k.items → sought e a h k (get_or (get_or (chains e a h k) n []) 0 0) (drop 1 (get_or (chains e a h k) n [])) ≡ At n
-  pub forth : (q : ℕ) (rest : List ℕ) (n : ℕ) → suc (length rest) ≡ h → sought e a h k q rest ≡ At n → (n < k.items) × (get_or (chains e a h k) n [] ≡ q ∷ rest)
+  pub back : (n : ℕ) → n < k.items → sought e a h k (get_or (get_or (chains e a h k) n []) 0 0) (drop 1 (get_or (chains e a h k) n [])) ≡ Some n
+  pub forth : (q : ℕ) (rest : List ℕ) (n : ℕ) → suc (length rest) ≡ h → sought e a h k q rest ≡ Some n → (n < k.items) × (get_or (chains e a h k) n [] ≡ q ∷ rest)
 
 -- an entry that draws or uses a block takes one position, and one with items and no repeat does one of the two
 pub span_draws : (e : List ℕ) (r : Entry) → role_of r.kind ≡ Draws → span_of e r ≡ 1
@@ -58,7 +58,7 @@ module _ (e a : List ℕ) (h p : ℕ) (r : Entry) where
   pub record Chained (j : ℕ) : Type 0 where
     pub rest : List ℕ
     pub chain : get_or (entry_chains a h (chains e a h) p r) j [] ≡ p ∷ rest
-    pub finds : sought_as (role_of r.kind) a (sought e a h) r rest ≡ At (r.before + j)
+    pub finds : sought_as (role_of r.kind) a (sought e a h) r rest ≡ Some (r.before + j)
     pub one : span_of e r ≡ 1
 
   pub size_draws : role_of r.kind ≡ Draws → size_of a r ≡ 1
@@ -72,12 +72,12 @@ module _ (e a : List ℕ) (h p : ℕ) (r : Entry) where
   -- the block under it, where it uses one
   module _ (under : role_of r.kind ≡ Uses → Undone e a h (block_of a r.who) × (length (chains e a h (block_of a r.who)) ≡ (block_of a r.who).items) × (1 ≤ h))
       (other : role_of r.kind ≡ Repeats → ⊥) where
-    finds_draws : role_of r.kind ≡ Draws → sought_as (role_of r.kind) a (sought e a h) r (replicate h 0) ≡ At (r.before + 0)
+    finds_draws : role_of r.kind ≡ Draws → sought_as (role_of r.kind) a (sought e a h) r (replicate h 0) ≡ Some (r.before + 0)
     unfolding sought_as
     finds_draws q = rw (q, zeros_are h, add-zero r.before)
 
     finds_uses : role_of r.kind ≡ Uses → (j : ℕ) → j < (block_of a r.who).items →
-        sought_as (role_of r.kind) a (sought e a h) r (get_or (chains e a h (block_of a r.who)) j []) ≡ At (r.before + j)
+        sought_as (role_of r.kind) a (sought e a h) r (get_or (chains e a h (block_of a r.who)) j []) ≡ Some (r.before + j)
     unfolding sought_as
     finds_uses q j l = rw q (further_at r.before j _ ((under q).0.back j l))
 
@@ -109,13 +109,13 @@ module _ (e a : List ℕ) (h p : ℕ) (r : Entry) where
       pub chain : get_or (entry_chains a h (chains e a h) p r) j [] ≡ p ∷ rest
       pub one : span_of e r ≡ 1
 
-    pub found : (rest : List ℕ) (n : ℕ) → length rest ≡ h → sought_as (role_of r.kind) a (sought e a h) r rest ≡ At n → Finds rest n
+    pub found : (rest : List ℕ) (n : ℕ) → length rest ≡ h → sought_as (role_of r.kind) a (sought e a h) r rest ≡ Some n → Finds rest n
     unfolding sought_as
     found rest n long t = go (role_of r.kind) refl t
       where
-        go : (role : Role) → role_of r.kind ≡ role → sought_as role a (sought e a h) r rest ≡ At n → Finds rest n
+        go : (role : Role) → role_of r.kind ≡ role → sought_as role a (sought e a h) r rest ≡ Some n → Finds rest n
         go Draws q t =
-            let told = cond_told (all_zero rest) n (At r.before) t in
+            let told = cond_told (all_zero rest) n (Some r.before) t in
             let zeros : rest ≡ replicate h 0 = are_zeros rest told.0 ∙ ap (λ m. replicate m 0) long in
             let size = size_draws q in
             record {
@@ -166,7 +166,7 @@ module _ (head e a : List ℕ) (v : valid head e a ≡ true) where
         rw (at, misses_not k (suc (sums (span_at e) k.first i)) i 1 (omega arith) l)
 
     back_one : (n : ℕ) → n < k.items →
-        sought e a (suc h) k (get_or (get_or (chains e a (suc h) k) n []) 0 0) (drop 1 (get_or (chains e a (suc h) k) n [])) ≡ At n
+        sought e a (suc h) k (get_or (get_or (chains e a (suc h) k) n []) 0 0) (drop 1 (get_or (chains e a (suc h) k) n [])) ≡ Some n
     back_one n l =
         let y = lies (size_at e a) k.first k.len n (rw s.ok.items_are l) in
         let r = entry_of e (k.first + y.i) in
@@ -177,15 +177,15 @@ module _ (head e a : List ℕ) (v : valid head e a ≡ true) where
         ap (λ w. sought e a (suc h) k (get_or w 0 0) (drop 1 w)) is
         ∙ sought_in y.i y.i_in c.one c.rest
         ∙ c.finds
-        ∙ ap (λ m. At (m + y.j)) (s.ok.before_is y.i y.i_in)
-        ∙ ap At (sym y.is)
+        ∙ ap (λ m. Some (m + y.j)) (s.ok.before_is y.i y.i_in)
+        ∙ ap Some (sym y.is)
 
     -- the position that is sought is that of the entry where the search ends
-    module _ (q : ℕ) (rest : List ℕ) (n : ℕ) (long : length rest ≡ h) (t : sought e a (suc h) k q rest ≡ At n) where
+    module _ (q : ℕ) (rest : List ℕ) (n : ℕ) (long : length rest ≡ h) (t : sought e a (suc h) k q rest ≡ Some n) where
       sp : Spot
       sp = spot (span_at e) k.first k.len q
 
-      meets : (misses k q sp ≡ false) × (sought_as (role_of (entry_of e sp.entry).kind) a (sought e a h) (entry_of e sp.entry) rest ≡ At n)
+      meets : (misses k q sp ≡ false) × (sought_as (role_of (entry_of e sp.entry).kind) a (sought e a h) (entry_of e sp.entry) rest ≡ Some n)
       unfolding sought sought_at sp
       meets = cond_not _ n _ t
 

@@ -1,5 +1,5 @@
 -- The addresses of a sheet's items, in the order of the items: ten words each, the copy and nine positions (02, request [12]; decisions 331, 332).
-use Rattle.std.specs.Prelude.{ℕ, suc, ◌+◌, ◌*◌, Bool, true, false, cond, List, [], ◌∷◌, map, eqb, get_or, drop}
+use Rattle.std.specs.Prelude.{ℕ, suc, ◌+◌, ◌*◌, Bool, true, false, cond, List, [], ◌∷◌, map, eqb, get_or, drop, None, Option, Some}
 use Rattle.base.specs.And.{◌and◌}
 use Rattle.base.specs.Run.{run}
 use Rattle.sheet.specs.Records.{entry_of, role_of}
@@ -8,8 +8,6 @@ use Rattle.sheet.specs.declared.Entry.{Entry}
 use Rattle.sheet.specs.declared.Role.{Role}
 use Rattle.sheet.specs.declared.Role.TheVariants.{Draws, Uses, Repeats, Defines, Unknown}
 use Rattle.law_addresses.specs.Chains.{entry_chains, before, chains}
-use Rattle.law_addresses.specs.declared.Named.{Named}
-use Rattle.law_addresses.specs.declared.Named.TheVariants.{At, Nothing}
 
 -- at the top level the positions of a body go on from those before the repeat
 unfoldable pub raised : ℕ → List ℕ → List ℕ
@@ -36,11 +34,11 @@ same_words [] (y ∷ ys) = false
 same_words (x ∷ xs) [] = false
 same_words (x ∷ xs) (y ∷ ys) = eqb x y and same_words xs ys
 
-unfoldable pub later : Named → Named
-later (At n) = At (suc n)
-later Nothing = Nothing
+unfoldable pub later : Option ℕ → Option ℕ
+later (Some n) = Some (suc n)
+later None = None
 
 -- where an address stands among addresses
-unfoldable pub place_of : List ℕ → List (List ℕ) → Named
-place_of w [] = Nothing
-place_of w (v ∷ vs) = cond (same_words w v) (At 0) (later (place_of w vs))
+unfoldable pub place_of : List ℕ → List (List ℕ) → Option ℕ
+place_of w [] = None
+place_of w (v ∷ vs) = cond (same_words w v) (Some 0) (later (place_of w vs))

@@ -7,10 +7,3 @@ pub struct Spot {
     pub entry: usize,
     pub left: u64,
 }
-
-// What an address names: the item with a number, or nothing.
-#[derive(Clone, Copy)]
-pub enum Named {
-    At(u64),
-    Nothing,
-}

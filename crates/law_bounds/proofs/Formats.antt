@@ -1,5 +1,6 @@
 -- What FS says in either edition is a format: six places at most before the point and after it, one at least in all.
 -- Assumes nothing.
+use Rattle.std.specs.Prelude.{Err, Ok, Result}
 use Prim.Native.Nat.{ℕ, ◌-◌, ◌≤◌}
 use mathlib.Core.Path.{◌≡◌, refl, sym, ap, subst, ◌∙◌}
 use mathlib.Core.Bool.{Bool, true, false, not}
@@ -18,18 +19,18 @@ use Rattle.text.specs.Text.{byte}
 use Rattle.formats.specs.Format.{is_format, newer}
 use Rattle.formats.specs.Texts.{newer_format, of_form, old_format}
 use Rattle.formats.specs.declared.Format.{Format}
-use Rattle.formats.specs.declared.Said.{Said}
-use Rattle.formats.specs.declared.Said.TheVariants.{NotForm, SevenPlaces, Is}
 use Rattle.law_bounds.proofs.Tables.{picks, neither}
+use Rattle.formats.specs.declared.FormatError.TheVariants as format_error
+use Rattle.formats.specs.declared.FormatError.{FormatError}
 
 -- whatever format it says is one
-abbrev Formats : Said → Type 0
-Formats a = (f : Format) → a ≡ Is f → is_format f ≡ true
+abbrev Formats : Result Format FormatError → Type 0
+Formats a = (f : Format) → a ≡ Ok f → is_format f ≡ true
 
-no_format_lem : {a : Said} → ((f : Format) → a ≡ Is f → ⊥) → Formats a
+no_format_lem : {a : Result Format FormatError} → ((f : Format) → a ≡ Ok f → ⊥) → Formats a
 no_format_lem h f e = absurd (h f e)
 
-is_format_lem : {f : Format} → is_format f ≡ true → Formats (Is f)
+is_format_lem : {f : Format} → is_format f ≡ true → Formats (Ok f)
 is_format_lem {f = f} h g e = let q : f ≡ g = cc in subst (λ (x : Format). is_format x ≡ true) q h
 
 -- a byte of a place, of which the digit is told
@@ -67,7 +68,7 @@ six n h e = let k : n ≡ 55 → ⊥ = eqb-false n 55 e in omega arith
 
 module _ (n m : ℕ) (trailing incremental : Bool) where
   by_seven : (t : Bool) → (byte "7" n or byte "7" m) ≡ t → 48 ≤ n → n ≤ 55 → 48 ≤ m → m ≤ 55 → not (byte "0" n and byte "0" m) ≡ true →
-      Formats (pick t SevenPlaces (Is (record { integers = n - 48; decimals = m - 48; trailing = trailing; incremental = incremental })))
+      Formats (pick t (Err format_error.SevenPlaces) (Ok (record { integers = n - 48; decimals = m - 48; trailing = trailing; incremental = incremental })))
   unfolding pick
   by_seven true e a b c d some = no_format_lem (λ f q. let z : ◌≡◌ {A = ℕ} 0 1 = cc in absurd (omega arith))
   by_seven false e a b c d some =

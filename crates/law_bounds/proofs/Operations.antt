@@ -1,5 +1,6 @@
 -- D01, D02 and D03: no field is as large as 10 ^ 12, in any format.
 -- Assumes nothing.
+use Rattle.std.specs.Prelude.{None, Some, Err, Ok, Result, ℤ}
 use Prim.Native.Nat.{ℕ, ◌+◌, ◌^◌, ◌≤◌}
 use mathlib.Core.Path.{◌≡◌, refl}
 use mathlib.Core.Bool.{Bool, true, false, cond}
@@ -10,13 +11,10 @@ use lib.IntN.{nat_abs}
 use lib.ListN.{get_or}
 use Rattle.points.specs.Points.{Within}
 use Rattle.digits.specs.Sign.{is_sign}
-use Rattle.digits.specs.declared.answers.Coordinate.{Coordinate}
-use Rattle.digits.specs.declared.answers.Coordinate.TheVariants as coordinate
 use Rattle.digits.specs.declared.answers.Taken.{Taken}
 use Rattle.formats.specs.Values.{coordinate_in, taken_in}
 use Rattle.formats.specs.declared.Format.{Format}
 use Rattle.formats.proofs.Laws.{coordinate_small}
-use Rattle.command.specs.declared.Axis.TheVariants as axis
 use Rattle.operations.specs.Coordinates.{given, missing, field_at, fields_in}
 use Rattle.operations.specs.Operations.{axis_of, offset_of as offset_in, draw, without_offset, move, flash, operation_in}
 use Rattle.operations.specs.declared.Field.{Field}
@@ -26,6 +24,8 @@ use Rattle.operations.specs.declared.Written.{Written}
 use Rattle.graphics.specs.Graphics.{origin}
 use Rattle.operation_tests.specs.Fits.{offset_of}
 use Rattle.law_bounds.specs.Bounded.{AxisWithin, Goes, OperationBounded}
+use Rattle.digits.specs.declared.answers.NumberError.TheVariants as number_error
+use Rattle.digits.specs.declared.answers.NumberError.{NumberError}
 
 -- a field's value, which is 0 without one
 record Near (f : Field) : Type 0 where
@@ -42,10 +42,10 @@ module _ (f : Format) where
   unfolding given
   given_near sign t = go (coordinate_in f t) refl
     where
-      go : (c : Coordinate) → coordinate_in f t ≡ c → Near (given sign c)
-      go coordinate.NotForm e = record { near = omega arith }
-      go coordinate.TooLong e = record { near = omega arith }
-      go (coordinate.Value v) e = record { near = omega (arith, coordinate_small f t v e) }
+      go : (c : Result ℤ NumberError) → coordinate_in f t ≡ c → Near (given sign c)
+      go (Err number_error.NotForm) e = record { near = omega arith }
+      go (Err number_error.TooLong) e = record { near = omega arith }
+      go (Ok v) e = record { near = omega (arith, coordinate_small f t v e) }
 
   field_near : (letter : ℕ) (s : List ℕ) (at : ℕ) → Near (field_at f letter s at).field
   unfolding field_at taken_in missing
@@ -66,7 +66,7 @@ axis_within : (f : Field) → Near f → AxisWithin (axis_of f)
 unfolding axis_of
 axis_within f h = go f.given
   where
-    go : (t : Bool) → AxisWithin (cond t (axis.At f.value) axis.Missing)
+    go : (t : Bool) → AxisWithin (cond t (Some f.value) None)
     go true = h.near
     go false = tt
 

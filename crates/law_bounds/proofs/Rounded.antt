@@ -1,5 +1,6 @@
 -- No recognised command has more decimals that were rounded than its text has bytes, so that a sum over a file is no more than its length.
 -- Assumes nothing.
+use Rattle.std.specs.Prelude.{Err, Ok, Result}
 use Prim.Native.Nat.{ℕ, ◌-◌, ◌≤◌}
 use Prim.Native.Char.{code}
 use mathlib.Core.List.{List}
@@ -18,8 +19,6 @@ use Rattle.command.specs.declared.Command.{Command}
 use Rattle.command.proofs.Rounded.{counted_within}
 use Rattle.book.specs.declared.Book.{Book}
 use Rattle.formats.specs.declared.Format.{Format}
-use Rattle.formats.specs.declared.Said.{Said}
-use Rattle.formats.specs.declared.Said.TheVariants as said
 use Rattle.films.specs.Words as film
 use Rattle.films.specs.declared.Word.{Word}
 use Rattle.films.specs.declared.Word.TheVariants as word
@@ -41,6 +40,8 @@ use Rattle.macro_form.specs.Macro.{headed, macro_of}
 use Rattle.macro_form.proofs.Few.{blocks_few}
 use Rattle.recognise.specs.Commands.{data_of, data_in, extended_of, command_of}
 use Rattle.law_bounds.proofs.Tables.{picks, judges, begins_long}
+use Rattle.formats.specs.declared.FormatError.TheVariants as format_error
+use Rattle.formats.specs.declared.FormatError.{FormatError}
 
 module _ (s : List ℕ) where
   -- no more of its decimals were rounded than there are bytes
@@ -102,11 +103,11 @@ module _ (s : List ℕ) where
   word_few book f = picks Few (λ e. said_few f (film.word_of s)) (newer_few f)
 
   -- nor have FS, MO, AB and the attributes
-  formatted_few : (a : Said) → Few (formatted a)
+  formatted_few : (a : Result Format FormatError) → Few (formatted a)
   unfolding formatted rounded_of rounded_in_setting
-  formatted_few said.NotForm = none
-  formatted_few said.SevenPlaces = none
-  formatted_few (said.Is f) = none
+  formatted_few (Err format_error.NotForm) = none
+  formatted_few (Err format_error.SevenPlaces) = none
+  formatted_few (Ok f) = none
 
   format_few : (book : Book) → Few (format_of book s)
   unfolding format_of

@@ -1,5 +1,6 @@
 -- FS, MO, SR and the transformations.
 -- Assumes nothing.
+use Rattle.std.specs.Prelude.{Err, Ok, Result}
 use Prim.Native.Nat.{ℕ}
 use mathlib.Core.Path.{◌≡◌, refl}
 use mathlib.Core.Bool.{true}
@@ -11,8 +12,6 @@ use Rattle.book.specs.declared.Book.{Book}
 use Rattle.formats.specs.Format.{is_format}
 use Rattle.formats.specs.Texts.{newer_format, old_format}
 use Rattle.formats.specs.declared.Format.{Format}
-use Rattle.formats.specs.declared.Said.{Said}
-use Rattle.formats.specs.declared.Said.TheVariants as said
 use Rattle.settings.specs.Header.{formatted, format_of, unit_of}
 use Rattle.settings.specs.Repeats.{repeats, repeat_start, repeat_of}
 use Rattle.settings.specs.Transformations.{rotation_of, scale_of, mirror_of, transformation_of}
@@ -20,18 +19,20 @@ use Rattle.law_bounds.specs.Bounded.{SettingBounded, BracketBounded, Bounded}
 use Rattle.law_bounds.proofs.Tables.{picks, judges}
 use Rattle.law_bounds.proofs.Numbers.{copies_most, size_small}
 use Rattle.law_bounds.proofs.Formats.{newer_formats, old_formats}
+use Rattle.formats.specs.declared.FormatError.TheVariants as format_error
+use Rattle.formats.specs.declared.FormatError.{FormatError}
 
 -- what FS says is a format, in either edition
 module _ (s : List ℕ) where
-  formatted_bounded : (a : Said) → ((f : Format) → a ≡ said.Is f → is_format f ≡ true) → Bounded s (formatted a)
+  formatted_bounded : (a : Result Format FormatError) → ((f : Format) → a ≡ Ok f → is_format f ≡ true) → Bounded s (formatted a)
   unfolding formatted Bounded SettingBounded
-  formatted_bounded said.NotForm h = tt
-  formatted_bounded said.SevenPlaces h = tt
-  formatted_bounded (said.Is f) h = h f refl
+  formatted_bounded (Err format_error.NotForm) h = tt
+  formatted_bounded (Err format_error.SevenPlaces) h = tt
+  formatted_bounded (Ok f) h = h f refl
 
   pub format_bounded : (book : Book) → Bounded s (format_of book s)
   unfolding format_of
-  format_bounded book = picks (λ (a : Said). Bounded s (formatted a)) (λ e. formatted_bounded (old_format s) (old_formats s)) (formatted_bounded (newer_format s) (newer_formats s))
+  format_bounded book = picks (λ (a : Result Format FormatError). Bounded s (formatted a)) (λ e. formatted_bounded (old_format s) (old_formats s)) (formatted_bounded (newer_format s) (newer_formats s))
 
   pub unit_bounded : Bounded s (unit_of s)
   unfolding unit_of Bounded SettingBounded

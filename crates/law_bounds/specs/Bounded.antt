@@ -1,11 +1,8 @@
 -- What every recognised command keeps, for whoever computes with its numbers and cuts its spans out of the file (01, Form).
-use Rattle.std.specs.Prelude.{ℕ, ◌^◌, ◌≤◌, ◌<◌, ◌≡◌, true, List, nat_abs, length}
+use Rattle.std.specs.Prelude.{ℕ, ◌^◌, ◌≤◌, ◌<◌, ◌≡◌, true, List, nat_abs, length, None, Option, Some, ℤ}
 use Rattle.points.specs.Points.{Within}
 use Rattle.formats.specs.Format.{is_format}
 use Rattle.decimal.specs.declared.answers.Amount.{Amount}
-use Rattle.command.specs.declared.Axis.{Axis}
-use Rattle.command.specs.declared.Axis.TheVariants as axis
-use Rattle.command.specs.declared.Offset.{Offset}
 use Rattle.command.specs.declared.Span.{Span}
 use Rattle.command.specs.declared.Setting.{Setting}
 use Rattle.command.specs.declared.Setting.TheVariants as setting
@@ -20,19 +17,20 @@ use Rattle.command.specs.declared.Deed.TheVariants as deed
 use Rattle.command.specs.declared.Command.{Command}
 use Rattle.command.specs.declared.Command.TheVariants.{Broken, Note, End, Set, Operate, Coded, Select, Define, Contain, Attribute}
 use Rattle.operation_tests.specs.Fits.{offset_of}
+use Rattle.command.specs.declared.Offset.{Offset}
 
 -- "1 to n+6 digits as written (12 before FS)", in the old edition n+m: twelve digits at most
-abbrev pub AxisWithin : Axis → Type 0
-AxisWithin axis.Missing = Unit
-AxisWithin (axis.At v) = nat_abs v ≤ 10 ^ 12
+abbrev pub AxisWithin : Option ℤ → Type 0
+AxisWithin None = Unit
+AxisWithin (Some v) = nat_abs v ≤ 10 ^ 12
 
 -- where an operation goes to
-pub record Goes (x y : Axis) : Type 0 where
+pub record Goes (x y : Option ℤ) : Type 0 where
   pub across : AxisWithin x
   pub up : AxisWithin y
 
 -- D01, with its I and J
-pub record Draws (x y : Axis) (o : Offset) : Type 0 where
+pub record Draws (x y : Option ℤ) (o : Option Offset) : Type 0 where
   pub goes : Goes x y
   pub centre : Within (10 ^ 12) (offset_of o)
 

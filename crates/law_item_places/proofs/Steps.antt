@@ -1,11 +1,10 @@
 -- Every command leaves marks at its own place, and only D01 and D03 leave items.
 -- Assumes nothing.
+use Rattle.std.specs.Prelude.{Option, ℤ}
 use Prim.Native.Nat.{ℕ}
 use mathlib.Core.Path.{◌≡◌, refl}
 use mathlib.Core.Bool.{Bool, true, false, cond}
 use mathlib.Core.List.{List, [], ◌∷◌}
-use Rattle.command.specs.declared.Axis.{Axis}
-use Rattle.command.specs.declared.Offset.{Offset}
 use Rattle.command.specs.declared.Operation.{Operation}
 use Rattle.command.specs.declared.Operation.TheVariants as operation
 use Rattle.command.specs.declared.Definition.{Definition}
@@ -56,9 +55,10 @@ use Rattle.law_reading.specs.Steps.{
 use Rattle.layer.specs.Made.{made_by_operation, made_of}
 use Rattle.layer.specs.declared.Made.TheVariants.{Item}
 use Rattle.law_item_places.proofs.Plain.{draws, contours, edges, flashes, opens, closes, AllMarked, unmarked, marked_more, marks_append}
+use Rattle.command.specs.declared.Offset.{Offset}
 
 module _ (P : ℕ → Type 0) (room : Room) (t : List ℕ) (place : ℕ) where
-  draw_marked : (g : Graphics) (x y : Axis) (o : Offset) → P place → AllMarked P (draw_marks g x y o place)
+  draw_marked : (g : Graphics) (x y : Option ℤ) (o : Option Offset) → P place → AllMarked P (draw_marks g x y o place)
   unfolding draw_marks drawn edge contour
   draw_marked g x y o p = go g.region.on (starts_contour g.region)
     where
@@ -70,7 +70,7 @@ module _ (P : ℕ → Type 0) (room : Room) (t : List ℕ) (place : ℕ) where
       go true false = marked_more (edges p) unmarked
       go false starts = marked_more (draws p) unmarked
 
-  flash_marked : (g : Graphics) (x y : Axis) → P place → AllMarked P (flash_marks g x y place)
+  flash_marked : (g : Graphics) (x y : Option ℤ) → P place → AllMarked P (flash_marks g x y place)
   unfolding flash_marks flashed
   flash_marked g x y p = go g.aperture.block
     where

@@ -1,5 +1,6 @@
 -- An account: what reading knows of items, blocks and repeats, paired with the sizes of the sheet so far; each mark keeps it.
 -- Assumes nothing.
+use Rattle.std.specs.Prelude.{Option, ℤ}
 use Prim.Native.Nat.{ℕ, ◌+◌, ◌*◌}
 use mathlib.Core.Path.{◌≡◌, refl, sym, ap, ◌∙◌, subst}
 use mathlib.Core.Bool.{Bool, true, false, cond, false≢true}
@@ -12,8 +13,6 @@ use borrow.Author.Tests.{ne_eqb, eqb-true, eqb-false}
 use Rattle.base.specs.And.{◌and◌}
 use Rattle.place.specs.declared.Repeat.{Repeat}
 use Rattle.place.specs.Mark.{Mark}
-use Rattle.command.specs.declared.Axis.{Axis}
-use Rattle.command.specs.declared.Offset.{Offset}
 use Rattle.graphics.specs.Level as level
 use Rattle.graphics.specs.declared.Graphics.{Graphics}
 use Rattle.graphics.specs.declared.Level.{Level}
@@ -31,6 +30,7 @@ use Rattle.law_kept.specs.Counted.{put_out, Counts}
 use Rattle.law_kept.proofs.Sizes as size
 use Rattle.law_kept.proofs.Sizes.{Stack, Size, count_of, more, shut, sizes, sized, sizes_append, out_of, put_out_size}
 use Rattle.law_kept.proofs.Found.{found_stays, taken_stays, taken_found, added_found, new_found, new_taken, closing_taken, closing_other, closing_same}
+use Rattle.command.specs.declared.Offset.{Offset}
 
 -- what reading knows to be open, with the items before each
 abbrev Fits : List Opened → Level → Stack → Type 0
@@ -110,7 +110,7 @@ module _ {chosen : Selected} {l : Level} {os : List Opened} {known : List Apertu
       go (opened.repeat around ∷ os) (size.in_repeat r b st) f = rw (f.0, f.1, f.2, k.here)
 
 -- a D01 leaves as many items as it counts
-pub draw_size : (g : Graphics) (x y : Axis) (o : Offset) (place : ℕ) (z : Size) → sizes (draw_marks g x y o place) z ≡ more (draw_items g) z
+pub draw_size : (g : Graphics) (x y : Option ℤ) (o : Option Offset) (place : ℕ) (z : Size) → sizes (draw_marks g x y o place) z ≡ more (draw_items g) z
 unfolding draw_marks draw_items starts_contour ◌and◌
 draw_size g x y o place z = go g.region.on refl g.region.contour refl
   where
@@ -123,7 +123,7 @@ draw_size g x y o place z = go g.region.on refl g.region.contour refl
     go false p begun q = rw p
 
 -- so does a D03
-pub flash_size : (g : Graphics) (x y : Axis) (place : ℕ) (z : Size) → (g.aperture.block ≡ true → g.aperture.items ≡ count_of g.aperture.number z.blocks) →
+pub flash_size : (g : Graphics) (x y : Option ℤ) (place : ℕ) (z : Size) → (g.aperture.block ≡ true → g.aperture.items ≡ count_of g.aperture.number z.blocks) →
     sizes (flash_marks g x y place) z ≡ more (flash_items g) z
 unfolding flash_marks flash_items
 flash_size g x y place z held = go g.aperture.block refl

@@ -1,6 +1,7 @@
 -- What an operation's text says is where it goes: of every recogniser only those of D01, D02 and D03 make operations, and their fields are
 -- the coordinates of the text, which in the old book stand after its G code; the format is that of the FS before it, which reading knows.
 -- Assumes nothing.
+use Rattle.std.specs.Prelude.{Option, ℤ}
 use Prim.Native.Nat.{ℕ, ◌+◌, ◌-◌}
 use mathlib.Core.Path.{◌≡◌, refl, sym, ap, ◌∙◌, subst}
 use mathlib.Core.Bool.{Bool, true, false, cond}
@@ -13,8 +14,6 @@ use Rattle.formats.specs.declared.Format.{Format}
 use Rattle.points.specs.declared.Point.{Point}
 use Rattle.place.specs.Mark as mark
 use Rattle.place.specs.Mark.{Mark}
-use Rattle.command.specs.declared.Axis.{Axis}
-use Rattle.command.specs.declared.Offset.{Offset}
 use Rattle.command.specs.declared.Setting.{Setting}
 use Rattle.command.specs.declared.Operation.{Operation}
 use Rattle.command.specs.declared.Operation.TheVariants as operation
@@ -34,6 +33,7 @@ use Rattle.law_kept.specs.Coordinates.{Goes, coordinates_in, Draws, Flashes, Put
 use Rattle.law_kept.proofs.Cut.{Cut, AllCut, commands_known}
 use Rattle.law_kept.proofs.Carried.{setting_point, format_in, step_format}
 use Rattle.law_kept.proofs.Spelt.{SpeltAs, Steady, Spelt, spelt}
+use Rattle.command.specs.declared.Offset.{Offset}
 
 cut_spelt : {book : Book} {file : List ℕ} {f : Format} {c : Placed} → Cut book file f c → Spelt f (coordinates_in book (slice c.from c.end file)) c.command
 cut_spelt {book = book} {file = file} {f = f} {c = c} k =
@@ -49,7 +49,7 @@ cut_kept {book = book} {room = room} {file = file} {s = s} c after (one {c = b} 
     (subst (λ (f : Format). AllCut book file f (bs ++ c ∷ after)) (sym (step_format room _ b.place _ _ b.command s (cut_spelt k.0))) k.1)
 
 -- what operations leave
-draws : (g : Graphics) (x y : Axis) (o : Offset) (place : ℕ) → Draws g.point.at (target g x y) (draw_marks g x y o place)
+draws : (g : Graphics) (x y : Option ℤ) (o : Option Offset) (place : ℕ) → Draws g.point.at (target g x y) (draw_marks g x y o place)
 unfolding Draws draw_marks items.drawn items.edge items.contour
 draws g x y o place = go g.region.on (starts_contour g.region)
   where
@@ -60,7 +60,7 @@ draws g x y o place = go g.region.on (starts_contour g.region)
     go true false = (refl, refl, tt)
     go false first = (refl, refl, tt)
 
-flashes : (g : Graphics) (x y : Axis) (place : ℕ) → Flashes (target g x y) (flash_marks g x y place)
+flashes : (g : Graphics) (x y : Option ℤ) (place : ℕ) → Flashes (target g x y) (flash_marks g x y place)
 unfolding Flashes flash_marks items.flashed items.pose
 flashes g x y place = go g.aperture.block
   where

@@ -1,5 +1,6 @@
 -- A step uses the entries that document 01 counts, and so do the commands that are kept: by induction over them.
 -- Assumes nothing.
+use Rattle.std.specs.Prelude.{Option, ℤ}
 use Prim.Native.Nat.{ℕ, suc, ◌+◌}
 use mathlib.Core.Path.{◌≡◌, refl, ap, ◌∙◌}
 use mathlib.Core.Bool.{Bool, true, false, not}
@@ -8,8 +9,6 @@ use native.Mathlib.Omega.{arith}
 use Rattle.book.specs.declared.Book.{Book}
 use Rattle.base.specs.And.{◌and◌}
 use Rattle.place.specs.Mark.{Mark, draw, contour, edge, flash, begin, finish}
-use Rattle.command.specs.declared.Axis.{Axis}
-use Rattle.command.specs.declared.Offset.{Offset}
 use Rattle.command.specs.declared.Setting.{Setting}
 use Rattle.command.specs.declared.Operation.{Operation}
 use Rattle.command.specs.declared.Operation.TheVariants as operation
@@ -62,6 +61,7 @@ use Rattle.law_reading.specs.Steps.{
 use Rattle.law_reading.specs.Reading.{step_at}
 use Rattle.law_kept.specs.Kept.{Keeps, nothing, one, KeepsRules}
 use Rattle.law_kept.specs.Entries.{operation_entries, bracket_entries, command_entries, entries_for, contours}
+use Rattle.command.specs.declared.Offset.{Offset}
 
 contours_append : (ms ns : List Mark) → contours (ms ++ ns) ≡ contours ms + contours ns
 unfolding contours
@@ -74,7 +74,7 @@ contours_append (begin o ∷ ms) ns = contours_append ms ns
 contours_append (finish ∷ ms) ns = contours_append ms ns
 
 -- a D01 uses one entry, and one for the contour that it starts
-draw_uses : (g : Graphics) (x y : Axis) (o : Offset) (place : ℕ) → draw_items g ≡ 1 + contours (draw_marks g x y o place)
+draw_uses : (g : Graphics) (x y : Option ℤ) (o : Option Offset) (place : ℕ) → draw_items g ≡ 1 + contours (draw_marks g x y o place)
 unfolding draw_items draw_marks starts_contour contours ◌and◌
 draw_uses g x y o place = go g.region.on refl g.region.contour refl
   where
@@ -83,7 +83,7 @@ draw_uses g x y o place = go g.region.on refl g.region.contour refl
     go true p false q = rw (p, q)
     go false p begun q = rw p
 
-flash_uses : (g : Graphics) (x y : Axis) (place : ℕ) → contours (flash_marks g x y place) ≡ 0
+flash_uses : (g : Graphics) (x y : Option ℤ) (place : ℕ) → contours (flash_marks g x y place) ≡ 0
 unfolding flash_marks contours
 flash_uses g x y place = go g.aperture.block refl
   where

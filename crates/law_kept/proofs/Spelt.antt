@@ -1,5 +1,6 @@
 -- What an operation's text says of where it goes: of every recogniser only those of D01, D02 and D03 make operations, by their coordinates.
 -- Assumes nothing.
+use Rattle.std.specs.Prelude.{Option, ℤ, Err, Ok, Result}
 use Prim.Native.Nat.{ℕ, ◌+◌, ◌-◌}
 use Prim.Native.Char.{code}
 use mathlib.Core.Path.{◌≡◌, refl, sym, subst}
@@ -16,8 +17,6 @@ use Rattle.book.specs.Books.{is_old}
 use Rattle.book.specs.declared.Book.{Book}
 use Rattle.formats.specs.Values.{taken_in}
 use Rattle.formats.specs.declared.Format.{Format}
-use Rattle.formats.specs.declared.Said.{Said}
-use Rattle.formats.specs.declared.Said.TheVariants as said
 use Rattle.films.specs.Codes.{operation_length}
 use Rattle.films.specs.Words as films
 use Rattle.films.specs.Words.{operate_of, coded_of, general_of, miscellaneous_of, other_of}
@@ -27,15 +26,12 @@ use Rattle.points.specs.Points.{pt}
 use Rattle.points.specs.declared.Point.{Point}
 use Rattle.digits.specs.Digits.{past_digits}
 use Rattle.digits.specs.Sign.{is_sign}
-use Rattle.digits.specs.declared.answers.Coordinate.{Coordinate}
-use Rattle.digits.specs.declared.answers.Coordinate.TheVariants as coordinate
 use Rattle.operations.specs.Coordinates.{given, missing, field_at, fields_in}
 use Rattle.operations.specs.Operations as op
 use Rattle.operations.specs.declared.TakenField.{TakenField}
 use Rattle.operations.specs.declared.Written.{Written}
 use Rattle.scan.specs.declared.Kind.{Kind}
 use Rattle.scan.specs.declared.Kind.TheVariants as kind
-use Rattle.command.specs.declared.Axis.{Axis}
 use Rattle.command.specs.declared.Setting.{Setting}
 use Rattle.command.specs.declared.Operation.{Operation}
 use Rattle.command.specs.declared.Operation.TheVariants as operation
@@ -59,6 +55,10 @@ use Rattle.graphics.specs.declared.Graphics.{Graphics}
 use Rattle.changes.specs.After.{along, with_coded, after_setting}
 use Rattle.law_kept.specs.Coordinates as says
 use Rattle.law_kept.specs.Coordinates.{Says, Goes, first_coordinate, operation_at, coordinates_in}
+use Rattle.digits.specs.declared.answers.NumberError.TheVariants as number_error
+use Rattle.digits.specs.declared.answers.NumberError.{NumberError}
+use Rattle.formats.specs.declared.FormatError.TheVariants as format_error
+use Rattle.formats.specs.declared.FormatError.{FormatError}
 
 -- a field of good form, as long as it may be
 field_says : (f : Format) (incremental : Bool) (letter : ℕ) (u : List ℕ) (at : ℕ) (old : ℤ) → (field_at f letter u at).field.formless ≡ false →
@@ -68,24 +68,24 @@ unfolding field_at op.axis_of along given missing
 field_says f incremental letter u at old formed short =
     go (eqb (get_or u at 0) letter) refl (is_sign (get_or u (at + 1) 0)) (taken_in f u (at + 1)).coordinate refl formed short
   where
-    taken : Bool → Bool → Coordinate → TakenField
+    taken : Bool → Bool → Result ℤ NumberError → TakenField
     taken t sign c =
         cond {A = TakenField} t (record { field = given sign c; next = (taken_in f u (at + 1)).next }) (record { field = missing; next = at })
 
-    go : (t : Bool) → eqb (get_or u at 0) letter ≡ t → (sign : Bool) (c : Coordinate) → (taken_in f u (at + 1)).coordinate ≡ c →
+    go : (t : Bool) → eqb (get_or u at 0) letter ≡ t → (sign : Bool) (c : Result ℤ NumberError) → (taken_in f u (at + 1)).coordinate ≡ c →
         (taken t sign c).field.formless ≡ false → (taken t sign c).field.long ≡ false →
         Says f incremental letter u at old (along incremental (op.axis_of (taken t sign c).field) old) (taken t sign c).next
-    go true e sign coordinate.NotForm q f l = absurd (false≢true (sym f))
-    go true e sign coordinate.TooLong q f l = absurd (false≢true (sym l))
-    go true e sign (coordinate.Value v) q f l = says.digits e q
+    go true e sign (Err number_error.NotForm) q f l = absurd (false≢true (sym f))
+    go true e sign (Err number_error.TooLong) q f l = absurd (false≢true (sym l))
+    go true e sign (Ok v) q f l = says.digits e q
     go false e sign c q f l = says.missing e
 
 -- where an operation with these axes goes
-abbrev goes_by : Bool → Axis → Axis → Point → Point
+abbrev goes_by : Bool → Option ℤ → Option ℤ → Point → Point
 goes_by incremental x y old = pt (along incremental x old.x) (along incremental y old.y)
 
 -- what the text of its coordinates says of an operation
-abbrev SpeltBy : Format → List ℕ → Axis → Axis → Type 0
+abbrev SpeltBy : Format → List ℕ → Option ℤ → Option ℤ → Type 0
 SpeltBy f u x y = (incremental : Bool) (old : Point) → Goes f incremental u old (goes_by incremental x y old)
 
 fields_go : (f : Format) (u : List ℕ) → op.broken (fields_in f u) ≡ false → op.too_long (fields_in f u) ≡ false →
@@ -194,11 +194,11 @@ module _ (f : Format) (u : List ℕ) where
       (λ e. picks (Spelt f u) (λ e. tt) (picks (Spelt f u) (λ e. tt) (picks (Spelt f u) (λ e. tt) (picks (Spelt f u) (λ e. tt) tt))))
       (picks (Spelt f u) (λ e. judges (Spelt f u) tt tt (λ f l. tt)) (picks (Spelt f u) (λ e. judges (Spelt f u) tt tt (λ f l. tt)) tt))))
 
-  formatted_none : (x : Said) → Spelt f u (formatted x)
+  formatted_none : (x : Result Format FormatError) → Spelt f u (formatted x)
   unfolding formatted
-  formatted_none said.NotForm = tt
-  formatted_none said.SevenPlaces = tt
-  formatted_none (said.Is g) = tt
+  formatted_none (Err format_error.NotForm) = tt
+  formatted_none (Err format_error.SevenPlaces) = tt
+  formatted_none (Ok g) = tt
 
   data_none : (book : Book) (t : List ℕ) → Spelt f u (data_of book t)
   unfolding data_of format_of unit_of repeat_of block_of block_start ad.aperture_of ad.definition deletion_of attribute_of

@@ -1,12 +1,11 @@
 -- Every coordinate is exact: from the digits of an operation's text to the points of what it leaves (01, Form, State and Items; 02, [9]).
-use Rattle.std.specs.Prelude.{ℕ, ◌+◌, ◌-◌, ◌≡◌, Bool, true, false, cond, List, [], ◌∷◌, ◌++◌, eqb, ℤ, ◌+ℤ◌, length, get_or}
+use Rattle.std.specs.Prelude.{ℕ, ◌+◌, ◌-◌, ◌≡◌, Bool, true, false, cond, List, [], ◌∷◌, ◌++◌, eqb, ℤ, ◌+ℤ◌, length, get_or, Ok}
 use Prim.Native.Char.{code}
 use Rattle.std.proofs.Math.Seq.{slice}
 use Rattle.base.specs.And.{◌and◌}
 use Rattle.points.specs.declared.Point.{Point}
 use Rattle.text.specs.Text.{byte}
 use Rattle.digits.specs.Digits.{past_digits}
-use Rattle.digits.specs.declared.answers.Coordinate.TheVariants as coordinate
 use Rattle.book.specs.Books.{is_old}
 use Rattle.book.specs.declared.Book.{Book}
 use Rattle.formats.specs.Values.{taken_in}
@@ -22,7 +21,7 @@ use Rattle.law_reading.specs.Reading.{step_at}
 -- along one axis: the value that the sign and digits after the letter at a place have in a format, which in incremental notation is
 -- added to the current one; "a missing X or Y keeps the current one"
 pub data Says (f : Format) (incremental : Bool) (letter : ℕ) (s : List ℕ) (at : ℕ) (old : ℤ) : ℤ → ℕ → Type 0 where
-  digits : {v : ℤ} → eqb (get_or s at 0) letter ≡ true → (taken_in f s (at + 1)).coordinate ≡ coordinate.Value v →
+  digits : {v : ℤ} → eqb (get_or s at 0) letter ≡ true → (taken_in f s (at + 1)).coordinate ≡ Ok v →
       Says f incremental letter s at old (cond incremental (old +ℤ v) v) (taken_in f s (at + 1)).next
   missing : eqb (get_or s at 0) letter ≡ false → Says f incremental letter s at old old at
 

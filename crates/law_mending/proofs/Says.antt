@@ -1,6 +1,7 @@
 -- Which texts are FS, MO and M02: of every recogniser only that of word commands makes M02, and a data block that begins with FS or MO is
 -- one, or is refused.
 -- Assumes nothing.
+use Rattle.std.specs.Prelude.{Err, Ok, Result}
 use Prim.Native.Nat.{ℕ, zero, suc, ◌≤◌}
 use Prim.Native.Char.{code}
 use mathlib.Core.Path.{◌≡◌, refl, subst}
@@ -19,8 +20,6 @@ use Rattle.text.proofs.First.{in_from}
 use Rattle.book.specs.Books.{is_old}
 use Rattle.book.specs.declared.Book.{Book}
 use Rattle.formats.specs.declared.Format.{Format}
-use Rattle.formats.specs.declared.Said.{Said}
-use Rattle.formats.specs.declared.Said.TheVariants as said
 use Rattle.films.specs.Codes.{is_end}
 use Rattle.films.specs.Words as films
 use Rattle.films.specs.Words.{operate_of, coded_of, general_of, miscellaneous_of, other_of}
@@ -47,6 +46,8 @@ use Rattle.attribute_commands.specs.Attributes.{attribute_of, deletion_of}
 use Rattle.macro_form.specs.Macro.{headed, macro_of}
 use Rattle.recognise.specs.Commands.{data_of, data_in, extended_of, command_of}
 use Rattle.law_bounds.proofs.Tables.{picks, judges}
+use Rattle.formats.specs.declared.FormatError.TheVariants as format_error
+use Rattle.formats.specs.declared.FormatError.{FormatError}
 
 -- a command is M02 only where P holds
 abbrev EndsBy : Type 0 → Command → Type 0
@@ -91,11 +92,11 @@ module _ (P : Type 0) where
       (λ e. picks Ends (λ e. tt) (picks Ends (λ e. tt) (picks Ends (λ e. tt) (picks Ends (λ e. tt) tt))))
       (picks Ends (λ e. judges Ends tt tt (λ f l. tt)) (picks Ends (λ e. judges Ends tt tt (λ f l. tt)) tt))))
 
-  formatted_none : (x : Said) → Ends (formatted x)
+  formatted_none : (x : Result Format FormatError) → Ends (formatted x)
   unfolding formatted
-  formatted_none said.NotForm = tt
-  formatted_none said.SevenPlaces = tt
-  formatted_none (said.Is g) = tt
+  formatted_none (Err format_error.NotForm) = tt
+  formatted_none (Err format_error.SevenPlaces) = tt
+  formatted_none (Ok g) = tt
 
   start_none : (x : List ℕ) → Ends (repeat_start x)
   unfolding repeat_start repeats
@@ -237,11 +238,11 @@ pub data Units : Command → Type 0 where
   inches : Units (Set setting.Inches)
   unflawed : (x : Flaw) → Units (Broken x)
 
-formatted_formats : (x : Said) → Formats (formatted x)
+formatted_formats : (x : Result Format FormatError) → Formats (formatted x)
 unfolding formatted
-formatted_formats said.NotForm = flawed flaw.NotForm
-formatted_formats said.SevenPlaces = flawed flaw.Unread
-formatted_formats (said.Is g) = format g
+formatted_formats (Err format_error.NotForm) = flawed flaw.NotForm
+formatted_formats (Err format_error.SevenPlaces) = flawed flaw.Unread
+formatted_formats (Ok g) = format g
 
 data_formats : (book : Book) (t : List ℕ) → t begins "FS" ≡ true → Formats (data_of book t)
 unfolding data_of format_of pick

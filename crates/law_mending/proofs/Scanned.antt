@@ -18,8 +18,7 @@ use Rattle.scan.specs.Scan.{kind_of, text_from, end_of, ends, cut_by, command_in
 use Rattle.scan.specs.declared.Kind.{Kind}
 use Rattle.scan.specs.declared.Kind.TheVariants.{Word, Extended, Macro}
 use Rattle.scan.specs.declared.Scan.TheVariants as scan
-use Rattle.mending.specs.Extents.{pieces, extent_of}
-use Rattle.mending.specs.declared.Extent.TheVariants.{Command}
+use Rattle.mending.specs.Extents.{pieces, extent_of, extent}
 use Rattle.mending.proofs.Next.{extended_found, word_found}
 use Rattle.mending.proofs.Found.{Cuts, command_cut}
 
@@ -140,7 +139,7 @@ from_by Extended start = omega arith
 from_by Macro start = omega arith
 
 -- by extent it is the next complete command
-found_so : (file : List ℕ) (at : ℕ) (kind : Kind) (start from end next : ℕ) → Scanned file at kind start from end next → Command start (end + 1) ≡ extent_of at (pieces (drop at file))
+found_so : (file : List ℕ) (at : ℕ) (kind : Kind) (start from end next : ℕ) → Scanned file at kind start from end next → extent start (end + 1) ≡ extent_of at (pieces (drop at file))
 unfolding text_from end_of
 found_so file at Word start from end next s =
     word_found file at s.start_is (start_inside s) (λ q. not_word (get_or file start 0) (drop (start + 1) file) (eq-eqb (get_or file start 0) 37 q) (kind_of_first s)) s.end_is s.inside

@@ -1,5 +1,6 @@
 -- The outcome of an AD is nothing, 9 or 10.
 -- Assumes nothing.
+use Rattle.std.specs.Prelude.{None, Option, Some, ℤ}
 use Prim.Native.Nat.{ℕ}
 use mathlib.Core.Path.{◌≡◌, refl}
 use mathlib.Core.Bool.{Bool, true, false, cond}
@@ -9,8 +10,6 @@ use lib.IntN.{ℤ}
 use lib.ListN.{get_or}
 use Rattle.base.specs.Choose.{pick}
 use Rattle.text.specs.Text.{byte}
-use Rattle.reckon.specs.declared.Reckoned.{Reckoned}
-use Rattle.reckon.specs.declared.Reckoned.TheVariants.{Refused, Value}
 use Rattle.macro_tokens.specs.LineEnds.{without_leading}
 use Rattle.primitives.specs.Asked.{none, asked}
 use Rattle.macros.specs.Given.{variables_of}
@@ -30,10 +29,10 @@ told_verdict true true = fine
 told_verdict true false = ten
 told_verdict false kept = nine
 
-assigned_verdict : (variables : List ℤ) (n : ℕ) (r : Reckoned) → Verdict (assigned variables n r).fault
+assigned_verdict : (variables : List ℤ) (n : ℕ) (r : Option ℤ) → Verdict (assigned variables n r).fault
 unfolding assigned
-assigned_verdict variables n Refused = nine
-assigned_verdict variables n (Value z) = fine
+assigned_verdict variables n None = nine
+assigned_verdict variables n (Some z) = fine
 
 block_verdict : (variables : List ℤ) (s : List ℕ) → Verdict (block_done variables s).fault
 unfolding block_done assignment_done primitive_done pick

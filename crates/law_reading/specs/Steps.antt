@@ -1,11 +1,9 @@
 -- What each command does: its fault by the tables of the rules, 0 for none, and the state after it (01, State).
-use Rattle.std.specs.Prelude.{ℕ, ◌+◌, ◌-◌, ◌*◌, Bool, cond, not, List, [], ◌∷◌, ◌++◌, eqb, leb, ltb, ℤ, length}
+use Rattle.std.specs.Prelude.{ℕ, ◌+◌, ◌-◌, ◌*◌, Bool, cond, not, List, [], ◌∷◌, ◌++◌, eqb, leb, ltb, ℤ, length, Option}
 use Rattle.std.proofs.Math.Seq.{slice}
 use Rattle.base.specs.Or.{◌or◌}
 use Rattle.decimal.specs.declared.answers.Amount.{Amount}
 use Rattle.command.specs.declared.Span.{Span}
-use Rattle.command.specs.declared.Axis.{Axis}
-use Rattle.command.specs.declared.Offset.{Offset}
 use Rattle.command.specs.Flaws.{flaw_number}
 use Rattle.command.specs.declared.Setting.{Setting}
 use Rattle.command.specs.declared.Operation.{Operation}
@@ -56,6 +54,7 @@ use Rattle.law_reading.specs.Apertures.{
   closing,
 }
 use Rattle.law_reading.specs.Levels.{with_items, in_block, in_repeat}
+use Rattle.command.specs.declared.Offset.{Offset}
 
 pub record Step : Type 0 where
   pub fault : ℕ
@@ -105,7 +104,7 @@ setting_step x s = does (setting_fault s.graphics x) (with_graphics (after_setti
 abbrev pub left : Room → State → ℕ
 left room s = room.entries - s.entries
 
-unfoldable pub draw_step : Room → ℕ → Axis → Axis → Offset → State → Step
+unfoldable pub draw_step : Room → ℕ → Option ℤ → Option ℤ → Option Offset → State → Step
 draw_step room place x y o s =
     does (draw_fault s.graphics s.level (left room s) x y o)
     (with_level (with_items (draw_items s.graphics) 0 s.level) (passed (Operate (operation.Draw x y o)) place (draw_items s.graphics) s))
@@ -114,13 +113,13 @@ draw_step room place x y o s =
 unfoldable pub flash_height : Selected → ℕ
 flash_height a = cond a.block (a.height + 1) 0
 
-unfoldable pub flash_step : Room → ℕ → Axis → Axis → State → Step
+unfoldable pub flash_step : Room → ℕ → Option ℤ → Option ℤ → State → Step
 flash_step room place x y s =
     does (flash_fault s.graphics s.level (left room s) x y)
     (with_level (with_items (flash_items s.graphics) (flash_height s.graphics.aperture) s.level) (passed (Operate (operation.Flash x y)) place 1 s))
 
 -- D02 draws nothing: it too changes the graphics state alone
-unfoldable pub move_step : Axis → Axis → State → Step
+unfoldable pub move_step : Option ℤ → Option ℤ → State → Step
 move_step x y s = does (move_fault s.graphics x y) (with_graphics (after_operation (operation.Move x y) s.graphics) s)
 
 -- Dn

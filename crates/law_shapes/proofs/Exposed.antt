@@ -1,6 +1,7 @@
 -- Of a store that a reading left, a lookup answers of each AD of the file what AD's rules worked out: its record stays to the end, the links lead to
 -- it, and its numbers are cut into the primitives that its macro's blocks make.
 -- Assumes nothing.
+use Rattle.std.specs.Prelude.{Err}
 use Prim.Native.Nat.{ℕ, zero, suc, ◌+◌, ◌-◌, ◌*◌, ◌≤◌, ◌<◌}
 use mathlib.Core.Path.{◌≡◌, refl, sym, ap, ◌∙◌}
 use mathlib.Core.Bool.{Bool, true, false, cond, not, false≢true}
@@ -44,9 +45,6 @@ use Rattle.reader.specs.Leaves.{Leaves}
 use Rattle.shapes.specs.Primitives.{primitives_in}
 use Rattle.shapes.specs.Shapes.{numbers_used, ok_store, template_fits, judged, found_by, lookup_of}
 use Rattle.shapes.specs.declared.Shape.{Shape}
-use Rattle.shapes.specs.declared.Led.TheVariants as led
-use Rattle.shapes.specs.declared.Lookup.{Lookup}
-use Rattle.shapes.specs.declared.Lookup.TheVariants.{Is, Unknown}
 use Rattle.shapes.specs.Runs.{primitives_by}
 use Rattle.law_shapes.specs.Figures.{figures_of, figure_at}
 use Rattle.law_shapes.specs.Exposes.{Exposes}
@@ -56,6 +54,7 @@ use Rattle.law_shapes.proofs.Low.{Low, AllLow, commands_low, low_before, low_beh
 use Rattle.law_shapes.proofs.Steps.{ad_free, kept_lasts}
 use Rattle.law_shapes.proofs.Stays.{LowNumbers, Tidy, tidy_lasts, Stands, Stays, stays_lasts, stands_new, free_shut}
 use Rattle.law_shapes.proofs.Judged.{Given, kind_given, kind_macro, kind_standard, template_fits_lem, judged_macro_lem, judged_template_lem}
+use Rattle.shapes.specs.declared.LookupError.TheVariants as lookup_error
 
 -- ---- records as reading knows them
 
@@ -147,7 +146,7 @@ module _ (file head e a m : List ℕ) (n : List ℤ) (t : State) (leaves : Leave
         rw (ok, leaves.apertures_used_lem, to, leaves.numbers_used_lem) refl
 
     -- a number that no aperture has is 8
-    pub unknown_is : (number : ℕ) → ((i : ℕ) → i < length t.apertures → (aperture_of a i).number ≡ number → ⊥) → lookup_of head a n number ≡ Unknown
+    pub unknown_is : (number : ℕ) → ((i : ℕ) → i < length t.apertures → (aperture_of a i).number ≡ number → ⊥) → lookup_of head a n number ≡ Err lookup_error.Unknown
     unfolding lookup_of pick found_by
     unknown_is number other =
         let no = led_nowhere a (length t.apertures) leaves.linked numbers_low number (λ i h q. other i h (number_is i ∙ q)) in

@@ -1,5 +1,6 @@
 -- What a record with the numbers of an AD at no fault is judged to be.
 -- Assumes nothing.
+use Rattle.std.specs.Prelude.{Ok}
 use Prim.Native.Nat.{ℕ, ◌+◌, ◌≤◌, ◌<◌}
 use mathlib.Core.Path.{◌≡◌, refl, sym, ap, ◌∙◌}
 use mathlib.Core.Bool.{Bool, true, false, cond, not}
@@ -19,7 +20,6 @@ use Rattle.sheet.specs.declared.Aperture.{Aperture}
 use Rattle.law_reading.specs.Apertures.{is_standard}
 use Rattle.shapes.specs.Primitives.{primitives_in, counted_by, counted_as}
 use Rattle.shapes.specs.Shapes.{template_fits, judged_macro, judged_template, judged}
-use Rattle.shapes.specs.declared.Lookup.TheVariants.{Is}
 
 -- the kinds that AD gives
 pub record Given (k : ℕ) : Type 0 where
@@ -85,11 +85,11 @@ module _ (q : Asked) where
 module _ (used : ℕ) (n : List ℤ) (r : Aperture) (given : Given r.kind) (h : r.first + r.len ≤ used) where
   pub judged_macro_lem : eqb r.kind 5 ≡ true → (primitives_in n r.first (r.first + r.len)).whole ≡ true →
       judged used n r
-      ≡ Is (record { number = r.number; kind = r.kind; first = r.first; count = r.len; primitives = length (primitives_in n r.first (r.first + r.len)).list })
+      ≡ Ok (record { number = r.number; kind = r.kind; first = r.first; count = r.len; primitives = length (primitives_in n r.first (r.first + r.len)).list })
   unfolding judged pick judged_macro counted_as counted_by
   judged_macro_lem e w = rw (given.six, given.zero, le-ltb used (r.first + r.len) h, e, w) refl
 
   pub judged_template_lem : eqb r.kind 5 ≡ false → template_fits r.kind r.len ≡ true →
-      judged used n r ≡ Is (record { number = r.number; kind = r.kind; first = r.first; count = r.len; primitives = 0 })
+      judged used n r ≡ Ok (record { number = r.number; kind = r.kind; first = r.first; count = r.len; primitives = 0 })
   unfolding judged pick judged_template
   judged_template_lem e w = rw (given.six, given.zero, le-ltb used (r.first + r.len) h, e, w) refl

@@ -1,5 +1,6 @@
 -- What a block at no fault leaves among the numbers: nothing, or a primitive with as many parameters as its code has.
 -- Assumes nothing.
+use Rattle.std.specs.Prelude.{None, Option, Some, ℤ}
 use Prim.Native.Nat.{ℕ, ◌+◌, ◌*◌, ◌/◌, ◌≤◌, ◌<◌}
 use Prim.Native.Char.{code}
 use mathlib.Core.Path.{◌≡◌, refl, sym, ap, ◌∙◌}
@@ -17,8 +18,6 @@ use Rattle.base.proofs.And.{and_l, and_r}
 use Rattle.text.specs.First.{place}
 use Rattle.text.specs.Text.{byte}
 use Rattle.macro_tokens.specs.LineEnds.{without_leading}
-use Rattle.reckon.specs.declared.Reckoned.{Reckoned}
-use Rattle.reckon.specs.declared.Reckoned.TheVariants.{Refused, Value}
 use Rattle.primitives.specs.Asked.{none, asked}
 use Rattle.primitives.specs.Heading.{most_parameters, heading}
 use Rattle.primitives.specs.Rules.{whole_between, circle, vector_line, center_line, outline, polygon, thermal, code_of, keeps}
@@ -117,10 +116,10 @@ module _ (vs : List ℤ) where
       let k = verdict_kept (values_of vs (parameters_in (drop comma t))).fine (keeps (code_of (take comma t)) (asked none zs)) e in
       one (code_small (take comma t)) (asked_few zs (code_of (take comma t)) k) (asked_fits zs (code_of (take comma t)) k)
 
-  assigned_writes : (n : ℕ) (r : Reckoned) → Writes (assigned vs n r).written []
+  assigned_writes : (n : ℕ) (r : Option ℤ) → Writes (assigned vs n r).written []
   unfolding assigned
-  assigned_writes n Refused = nothing
-  assigned_writes n (Value z) = nothing
+  assigned_writes n None = nothing
+  assigned_writes n (Some z) = nothing
 
   assignment_writes : (t : List ℕ) → Writes (assignment_done vs t).written []
   unfolding assignment_done

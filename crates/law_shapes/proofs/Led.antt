@@ -1,6 +1,7 @@
 -- Of a table that a reading builds, the links lead to the only record with a number, and nowhere where none has it: no record lies deeper than
 -- numbers have bits.
 -- Assumes nothing.
+use Rattle.std.specs.Prelude.{Err, Ok}
 use Prim.Native.Nat.{ℕ, zero, suc, ◌+◌, ◌-◌, ◌^◌, ◌≤◌, ◌<◌}
 use mathlib.Core.Path.{◌≡◌, refl, sym, ap, ◌∙◌}
 use mathlib.Core.Bool.{Bool, true, false}
@@ -14,8 +15,8 @@ use Rattle.index.specs.Layered.{above}
 use Rattle.index.specs.Numbers.{number_of, Numbered}
 use Rattle.index.proofs.Layers.{Walks, walk_deep}
 use Rattle.shapes.specs.Links.{led_from, led}
-use Rattle.shapes.specs.declared.Led.TheVariants.{At, Nobody}
 use Rattle.shapes.proofs.Leading.{lead_here, lead_end, lead_on, led_none, led_some}
+use Rattle.shapes.specs.declared.LookupError.TheVariants as lookup_error
 
 -- the numbers of apertures have 31 bits
 abbrev pub most_numbers : ℕ
@@ -58,42 +59,42 @@ module _ (a : List ℕ) (used : ℕ) (t : Numbered a used) (low : (i : ℕ) → 
       go true p = absurd (q (deep_ends i key h (e ∙ eqb-true d 31 p)))
       go false p = let r = eqb-false d 31 p in omega (arith, r, l)
 
-  leads_to_lem : (steps d i key j : ℕ) → steps + d ≡ 32 → d ≤ 31 → i < used → t.layers.depth i ≡ d → j < used → Leads a key i j → led_from a used (number_of a j) steps i key ≡ At j
+  leads_to_lem : (steps d i key j : ℕ) → steps + d ≡ 32 → d ≤ 31 → i < used → t.layers.depth i ≡ d → j < used → Leads a key i j → led_from a used (number_of a j) steps i key ≡ Ok j
   leads_to_lem steps d i key j s l h e k here = lead_here a used (number_of a i) steps i key (omega (arith, s, l)) h refl
   leads_to_lem steps d i key j s l h e k (on p rest) =
       go (eqb (number_of a i) (number_of a j)) refl
       (λ o. leads_to_lem (steps - 1) (suc d) (next a i key) (bits_above key) j (omega (arith, s, l)) o.few o.inside o.depth k rest)
     where
-      go : (x : Bool) → eqb (number_of a i) (number_of a j) ≡ x → (Onward i key d → led_from a used (number_of a j) (steps - 1) (next a i key) (bits_above key) ≡ At j) →
-          led_from a used (number_of a j) steps i key ≡ At j
+      go : (x : Bool) → eqb (number_of a i) (number_of a j) ≡ x → (Onward i key d → led_from a used (number_of a j) (steps - 1) (next a i key) (bits_above key) ≡ Ok j) →
+          led_from a used (number_of a j) steps i key ≡ Ok j
       go true q further =
           let same = eqb-true (number_of a i) (number_of a j) q in
-          lead_here a used (number_of a j) steps i key (omega (arith, s, l)) h same ∙ ap At (t.distinct i j h k same)
+          lead_here a used (number_of a j) steps i key (omega (arith, s, l)) h same ∙ ap Ok (t.distinct i j h k same)
       go false q further =
           let z : next a i key ≡ 0 → ⊥ = λ w. omega (arith, w, p) in
           lead_on a used (number_of a j) steps i key (omega (arith, s, l)) h (eqb-false _ _ q) z ∙ further (onward i key d h e l z)
 
-  pub led_to : (j : ℕ) → j < used → led a used (number_of a j) ≡ At j
+  pub led_to : (j : ℕ) → j < used → led a used (number_of a j) ≡ Ok j
   led_to j h =
       led_some a used (number_of a j) (λ z. omega (arith, z, h))
       ∙ leads_to_lem 32 0 0 (number_of a j) j refl (omega arith) (omega (arith, h)) t.layers.root h (t.tree.found j h)
 
   module _ (number : ℕ) (other : (i : ℕ) → i < used → number_of a i ≡ number → ⊥) where
-    leads_nowhere : (steps d i key : ℕ) → steps + d ≡ 32 → d ≤ 31 → i < used → t.layers.depth i ≡ d → led_from a used number steps i key ≡ Nobody
+    leads_nowhere : (steps d i key : ℕ) → steps + d ≡ 32 → d ≤ 31 → i < used → t.layers.depth i ≡ d → led_from a used number steps i key ≡ Err lookup_error.Unknown
     leads_nowhere zero d i key s l h e = absurd (omega (arith, s, l))
     leads_nowhere (suc steps) d i key s l h e =
         go (eqb (next a i key) 0) refl (λ o. leads_nowhere steps (suc d) (next a i key) (bits_above key) (omega (arith, s)) o.few o.inside o.depth)
       where
-        go : (x : Bool) → eqb (next a i key) 0 ≡ x → (Onward i key d → led_from a used number steps (next a i key) (bits_above key) ≡ Nobody) → led_from a used number (suc steps) i key ≡ Nobody
+        go : (x : Bool) → eqb (next a i key) 0 ≡ x → (Onward i key d → led_from a used number steps (next a i key) (bits_above key) ≡ Err lookup_error.Unknown) → led_from a used number (suc steps) i key ≡ Err lookup_error.Unknown
         go true q further = lead_end a used number (suc steps) i key (omega arith) h (other i h) (eqb-true _ 0 q)
         go false q further =
             let z = eqb-false (next a i key) 0 q in
             let one : suc steps - 1 ≡ steps = omega arith in
             rw one at (lead_on a used number (suc steps) i key (omega arith) h (other i h) z) ∙ further (onward i key d h e l z)
 
-    pub led_nowhere : led a used number ≡ Nobody
+    pub led_nowhere : led a used number ≡ Err lookup_error.Unknown
     led_nowhere = go (eqb used 0) refl
       where
-        go : (x : Bool) → eqb used 0 ≡ x → led a used number ≡ Nobody
+        go : (x : Bool) → eqb used 0 ≡ x → led a used number ≡ Err lookup_error.Unknown
         go true p = led_none a used number (eqb-true used 0 p)
         go false p = let q = eqb-false used 0 p in led_some a used number q ∙ leads_nowhere 32 0 0 number refl (omega arith) (omega (arith, q)) t.layers.root

@@ -1,5 +1,6 @@
 -- Settings leave the aperture as it is, and what D01 and D03 draw is of the aperture that is selected.
 -- Assumes nothing.
+use Rattle.std.specs.Prelude.{Option, ℤ}
 use Prim.Native.Nat.{ℕ, ◌+◌, ◌≤◌}
 use mathlib.Core.Path.{◌≡◌, refl, sym, ◌∙◌}
 use mathlib.Core.Bool.{Bool, true, false, cond, not, true≢false, false≢true}
@@ -13,8 +14,6 @@ use Rattle.base.proofs.And.{and_l, and_r}
 use Rattle.base.proofs.Faults.{unbroken}
 use Rattle.law_bounds.proofs.Tables.{neither}
 use Rattle.points.specs.declared.Point.{Point}
-use Rattle.command.specs.declared.Axis.{Axis}
-use Rattle.command.specs.declared.Offset.{Offset}
 use Rattle.command.specs.declared.Setting.{Setting}
 use Rattle.command.specs.declared.Setting.TheVariants as setting
 use Rattle.place.specs.Kind as kind
@@ -32,6 +31,7 @@ use Rattle.marks.specs.Marks.{draw_marks, flash_marks}
 use Rattle.law_reading.specs.State.{Aperture, Opened}
 use Rattle.law_summary.specs.Tools.{tools, Tooled}
 use Rattle.law_summary.proofs.Knowing.{none, block, draws, contours, edges, flashes, AllMarked, more, Knowing}
+use Rattle.command.specs.declared.Offset.{Offset}
 
 -- ---- settings
 
@@ -109,26 +109,26 @@ module _ (g : Graphics) (known : List Aperture) (mode-low : g.mode ≤ 3)
       go true = lit≤ tt
       go false = mode-low
 
-  edge_tooled : (x y : Axis) (o : Offset) (place : ℕ) → Tooled known (edge g (target g x y) o place)
+  edge_tooled : (x y : Option ℤ) (o : Option Offset) (place : ℕ) → Tooled known (edge g (target g x y) o place)
   unfolding edge is_oriented
   edge_tooled x y o place = record {
     drawn = λ q. absurd (true≢false (sym q ∙ lt-leb (5 + kind_drawn g (target g x y)) 4 (omega arith)));
     region = λ q. refl;
   }
 
-  draw_tooled : (x y : Axis) (o : Offset) (place : ℕ) → g.aperture.set ≡ true → g.aperture.block ≡ false → Tooled known (drawn g (target g x y) o place)
+  draw_tooled : (x y : Option ℤ) (o : Option Offset) (place : ℕ) → g.aperture.set ≡ true → g.aperture.block ≡ false → Tooled known (drawn g (target g x y) o place)
   unfolding drawn is_oriented
   draw_tooled x y o place s b = record {
     drawn = λ q. chosen s b;
     region = λ q. let low = kind_low (target g x y) in absurd (true≢false (sym (le-leb (kind_drawn g (target g x y)) 4 (omega arith)) ∙ q));
   }
 
-  flash_tooled : (x y : Axis) (place : ℕ) → g.aperture.set ≡ true → g.aperture.block ≡ false → Tooled known (flashed g (target g x y) place)
+  flash_tooled : (x y : Option ℤ) (place : ℕ) → g.aperture.set ≡ true → g.aperture.block ≡ false → Tooled known (flashed g (target g x y) place)
   unfolding flashed is_oriented
   flash_tooled x y place s b = record { drawn = λ q. chosen s b; region = λ q. absurd (true≢false q) }
 
   -- outside a region a brush is selected
-  brush : (l : Level) (room : ℕ) (x y : Axis) (o : Offset) → draw_fault g l room x y o ≡ 0 → g.region.on ≡ false → has_brush g ≡ true
+  brush : (l : Level) (room : ℕ) (x y : Option ℤ) (o : Option Offset) → draw_fault g l room x y o ≡ 0 → g.region.on ≡ false → has_brush g ≡ true
   unfolding draw_fault draw_misfits brushless has_brush circular ◌and◌
   brush l room x y o f off =
       let misfits = (unbroken (lit≤ tt) (unbroken (lit≤ tt) (unbroken (lit≤ tt) f).1).1).0 in
@@ -149,7 +149,7 @@ module _ (g : Graphics) (known : List Aperture) (mode-low : g.mode ≤ 3)
       go false true r e = and_l _ _ e
       go false false r e = absurd (false≢true e)
 
-  pub draw_marked : (l : Level) (room : ℕ) (x y : Axis) (o : Offset) (place : ℕ) → ((g.aperture.circle or g.aperture.rectangle) ≡ true → g.aperture.block ≡ false) → draw_fault g l room x y o ≡ 0 →
+  pub draw_marked : (l : Level) (room : ℕ) (x y : Option ℤ) (o : Option Offset) (place : ℕ) → ((g.aperture.circle or g.aperture.rectangle) ≡ true → g.aperture.block ≡ false) → draw_fault g l room x y o ≡ 0 →
       AllMarked known (draw_marks g x y o place)
   unfolding draw_marks
   draw_marked l room x y o place solid f = go g.region.on refl
@@ -165,7 +165,7 @@ module _ (g : Graphics) (known : List Aperture) (mode-low : g.mode ≤ 3)
       go true e = starts (starts_contour g.region)
       go false e = let b = brush l room x y o f e in more (draws (draw_tooled x y o place (brush_set b) (solid (brush_solid b)))) none
 
-  pub flash_marked : (l : Level) (room : ℕ) (x y : Axis) (place : ℕ) → flash_fault g l room x y ≡ 0 → AllMarked known (flash_marks g x y place)
+  pub flash_marked : (l : Level) (room : ℕ) (x y : Option ℤ) (place : ℕ) → flash_fault g l room x y ≡ 0 → AllMarked known (flash_marks g x y place)
   unfolding flash_marks flash_fault flash_misfits
   flash_marked l room x y place f = go g.aperture.block refl
     where

@@ -1,5 +1,6 @@
 -- The summary of whatever sheet the call for a reading leaves: the rows of the file's own items, whose counts add up to the total.
 -- Assumes nothing.
+use Rattle.std.specs.Prelude.{Result}
 use Prim.Native.Nat.{ℕ}
 use mathlib.Core.Path.{◌≡◌, subst}
 use mathlib.Core.List.{List, []}
@@ -14,7 +15,6 @@ use Rattle.sequence.specs.declared.Placed.{Placed}
 use Rattle.law_reading.specs.State.{Room, State}
 use Rattle.law_reading.specs.Reading.{Answer, reading}
 use Rattle.progress.specs.Lent.{Lent, room_of}
-use Rattle.reader.specs.declared.Answer as code
 use Rattle.reader.specs.Leaves.{Leaves}
 use Rattle.reader.specs.Reads.{Reads}
 use Rattle.law_kept.specs.Kept.{Keeps, nothing, one}
@@ -25,13 +25,15 @@ use Rattle.law_summary.proofs.Knowing.{Knows}
 use Rattle.law_summary.proofs.Steps.{step_knows, begun_knows}
 use Rattle.law_summary.proofs.Plain.{plain_tooled}
 use Rattle.law_summary.proofs.Records.{no_row_lem, named, block_untooled}
+use Rattle.reader.specs.declared.Accepted.{Accepted}
+use Rattle.sequence.specs.declared.Refusal.{Refusal}
 
 -- commands that are accepted, one after the other
 kept_knows : {room : Room} {file : List ℕ} {s t : State} {cs : List Placed} → Keeps room file s cs t → Knows s → Knows t
 kept_knows nothing k = k
 kept_knows {room = room} {s = s} (one {c = c} e w) k = kept_knows w (step_knows room _ c.place c.command s e k)
 
-module _ (book : Book) (w w' : Lent) (head : List ℕ) (r : code.Answer) (reads : Reads (rounded_in book w.file) (reading book (room_of w) w.file) w w' head r) (k : Accepts book w) where
+module _ (book : Book) (w w' : Lent) (head : List ℕ) (r : Result Accepted Refusal) (reads : Reads (rounded_in book w.file) (reading book (room_of w) w.file) w w' head r) (k : Accepts book w) where
   left : Leaves w.file head w'.entries w'.apertures w'.macros w'.numbers k.state
   unfolding Reads
   left = (subst (λ (a : Answer). Reads (rounded_in book w.file) a w w' head r) (keeps_accepted book (room_of w) w.file k.keeps) reads).2

@@ -1,6 +1,6 @@
 -- The summary of a sheet that a reading left (02, [11]: "It equals what a pass over the plain expansion gives, and the counts add up to
 -- the total"). `plain s.marks` is the plain expansion of the file's marks.
-use Rattle.std.specs.Prelude.{ℕ, ◌+◌, ◌<◌, ◌≡◌, true, List, length}
+use Rattle.std.specs.Prelude.{ℕ, ◌+◌, ◌<◌, ◌≡◌, true, List, length, Ok}
 use Rattle.base.specs.Run.{sums}
 use Rattle.place.specs.Mark.{plain}
 use Rattle.sheet.specs.Records.{aperture_of}
@@ -10,7 +10,6 @@ use Rattle.summary_rows.specs.Rows.{no_row}
 use Rattle.summary_rows.specs.Summed.{row_of}
 use Rattle.summary_rows.specs.declared.Asked.TheVariants.{Aperture, Regions}
 use Rattle.summary_by_aperture.specs.Answers.{roomy, summary_words, outcome_of, summed}
-use Rattle.summary_by_aperture.specs.declared.Outcome.TheVariants as outcome
 use Rattle.law_reading.specs.State.{State}
 use Rattle.law_summary.specs.Tools.{AllTooled}
 
@@ -21,7 +20,7 @@ count_of a s b = (row_of (Aperture (aperture_of a b).number) (plain s.marks)).co
 -- head, entries e and apertures a are left of a file whose reading ends in the state s. Whatever rows and scratch are lent then, if they
 -- have room, the call is done, and its rows are those of a pass over the plain expansion.
 pub record Summarised (head e a : List ℕ) (s : State) : Type 0 where
-  pub done : (words scratch : ℕ) → roomy (apertures_used head) words scratch ≡ true → outcome_of head e a words scratch ≡ outcome.Done
+  pub done : (words scratch : ℕ) → roomy (apertures_used head) words scratch ≡ true → outcome_of head e a words scratch ≡ Ok _
   pub rows : (words scratch : ℕ) → roomy (apertures_used head) words scratch ≡ true →
       summed head e a words scratch ≡ summary_words (plain s.marks) a (apertures_used head) words
   pub tooled : AllTooled s.apertures (plain s.marks)

@@ -1,5 +1,6 @@
 -- A written tree is read to its end, as its outcome: one law for the rows of both ranks, since both are the same chain.
 -- Assumes nothing.
+use Rattle.std.specs.Prelude.{None, Option, Some, ℤ}
 use Prim.Native.Nat.{ℕ, zero, suc, ◌+◌, ◌-◌, ◌≤◌}
 use mathlib.Core.Path.{◌≡◌, refl, sym, ap, ◌∙◌}
 use mathlib.Core.Bool.{Bool, true, false}
@@ -7,8 +8,6 @@ use mathlib.Core.List.{List, ◌∷◌}
 use native.Mathlib.Omega.{arith}
 use lib.IntN.{ℤ}
 use lib.ListN.{length}
-use Rattle.reckon.specs.declared.Reckoned.{Reckoned}
-use Rattle.reckon.specs.declared.Reckoned.TheVariants.{Refused, Value}
 use Rattle.macro_tokens.specs.declared.Token.{Token}
 use Rattle.macro_tokens.specs.declared.Token.TheVariants.{Close}
 use Rattle.expression.specs.declared.Sign.{Sign}
@@ -24,15 +23,15 @@ operators : {L X : Type 0} → Row L X → ℕ
 operators (first l x) = 0
 operators (more r second x) = suc (operators r)
 
-joined_kept : (op : ℤ → ℤ → Reckoned) (a : ℤ) (us ts : List Token) (r : Reckoned) → joined op (reads a us) (kept r ts) ≡ kept (applied op (Value a) r) ts
+joined_kept : (op : ℤ → ℤ → Option ℤ) (a : ℤ) (us ts : List Token) (r : Option ℤ) → joined op (reads a us) (kept r ts) ≡ kept (applied op (Some a) r) ts
 unfolding joined kept applied
-joined_kept op a us ts Refused = refl
-joined_kept op a us ts (Value b) = refl
+joined_kept op a us ts None = refl
+joined_kept op a us ts (Some b) = refl
 
-after_kept : (rank : Token → Sign) (r : Reckoned) (ts : List Token) → rank (head ts) ≡ sign.Nothing → after rank (kept r ts) ≡ stop
+after_kept : (rank : Token → Sign) (r : Option ℤ) (ts : List Token) → rank (head ts) ≡ sign.Nothing → after rank (kept r ts) ≡ stop
 unfolding after kept following
-after_kept rank Refused ts e = refl
-after_kept rank (Value a) ts e = rw e
+after_kept rank None ts e = refl
+after_kept rank (Some a) ts e = rw e
 
 -- how a row is written
 module _ {L X : Type 0} (operator : Bool → Token) (led : L → List Token → List Token) (operand_written : X → List Token → List Token)
@@ -50,7 +49,7 @@ module _ {L X : Type 0} (operator : Bool → Token) (led : L → List Token → 
       omega arith
 
   -- its outcome, and how the grammar reads its first operand and the others; `lower` is the rank below it
-  module _ (rank lower : Token → Sign) (op : Bool → ℤ → ℤ → Reckoned) (led_worth : L → Reckoned → Reckoned) (operand_worth : X → Reckoned)
+  module _ (rank lower : Token → Sign) (op : Bool → ℤ → ℤ → Option ℤ) (led_worth : L → Option ℤ → Option ℤ) (operand_worth : X → Option ℤ)
       (start operand : List Token → Reading) (bound : ℕ)
       (goes : (second : Bool) (ts : List Token) → following (rank (operator second)) ts ≡ go second ts)
       (higher : (second : Bool) → lower (operator second) ≡ sign.Nothing)
@@ -58,17 +57,17 @@ module _ {L X : Type 0} (operator : Bool → Token) (led : L → List Token → 
       start (led l (operand_written x ts)) ≡ kept (led_worth l (operand_worth x)) ts)
       (reads_on : (x : X) (ts : List Token) → lower (head ts) ≡ sign.Nothing → length (operand_written x ts) ≤ bound →
       operand (operand_written x ts) ≡ kept (operand_worth x) ts) where
-    abbrev worth : Row L X → Reckoned
+    abbrev worth : Row L X → Option ℤ
     worth = row_worth op led_worth operand_worth
 
     abbrev on : ℕ → Reading → Reading
     on = chain rank op operand
 
-    one_more : (n : ℕ) (r : Reckoned) (second : Bool) (x : X) (ts : List Token) → lower (head ts) ≡ sign.Nothing → length (operand_written x ts) ≤ bound →
+    one_more : (n : ℕ) (r : Option ℤ) (second : Bool) (x : X) (ts : List Token) → lower (head ts) ≡ sign.Nothing → length (operand_written x ts) ≤ bound →
         on (suc n) (kept r (operator second ∷ operand_written x ts)) ≡ on n (kept (applied (op second) r (operand_worth x)) ts)
     unfolding kept applied after head tail
-    one_more n Refused second x ts e h = chain_stop rank op operand (suc n) refused refl ∙ sym (chain_stop rank op operand n refused refl)
-    one_more n (Value a) second x ts e h =
+    one_more n None second x ts e h = chain_stop rank op operand (suc n) refused refl ∙ sym (chain_stop rank op operand n refused refl)
+    one_more n (Some a) second x ts e h =
         let us : List Token = operator second ∷ operand_written x ts in
         chain_go rank op operand n (reads a us) second (operand_written x ts) (goes second (operand_written x ts))
         ∙ ap (λ (w : Reading). on n (joined (op second) (reads a us) w)) (reads_on x ts e h)
@@ -120,20 +119,20 @@ lead_longer bare ts = omega arith
 lead_longer plus ts = omega arith
 lead_longer minus ts = omega arith
 
-stayed : (r : Reckoned) (ts : List Token) → negated false (kept r ts) ≡ kept r ts
+stayed : (r : Option ℤ) (ts : List Token) → negated false (kept r ts) ≡ kept r ts
 unfolding negated kept
-stayed Refused ts = refl
-stayed (Value a) ts = refl
+stayed None ts = refl
+stayed (Some a) ts = refl
 
-turned : (r : Reckoned) (ts : List Token) → negated true (kept r ts) ≡ kept (negative r) ts
+turned : (r : Option ℤ) (ts : List Token) → negated true (kept r ts) ≡ kept (negative r) ts
 unfolding negated kept negative
-turned Refused ts = refl
-turned (Value a) ts = refl
+turned None ts = refl
+turned (Some a) ts = refl
 
-closed_kept : (r : Reckoned) (ts : List Token) → closed (kept r (Close ∷ ts)) ≡ kept r ts
+closed_kept : (r : Option ℤ) (ts : List Token) → closed (kept r (Close ∷ ts)) ≡ kept r ts
 unfolding closed kept is_close head tail
-closed_kept Refused ts = refl
-closed_kept (Value a) ts = refl
+closed_kept None ts = refl
+closed_kept (Some a) ts = refl
 
 -- E is what stands in parentheses
 module _ {E : Type 0} (inner : E → List Token → List Token) (inner-longer : (e : E) (ts : List Token) → length ts ≤ length (inner e ts)) where
@@ -159,7 +158,7 @@ module _ {E : Type 0} (inner : E → List Token → List Token) (inner-longer : 
   term_unsigned (first l (inside e)) ts = refl
   term_unsigned (more r second x) ts = term_unsigned r (times_or second ∷ factor_written inner x ts)
 
-  module _ (inner_worth : E → Reckoned) (bound : ℕ) (variables : List ℤ) (parentheses : List Token → Reading)
+  module _ (inner_worth : E → Option ℤ) (bound : ℕ) (variables : List ℤ) (parentheses : List Token → Reading)
       (inner-reads : (e : E) (ts : List Token) → length (inner e (Close ∷ ts)) ≤ bound → parentheses (inner e (Close ∷ ts)) ≡ kept (inner_worth e) (Close ∷ ts)) where
     factor_reads : (x : Factor E) (ts : List Token) → length (factor_written inner x ts) ≤ bound →
         factor bound variables parentheses (factor_written inner x ts) ≡ kept (factor_worth variables inner_worth x) ts

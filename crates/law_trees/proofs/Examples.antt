@@ -1,6 +1,7 @@
 -- Worked examples, by computation: texts, their trees, and the outcome of these where $1 is 1. Equal ranks go from the left, a sign acts on
 -- the first term alone, a zero divisor is refused.
 -- Assumes nothing.
+use Rattle.std.specs.Prelude.{None, Option, Some, ℤ}
 use Prim.Native.Nat.{ℕ}
 use Prim.Native.String.{String}
 use mathlib.Core.Path.{◌≡◌, refl}
@@ -21,8 +22,6 @@ use Rattle.text.specs.Text.{text}
 use Rattle.base.specs.Choose.{pick}
 use Rattle.command.specs.Numbers.{sized_as}
 use Rattle.reckon.specs.Rounding.{nearest, kept_of, sum_of, difference_of, product_of, quotient_of}
-use Rattle.reckon.specs.declared.Reckoned.{Reckoned}
-use Rattle.reckon.specs.declared.Reckoned.TheVariants.{Refused, Value}
 use Rattle.macro_tokens.specs.Tokens.{variable_of, token_of, tokens}
 use Rattle.macro_tokens.specs.Words.{numeral, joins, onto, words}
 use Rattle.expression.specs.Grammar.{sum_by, product_by}
@@ -39,13 +38,13 @@ one_of n = first nothing (whole n)
 abbrev three_less_dollar_one : {E : Type 0} → Sum E
 three_less_dollar_one = more (first bare (one_of 3000000)) true (first nothing (variable (record { formless = false; long = false; value = 1 })))
 
-abbrev examples : List (String × Expression 1 × Reckoned)
+abbrev examples : List (String × Expression 1 × Option ℤ)
 examples =
-    ("8-4-2", more (more (first bare (one_of 8000000)) true (one_of 4000000)) true (one_of 2000000), Value (pos 2000000))
-    ∷ ("8/4x2", first bare (more (more (first nothing (whole 8000000)) true (whole 4000000)) false (whole 2000000)), Value (pos 4000000))
-    ∷ ("-1+3", more (first minus (one_of 1000000)) false (one_of 3000000), Value (pos 2000000))
-    ∷ ("-2x(3-$1)", first minus (more (first nothing (whole 2000000)) false (inside three_less_dollar_one)), Value (negsuc 3999999))
-    ∷ ("1/0+1", more (first bare (more (first nothing (whole 1000000)) true (whole 0))) false (one_of 1000000), Refused)
+    ("8-4-2", more (more (first bare (one_of 8000000)) true (one_of 4000000)) true (one_of 2000000), Some (pos 2000000))
+    ∷ ("8/4x2", first bare (more (more (first nothing (whole 8000000)) true (whole 4000000)) false (whole 2000000)), Some (pos 4000000))
+    ∷ ("-1+3", more (first minus (one_of 1000000)) false (one_of 3000000), Some (pos 2000000))
+    ∷ ("-2x(3-$1)", first minus (more (first nothing (whole 2000000)) false (inside three_less_dollar_one)), Some (negsuc 3999999))
+    ∷ ("1/0+1", more (first bare (more (first nothing (whole 1000000)) true (whole 0))) false (one_of 1000000), None)
     ∷ []
 
 examples_written : map (λ row. written 1 row.1 []) examples ≡ map (λ row. tokens (text row.0)) examples

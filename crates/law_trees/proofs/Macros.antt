@@ -1,5 +1,6 @@
 -- Of a macro of good form, AD can be refused with 9 only over an operation: its expressions are the texts whose form AM looked at.
 -- Assumes nothing.
+use Rattle.std.specs.Prelude.{None, Option, Some, ℤ}
 use Prim.Native.Nat.{ℕ, ◌+◌, ◌-◌, ◌≤◌}
 use Prim.Native.Char.{code}
 use mathlib.Core.Path.{◌≡◌, refl, sym, ap, ◌∙◌}
@@ -20,8 +21,6 @@ use Rattle.command.specs.declared.Command.TheVariants.{Define}
 use Rattle.command.specs.declared.Definition.TheVariants.{Macro}
 use Rattle.command.specs.Flaws.{not_form, too_long}
 use Rattle.command.specs.declared.Span.{Span}
-use Rattle.reckon.specs.declared.Reckoned.{Reckoned}
-use Rattle.reckon.specs.declared.Reckoned.TheVariants.{Refused, Value}
 use Rattle.base.specs.Breaks.{is_break}
 use Rattle.base.specs.Trimmed.{kept_before, drop_trailing}
 use Rattle.macro_tokens.specs.LineEnds.{without_leading, without_trailing}
@@ -54,7 +53,7 @@ unfolding gathered
 gathered_sound form f [] s = s
 gathered_sound form f (t ∷ ts) s = joined_l f (form t) (gathered_sound form (joined f (form t)) ts s)
 
-refused_by : (t : List ℕ) → Sound (expression_form t) → (variables : List ℤ) → value_of variables t ≡ Refused → Unworkable variables t
+refused_by : (t : List ℕ) → Sound (expression_form t) → (variables : List ℤ) → value_of variables t ≡ None → Unworkable variables t
 refused_by t s variables e = let u = understood t s in record { expression = u; refused = sym (u.value variables) ∙ e }
 
 module _ (variables : List ℤ) where
@@ -67,10 +66,10 @@ module _ (variables : List ℤ) where
       sound : Sound (parameter_form t)
       sound = joined_r f (parameter_form t) (gathered_sound parameter_form (joined f (parameter_form t)) ts s)
 
-      by : ((values_of variables ts).fine ≡ false → Any (Unworkable variables) (map without_leading ts)) → (r : Reckoned) → value_of variables (without_leading t) ≡ r →
+      by : ((values_of variables ts).fine ≡ false → Any (Unworkable variables) (map without_leading ts)) → (r : Option ℤ) → value_of variables (without_leading t) ≡ r →
           (onward r (values_of variables ts)).fine ≡ false → Any (Unworkable variables) (without_leading t ∷ map without_leading ts)
-      by ih Refused q e = here (refused_by (without_leading t) (unfold parameter_form in sound) variables q)
-      by ih (Value z) q e = further (ih (unfold onward in e))
+      by ih None q e = here (refused_by (without_leading t) (unfold parameter_form in sound) variables q)
+      by ih (Some z) q e = further (ih (unfold onward in e))
 
   not_fine : (fine kept : Bool) → verdict fine kept ≡ 9 → fine ≡ false
   unfolding verdict
@@ -82,10 +81,10 @@ module _ (variables : List ℤ) where
   unfolding primitive_form primitive_done
   primitive_nine t s e = none_fine _ (parameters_in (drop (place (code ",") t 0) t)) s (not_fine _ _ e)
 
-  assigned_nine : (n : ℕ) (r : Reckoned) → (assigned variables n r).fault ≡ 9 → r ≡ Refused
+  assigned_nine : (n : ℕ) (r : Option ℤ) → (assigned variables n r).fault ≡ 9 → r ≡ None
   unfolding assigned
-  assigned_nine n Refused e = refl
-  assigned_nine n (Value z) e = absurd (omega arith)
+  assigned_nine n None e = refl
+  assigned_nine n (Some z) e = absurd (omega arith)
 
   assignment_nine : (t : List ℕ) → Sound (assignment_form t) → (assignment_done variables t).fault ≡ 9 → Any (Unworkable variables) (after "=" t ∷ [])
   unfolding assignment_form assignment_done

@@ -1,14 +1,13 @@
 -- Whatever AM takes for an expression is understood, the walk grows its tree and the grammar reads the tree to its end; and AM takes every
 -- tree to depth 16 whose numbers and variables are in range.
 -- Assumes nothing.
+use Rattle.std.specs.Prelude.{None, Option, Some, ℤ}
 use Prim.Native.Nat.{ℕ, ◌≤◌}
 use mathlib.Core.Path.{◌≡◌, refl, sym, ap, ◌∙◌}
 use mathlib.Core.Bool.{false}
 use mathlib.Core.List.{List, []}
 use lib.IntN.{ℤ}
 use lib.ListN.{length}
-use Rattle.reckon.specs.declared.Reckoned.{Reckoned}
-use Rattle.reckon.specs.declared.Reckoned.TheVariants.{Refused, Value}
 use Rattle.macro_tokens.specs.Tokens.{tokens}
 use Rattle.macro_tokens.proofs.Few.{tokens_few}
 use Rattle.macro_form.specs.Expression.{expression_form}
@@ -24,10 +23,10 @@ use Rattle.law_trees.proofs.Built.{tokens_tree}
 use Rattle.law_trees.proofs.Evaluated.{tree_reads}
 use Rattle.law_trees.proofs.Formed.{tree_form_lem, tree_shallow}
 
-whole_kept : (r : Reckoned) → whole (kept r []) ≡ r
+whole_kept : (r : Option ℤ) → whole (kept r []) ≡ r
 unfolding whole kept
-whole_kept Refused = refl
-whole_kept (Value a) = refl
+whole_kept None = refl
+whole_kept (Some a) = refl
 
 -- the value of a tree's text
 pub tree_value : (t : List ℕ) (e : Expression deepest) → written deepest e [] ≡ tokens t → (variables : List ℤ) → value_of variables t ≡ comes_to variables deepest e

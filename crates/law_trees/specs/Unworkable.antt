@@ -1,10 +1,9 @@
 -- The expressions of a macro, and how one of them makes AD refuse with 9: an operation of its tree refuses (01, Macros).
-use Rattle.std.specs.Prelude.{ℕ, ◌≡◌, List, [], ◌∷◌, map, ℤ, drop, get_or}
+use Rattle.std.specs.Prelude.{ℕ, ◌≡◌, List, [], ◌∷◌, map, ℤ, drop, get_or, None}
 use Prim.Native.Char.{code}
 use Rattle.text.specs.First.{place, after}
 use Rattle.text.specs.Text.{byte}
 use Rattle.base.specs.Choose.{choose}
-use Rattle.reckon.specs.declared.Reckoned.TheVariants.{Refused}
 use Rattle.macro_tokens.specs.LineEnds.{without_leading}
 use Rattle.macros.specs.Work.{parameters_in, block_done}
 use Rattle.law_trees.specs.Tree.{deepest}
@@ -24,7 +23,7 @@ expressions_of s =
 -- an operation of the expression's tree refuses
 pub record Unworkable (variables : List ℤ) (t : List ℕ) : Type 0 where
   pub expression : Understood t
-  pub refused : comes_to variables deepest expression.tree ≡ Refused
+  pub refused : comes_to variables deepest expression.tree ≡ None
 
 -- one of these is so
 pub data Any {A : Type 0} (P : A → Type 0) : List A → Type 0 where

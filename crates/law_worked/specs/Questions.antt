@@ -1,6 +1,6 @@
 -- What the cases of document 01, "Either side of a line", ask, and what the definitions answer: of numbers as document 01 writes them,
 -- read by the definition of a decimal; and of files, read by the definition of reading.
-use Rattle.std.specs.Prelude.{ℕ, cond, List, ◌++◌, ℤ, pos, get_or}
+use Rattle.std.specs.Prelude.{ℕ, cond, List, ◌++◌, ℤ, pos, get_or, None, Option, Some, Err, Ok, Result}
 use Prim.Native.String.{String}
 use Rattle.book.specs.Books.{ascii}
 use Rattle.points.specs.Points.{pt}
@@ -11,13 +11,12 @@ use Rattle.place.specs.declared.Item.{Item}
 use Rattle.law_reading.specs.State.{Room}
 use Rattle.law_reading.specs.Reading as file
 use Rattle.decimal.specs.Decimal.{decimal_of}
-use Rattle.decimal.specs.declared.answers.Decimal.{Decimal}
-use Rattle.decimal.specs.declared.answers.Decimal.TheVariants as decimal
 use Rattle.reckon.specs.Rounding.{product_of, quotient_of, reckoned_refusal}
 use Rattle.reckon.specs.Thermal.{thermal_fits}
 use Rattle.reckon.specs.ArcCentre.{nonsense_centre}
-use Rattle.reckon.specs.declared.Reckoned.{Reckoned}
-use Rattle.reckon.specs.declared.Reckoned.TheVariants as reckoned
+use Rattle.digits.specs.declared.answers.NumberError.TheVariants as number_error
+use Rattle.digits.specs.declared.answers.NumberError.{NumberError}
+use Rattle.decimal.specs.declared.answers.Decimal.{Decimal}
 
 -- a point is its x and its y
 pub data At : Type 0 where
@@ -51,10 +50,10 @@ pub data Answer : Type 0 where
   unread : Answer
 
 -- a decimal's millionths, handed on
-unfoldable pub worth : Decimal → (ℤ → Answer) → Answer
-worth decimal.NotForm f = unread
-worth decimal.TooLong f = unread
-worth (decimal.Value a rounded) f = f a.millionths
+unfoldable pub worth : Result Decimal NumberError → (ℤ → Answer) → Answer
+worth (Err number_error.NotForm) f = unread
+worth (Err number_error.TooLong) f = unread
+worth (Ok d) f = f d.amount.millionths
 
 unfoldable pub reading : String → (ℤ → Answer) → Answer
 reading s f = worth (decimal_of (text s)) f
@@ -62,9 +61,9 @@ reading s f = worth (decimal_of (text s)) f
 unfoldable pub reading_at : At → (Point → Answer) → Answer
 reading_at (at x y) f = reading x (λ a. reading y (λ b. f (pt a b)))
 
-unfoldable pub reckoned_as : Reckoned → Answer
-reckoned_as reckoned.Refused = refused (reckoned_refusal reckoned.Refused)
-reckoned_as (reckoned.Value z) = value z
+unfoldable pub reckoned_as : Option ℤ → Answer
+reckoned_as None = refused (reckoned_refusal None)
+reckoned_as (Some z) = value z
 
 -- a file's items with every repeat and nested block written out
 unfoldable pub listed : file.Answer → Answer

@@ -15,16 +15,17 @@ pub enum Made {
     Nothing,
 }
 
+#[tactic(auto, unfolding(crate::specs::Made::made_by_operation))]
 fn made_by_operation(o: Operation) -> Made
     ensures { result ≡ made_by_operation o }
 {
     match o {
-        Operation::Draw { .. } => Made::Item,
         Operation::Move { .. } => Made::Nothing,
-        Operation::Flash { .. } => Made::Item,
+        Operation::Draw { .. } | Operation::Flash { .. } => Made::Item,
     }
 }
 
+#[tactic(auto, unfolding(crate::specs::Made::made_by_definition))]
 fn made_by_definition(d: Definition) -> Made
     ensures { result ≡ made_by_definition d }
 {
@@ -34,32 +35,26 @@ fn made_by_definition(d: Definition) -> Made
     }
 }
 
+#[tactic(auto, unfolding(crate::specs::Made::made_by_deed))]
 fn made_by_deed(d: Deed) -> Made
     ensures { result ≡ made_by_deed d }
 {
     match d {
         Deed::SetFile { name, value } => Made::File { name, value },
-        Deed::SetAperture { .. } => Made::Nothing,
-        Deed::SetObject { .. } => Made::Nothing,
-        Deed::Delete { .. } => Made::Nothing,
-        Deed::DeleteAll => Made::Nothing,
+        _ => Made::Nothing,
     }
 }
 
 // What a command makes.
+#[tactic(auto, unfolding(crate::specs::Made::made_of))]
 pub fn made_of(c: Command) -> Made
     ensures { result ≡ made_of c }
 {
     match c {
         Command::Operate(o) => made_by_operation(o),
+        Command::Coded { operation, .. } => made_by_operation(operation),
         Command::Define(d) => made_by_definition(d),
         Command::Attribute(d) => made_by_deed(d),
-        Command::Broken(_) => Made::Nothing,
-        Command::Note => Made::Nothing,
-        Command::End => Made::Nothing,
-        Command::Set(_) => Made::Nothing,
-        Command::Select(_) => Made::Nothing,
-        Command::Contain(_) => Made::Nothing,
-        Command::Coded { operation, .. } => made_by_operation(operation),
+        _ => Made::Nothing,
     }
 }

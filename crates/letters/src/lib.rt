@@ -2,7 +2,7 @@
 #![tactic(auto)]
 
 ghost use Rattle.std.specs.Prelude.{◌≡◌};
-ghost use Rattle.letters.specs.Table.{within, follow, nothing, lead_of, is_whole, takes, fed};
+ghost use Rattle.letters.specs.Table.{follow, nothing, lead_of, is_whole, takes, fed};
 
 // What must follow: `left` bytes, the first of them from low to high, the others from 80 to BF. Nothing where left is 0.
 #[derive(Clone, Copy)]
@@ -10,13 +10,6 @@ pub struct Follow {
     low: u8,
     high: u8,
     left: usize,
-}
-
-// b is from low up to high.
-fn is_within(low: u8, high: u8, b: u8) -> bool
-    ensures { result ≡ within low high b }
-{
-    base::both(low <= b, b <= high)
 }
 
 // Made of its three numbers.
@@ -34,34 +27,21 @@ pub fn none() -> Follow
 }
 
 // What must follow this byte; nothing where it begins no sequence.
+#[tactic(auto, using(base::proofs::Or::joins), unfolding(crate::specs::Table::lead_of, crate::specs::Table::lead_in, crate::specs::Table::table, crate::specs::Table::within))]
 pub fn lead(b: u8) -> Follow
     ensures { result ≡ lead_of b }
 {
-    if is_within(0xC2, 0xDF, b) {
-        return to_follow(0x80, 0xBF, 1);
+    match b {
+        0xC2..=0xDF => to_follow(0x80, 0xBF, 1),
+        0xE0 => to_follow(0xA0, 0xBF, 2),
+        0xE1..=0xEC => to_follow(0x80, 0xBF, 2),
+        0xED => to_follow(0x80, 0x9F, 2),
+        0xEE..=0xEF => to_follow(0x80, 0xBF, 2),
+        0xF0 => to_follow(0x90, 0xBF, 3),
+        0xF1..=0xF3 => to_follow(0x80, 0xBF, 3),
+        0xF4 => to_follow(0x80, 0x8F, 3),
+        _ => none(),
     }
-    if is_within(0xE0, 0xE0, b) {
-        return to_follow(0xA0, 0xBF, 2);
-    }
-    if is_within(0xE1, 0xEC, b) {
-        return to_follow(0x80, 0xBF, 2);
-    }
-    if is_within(0xED, 0xED, b) {
-        return to_follow(0x80, 0x9F, 2);
-    }
-    if is_within(0xEE, 0xEF, b) {
-        return to_follow(0x80, 0xBF, 2);
-    }
-    if is_within(0xF0, 0xF0, b) {
-        return to_follow(0x90, 0xBF, 3);
-    }
-    if is_within(0xF1, 0xF3, b) {
-        return to_follow(0x80, 0xBF, 3);
-    }
-    if is_within(0xF4, 0xF4, b) {
-        return to_follow(0x80, 0x8F, 3);
-    }
-    none()
 }
 
 // Nothing must follow.
@@ -72,18 +52,17 @@ pub fn is_whole(f: Follow) -> bool
 }
 
 // This byte may come next.
+#[tactic(auto, unfolding(crate::specs::Table::takes, crate::specs::Table::within))]
 pub fn does_take(f: Follow, b: u8) -> bool
     ensures { result ≡ takes f b }
 {
-    is_within(f.low, f.high, b)
+    base::between(f.low, b, f.high)
 }
 
 // What must follow once a byte has come.
+#[tactic(auto, unfolding(crate::specs::Table::fed))]
 pub fn feed(f: Follow) -> Follow
     ensures { result ≡ fed f }
 {
-    if f.left > 0 {
-        return to_follow(0x80, 0xBF, f.left - 1);
-    }
-    to_follow(0x80, 0xBF, 0)
+    to_follow(0x80, 0xBF, f.left.saturating_sub(1))
 }

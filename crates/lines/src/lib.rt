@@ -32,9 +32,28 @@ pub fn add_signed(out: &mut [u8], at: usize, w: u64) -> usize
 {
     if w >= 9223372036854775808 {
         let from = add(out, at, b"-");
-        return add_number(out, from, 18446744073709551615 - w + 1);
+        return add_number(out, from, w.wrapping_neg());
     }
     add_number(out, at, w)
+}
+
+// The name of a kind, by its word.
+#[tactic(auto, unfolding(crate::specs::Line::kind_of, text::specs::Text::text))]
+fn kind_name(w: u64) -> &'static [u8]
+    ensures name { result.now ≡ kind_of w }
+    ensures short { length result.now ≤ 21 }
+{
+    match w {
+        1 => b"line",
+        2 => b"cw",
+        3 => b"ccw",
+        4 => b"flash",
+        5 => b"contour",
+        6 => b"edge-line",
+        7 => b"edge-cw",
+        8 => b"edge-ccw",
+        _ => b"",
+    }
 }
 
 // A kind by its word.
@@ -42,17 +61,7 @@ fn add_kind(out: &mut [u8], at: usize, w: u64) -> usize
     requires { at + 21 ≤ length out.old }
     ensures { Added out.old out.new at result (kind_of w) }
 {
-    match w {
-        1 => add(out, at, b"line"),
-        2 => add(out, at, b"cw"),
-        3 => add(out, at, b"ccw"),
-        4 => add(out, at, b"flash"),
-        5 => add(out, at, b"contour"),
-        6 => add(out, at, b"edge-line"),
-        7 => add(out, at, b"edge-cw"),
-        8 => add(out, at, b"edge-ccw"),
-        _ => add(out, at, b""),
-    }
+    add(out, at, kind_name(w))
 }
 
 // Word i of an item, after a tab.
@@ -61,16 +70,12 @@ fn add_field(out: &mut [u8], at: usize, i: usize, w: u64) -> usize
     ensures { Added out.old out.new at result (field_of i w) }
 {
     let from = add(out, at, b"\t");
-    if i == 0 {
-        return add_kind(out, from, w);
+    match i {
+        0 => add_kind(out, from, w),
+        2 if w == 0 => add(out, from, b"dark"),
+        2 => add(out, from, b"clear"),
+        _ => add_signed(out, from, w),
     }
-    if i == 2 {
-        if w == 0 {
-            return add(out, from, b"dark");
-        }
-        return add(out, from, b"clear");
-    }
-    add_signed(out, from, w)
 }
 
 // The line of item k, whose words these are, in a room for the longest line: how many bytes it takes. Those after it stay.
@@ -79,10 +84,8 @@ pub fn item_line(out: &mut [u8; 351], k: u64, words: &[u64]) -> usize
     ensures out_after { out.new ≡ line_of k words.now ++ drop result out.old }
 {
     let mut at = add_number(out, 0, k);
-    let mut i: usize = 0;
-    while i < place::ITEM_WORDS {
+    for i in 0..place::ITEM_WORDS {
         at = add_field(out, at, i, base::word_at(words, i));
-        i += 1;
     }
     add(out, at, b"\n")
 }

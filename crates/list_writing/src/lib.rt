@@ -1,12 +1,12 @@
 // The placement list written into a lent room. Where it does not fit the pen is full, and stays so.
 #![tactic(auto)]
 
-ghost use Rattle.std.specs.Prelude.{◌++◌, List, ◌≡◌, false, ℕ, ◌≤◌, length};
+ghost use Rattle.std.specs.Prelude.{◌++◌, List, ◌≡◌, false, ℕ, ◌≤◌, ◌<◌, length};
 ghost use Rattle.text.specs.Text.{text};
 ghost use Rattle.law_components.specs.Records.{numeral, point_text, main_row, pin_row};
 ghost use Rattle.law_components.specs.Written.{Wrote};
 ghost use Rattle.law_components.specs.Placements.{list_of};
-ghost use Rattle.seeing.specs.Layer.{Layer, parts};
+ghost use Rattle.seeing.specs.Layer.{Layer, SeenIs, parts};
 ghost use Rattle.passes.specs.Words.{word_of};
 ghost use Rattle.list_writing.specs.Rows.{pin_by, main_by, pins_at};
 ghost use Rattle.list_writing.specs.Walks.{Walks, Walking};
@@ -23,19 +23,11 @@ use sheet::Container;
 pub fn write(out: &mut [u8], pen: Pen, s: &[u8]) -> Pen
     ensures { Wrote out.old out.new pen result s.now }
 {
-    let at = pen.at;
-    if pen.full {
-        return Pen { at: at, full: true };
+    if pen.full || pen.at > out.len() || s.len() > out.len() - pen.at {
+        return Pen { full: true, ..pen };
     }
-    if at > out.len() {
-        return Pen { at: at, full: true };
-    }
-    if s.len() > out.len() - at {
-        return Pen { at: at, full: true };
-    }
-    let end = lines::add(out, at, s);
     Pen {
-        at: end,
+        at: lines::add(out, pen.at, s),
         full: false,
     }
 }
@@ -104,29 +96,25 @@ fn pin_row(out: &mut [u8], pen: Pen, number: &[u8], p: Point) -> Pen
 fn put_pin(file: &[u8], out: &mut [u8], pen: Pen, s: Seen) -> Pen
     ensures { Wrote out.old out.new pen result (pin_by file.now s) }
 {
-    let note = s.note;
-    let end = s.end;
-    let p = note.number;
-    pin_row(out, pen, base::part(file, p.from, p.to), end)
+    let p = s.note.number;
+    pin_row(out, pen, base::part(file, p.from, p.to), s.end)
 }
 
 // Puts the record of a main, which is noted by the designator d.
 fn put_main(file: &[u8], names: &[u64], out: &mut [u8], pen: Pen, s: Seen, d: u64) -> Pen
     ensures { Wrote out.old out.new pen result (main_by file.now names.now d s) }
 {
-    let note = s.note;
-    let end = s.end;
-    let r = note.rotation;
-    let v = note.value;
-    let f = note.footprint;
-    let m = note.mount;
+    let r = s.note.rotation;
+    let v = s.note.value;
+    let f = s.note.footprint;
+    let m = s.note.mount;
     let from = sheet::index(passes::word_of(names, d, 0));
     let to = sheet::index(passes::word_of(names, d, 1));
     main_row(
         out,
         pen,
         base::part(file, from, to),
-        end,
+        s.end,
         base::part(file, r.from, r.to),
         base::part(file, v.from, v.to),
         base::part(file, f.from, f.to),
@@ -134,64 +122,69 @@ fn put_main(file: &[u8], names: &[u64], out: &mut [u8], pen: Pen, s: Seen, d: u6
     )
 }
 
-// Puts the records of the pins that a link leads to.
-fn put_pins(
-    file: &[u8],
-    e: &[u64],
-    a: &[u64],
+// What a list is written from: the file, its sheet, what is noted of its items, and how their pins are linked.
+#[derive(Clone, Copy)]
+struct Sources<'a> {
+    file: &'a [u8],
+    e: &'a [u64],
+    a: &'a [u64],
     top: Container,
-    notes: &[u64],
+    notes: &'a [u64],
     operations: usize,
-    roles: &[u64],
+    roles: &'a [u64],
     roled: usize,
-    pins: &[u64],
-    first: u64,
-    out: &mut [u8],
-    pen: Pen,
-) -> Pen
-    requires { Layer e.now a.now top notes.now operations roles.now roled × Walking pins.now top.items first × (pen.full ≡ false → pen.at ≤ length out.old) }
-    ensures { (l : Layer e.now a.now top notes.now operations roles.now roled) → l.file ≡ file.now →
-        (ks : List ℕ) → Walks pins.now top.items first ks → Wrote out.old out.new pen result (pins_at (parts l) ks) }
+    names: &'a [u64],
+    pins: &'a [u64],
+}
+
+impl Sources<'_> {
+    // Item k.
+    fn see(self, k: u64) -> Seen
+        requires { Layer self.e.now self.a.now self.top self.notes.now self.operations self.roles.now self.roled × (k < self.top.items) }
+        ensures { (l : Layer self.entry.e.now self.entry.a.now self.entry.top self.entry.notes.now self.entry.operations self.entry.roles.now self.entry.roled) → SeenIs l k result }
+    {
+        seeing::see(
+            self.e,
+            self.a,
+            self.top,
+            self.notes,
+            self.operations,
+            self.roles,
+            self.roled,
+            k,
+        )
+    }
+}
+
+// Puts the records of the pins that a link leads to.
+fn put_pins(w: Sources, first: u64, out: &mut [u8], pen: Pen) -> Pen
+    requires { Layer w.e.now w.a.now w.top w.notes.now w.operations w.roles.now w.roled × Walking w.pins.now w.top.items first × (pen.full ≡ false → pen.at ≤ length out.old) }
+    ensures { (l : Layer w.entry.e.now w.entry.a.now w.entry.top w.entry.notes.now w.entry.operations w.entry.roles.now w.entry.roled) → l.file ≡ w.entry.file.now →
+        (ks : List ℕ) → Walks w.entry.pins.now w.entry.top.items first ks → Wrote out.old out.new pen result (pins_at (parts l) ks) }
 {
+    // A chain of links, each found in the record before it: no iterator walks so.
     let mut link = first;
     let mut q = pen;
     while link > 0 {
         let j = sheet::index(link - 1);
-        let k = base::word_at(pins, j * 2);
-        link = base::word_at(pins, j * 2 + 1);
-        let s = seeing::see(e, a, top, notes, operations, roles, roled, k);
-        q = put_pin(file, out, q, s);
+        let k = base::word_at(w.pins, j * 2);
+        link = base::word_at(w.pins, j * 2 + 1);
+        let s = w.see(k);
+        q = put_pin(w.file, out, q, s);
     }
     q
 }
 
 // Puts a main's record and those of its pins.
-fn put_entry(
-    file: &[u8],
-    e: &[u64],
-    a: &[u64],
-    top: Container,
-    notes: &[u64],
-    operations: usize,
-    roles: &[u64],
-    roled: usize,
-    names: &[u64],
-    pins: &[u64],
-    out: &mut [u8],
-    pen: Pen,
-    s: Seen,
-    d: u64,
-) -> Pen
-    requires { Layer e.now a.now top notes.now operations roles.now roled × Walking pins.now top.items (word_of names.now d 3) }
-    ensures { (l : Layer e.now a.now top notes.now operations roles.now roled) → l.file ≡ file.now →
-        (ks : List ℕ) → Walks pins.now top.items (word_of names.now d 3) ks →
-        Wrote out.old out.new pen result (main_by file.now names.now d s ++ pins_at (parts l) ks) }
+fn put_entry(w: Sources, out: &mut [u8], pen: Pen, s: Seen, d: u64) -> Pen
+    requires { Layer w.e.now w.a.now w.top w.notes.now w.operations w.roles.now w.roled × Walking w.pins.now w.top.items (word_of w.names.now d 3) }
+    ensures { (l : Layer w.entry.e.now w.entry.a.now w.entry.top w.entry.notes.now w.entry.operations w.entry.roles.now w.entry.roled) → l.file ≡ w.entry.file.now →
+        (ks : List ℕ) → Walks w.entry.pins.now w.entry.top.items (word_of w.entry.names.now d 3) ks →
+        Wrote out.old out.new pen result (main_by w.entry.file.now w.entry.names.now d s ++ pins_at (parts l) ks) }
 {
-    let next = put_main(file, names, out, pen, s, d);
-    let first = passes::word_of(names, d, 3);
-    put_pins(
-        file, e, a, top, notes, operations, roles, roled, pins, first, out, next,
-    )
+    let next = put_main(w.file, w.names, out, pen, s, d);
+    let first = passes::word_of(w.names, d, 3);
+    put_pins(w, first, out, next)
 }
 
 // Puts the whole list.
@@ -213,20 +206,25 @@ pub fn put_list(
         Wrote out.old out.new (record { at = 0; full = false }) result (list_of (parts w.layer)) }
 {
     let mut q = Pen { at: 0, full: false };
-    let mut k: u64 = 0;
-    while k < top.items {
-        let s = seeing::see(e, a, top, notes, operations, roles, roled, k);
-        let role = s.role;
-        let note = s.note;
-        let d = passes::main_of(role, note);
+    let w = Sources {
+        file,
+        e,
+        a,
+        top,
+        notes,
+        operations,
+        roles,
+        roled,
+        names,
+        pins,
+    };
+    for k in 0..top.items {
+        let s = w.see(k);
+        let d = passes::main_of(s.role, s.note);
         if d == 0 {
-            k += 1;
-        } else {
-            q = put_entry(
-                file, e, a, top, notes, operations, roles, roled, names, pins, out, q, s, d,
-            );
-            k += 1;
+            continue;
         }
+        q = put_entry(w, out, q, s, d);
     }
     q
 }

@@ -1,5 +1,6 @@
 -- The number and the slots, from what a valid store's counts and the descent say.
 -- Assumes nothing.
+use Rattle.std.specs.Prelude.{Err, Ok}
 use Prim.Native.Nat.{ℕ, ◌+◌, ◌≤◌, ◌<◌}
 use native.Mathlib.Omega.{arith}
 use mathlib.Core.Path.{◌≡◌, refl, sym, ◌∙◌}
@@ -15,22 +16,22 @@ use Rattle.sheet.specs.Meaning.{items, sheet_items}
 use Rattle.sheet.specs.Valid.{valid}
 use Rattle.sheet.proofs.Expand.{length_sheet}
 use Rattle.descend.specs.Slots.{fetch_of, fetch_number}
-use Rattle.descend.specs.declared.Fetch.TheVariants as F
 use Rattle.lists.specs.Lists.{number_of, held, slot_of}
+use Rattle.descend.specs.declared.Unanswered.TheVariants as unanswered
 
 -- 0 is the number of the one way out where both tests hold
-both_hold : (v l : Bool) → fetch_number (cond v (cond l F.Done F.Past) F.NotSheet) ≡ 0 → (v ≡ true) × (l ≡ true)
+both_hold : (v l : Bool) → fetch_number (cond v (cond l (Ok _) (Err unanswered.Past)) (Err unanswered.NotSheet)) ≡ 0 → (v ≡ true) × (l ≡ true)
 unfolding fetch_number
 both_hold true true n = (refl, refl)
 both_hold true false n = absurd (omega arith)
 both_hold false l n = absurd (omega arith)
 
-fails : (l : Bool) → (fetch_number (cond l F.Done F.Past) ≡ 0 → ⊥) → l ≡ false
+fails : (l : Bool) → (fetch_number (cond l (Ok _) (Err unanswered.Past)) ≡ 0 → ⊥) → l ≡ false
 unfolding fetch_number
 fails true nz = absurd (nz refl)
 fails false nz = refl
 
-none_from : (v : Bool) (ts : List Item) (k : ℕ) → (fetch_number (cond v (cond (ltb k (length ts)) F.Done F.Past) F.NotSheet) ≡ 0 → ⊥) → length (cond v ts []) ≤ k
+none_from : (v : Bool) (ts : List Item) (k : ℕ) → (fetch_number (cond v (cond (ltb k (length ts)) (Ok _) (Err unanswered.Past)) (Err unanswered.NotSheet)) ≡ 0 → ⊥) → length (cond v ts []) ≤ k
 none_from true ts k nz = ltb-false k (length ts) (fails (ltb k (length ts)) nz)
 none_from false ts k nz = omega arith
 

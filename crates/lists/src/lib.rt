@@ -11,13 +11,13 @@ use place::Item;
 fn number(head: &[u64; 8], e: &[u64], a: &[u64], k: u64) -> u64
     ensures { result ≡ number_of head.now e.now a.now k }
 {
-    if inspect::is_sheet(head, e, a) {
-        if k < head[7] {
-            return 0;
-        }
-        return 20;
+    if !inspect::is_sheet(head, e, a) {
+        21
+    } else if k >= head[7] {
+        20
+    } else {
+        0
     }
-    21
 }
 
 // What slot i holds, where the store was looked at and n answered; k + i need not fit a word.
@@ -25,14 +25,14 @@ fn slot(head: &[u64; 8], e: &[u64], a: &[u64], n: u64, k: u64, i: usize) -> Item
     requires { n ≡ number_of head.now e.now a.now k }
     ensures { result ≡ slot_of (held head.now e.now a.now) (k + i) }
 {
-    if n == 0 {
-        let top = sheet::top_of(head);
-        if (i as u64) < top.items - k {
-            return descend::item_at(e, a, 10, top, k + (i as u64));
-        }
+    if n != 0 {
         return place::zero_item();
     }
-    place::zero_item()
+    let top = sheet::top_of(head);
+    if (i as u64) >= top.items - k {
+        return place::zero_item();
+    }
+    descend::item_at(e, a, 10, top, k + (i as u64))
 }
 
 // The list lent is filled from item k on.
@@ -41,10 +41,8 @@ pub fn fill(list: &mut [Item], head: &[u64; 8], e: &[u64], a: &[u64], k: u64) ->
         × (list.new ≡ filled head.now e.now a.now k (length list.old)) }
 {
     let n = number(head, e, a, k);
-    let mut i = 0;
-    while i < list.len() {
-        list[i] = slot(head, e, a, n, k, i);
-        i = i + 1;
+    for (i, item) in list.iter_mut().enumerate() {
+        *item = slot(head, e, a, n, k, i);
     }
     n
 }
@@ -60,8 +58,7 @@ pub struct Batch {
 fn blank() -> [Item; 8]
     ensures { result ≡ replicate 8 zero_item }
 {
-    let zero = place::zero_item();
-    [zero; 8]
+    [place::zero_item(); 8]
 }
 
 // The first m slots of an array are lent, and the array is handed back by value.
@@ -70,19 +67,13 @@ fn eight(head: &[u64; 8], e: &[u64], a: &[u64], k: u64, m: usize) -> Batch
     ensures { result ≡ batch_of head.now e.now a.now k m }
 {
     let mut items = blank();
-    let n = fill(&mut items[..m], head, e, a, k);
-    Batch {
-        number: n,
-        items: items,
-    }
+    let number = fill(&mut items[..m], head, e, a, k);
+    Batch { number, items }
 }
 
 // Eight slots by value, of which the first m are filled from item k on, all eight where m is more: whoever calls this lends no list.
 pub fn run_of(head: &[u64; 8], e: &[u64], a: &[u64], k: u64, m: usize) -> Batch
     ensures { result ≡ batch_of head.now e.now a.now k (min m 8) }
 {
-    if m <= 8 {
-        return eight(head, e, a, k, m);
-    }
-    eight(head, e, a, k, 8)
+    eight(head, e, a, k, m.min(8))
 }

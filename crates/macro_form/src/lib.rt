@@ -33,119 +33,101 @@ pub struct Walk {
     pub rounded: usize,
 }
 
-// One less, 0 of none.
-fn less_one(n: usize) -> usize
-    ensures { result ≡ n - 1 }
-{
-    if n == 0 {
-        return 0;
-    }
-    n - 1
-}
-
 // A number or a variable, what is wrong with it, and whether it was rounded.
+#[tactic(auto, using(base::proofs::Or::joins), unfolding(crate::specs::Expression::after_operand))]
 fn after_operand(w: Walk, formless: bool, long: bool, rounded: bool) -> Walk
     requires { w.rounded + 1 < 2 ^ 64 }
     ensures { result ≡ after_operand w formless long rounded }
 {
     let count = w.rounded + command::counted(rounded);
     Walk {
-        formless: base::either(base::either(w.formless, w.operand), formless),
-        long: base::either(w.long, long),
-        deep: w.deep,
-        depth: w.depth,
+        formless: w.formless || w.operand || formless,
+        long: w.long || long,
         operand: true,
         sign: false,
         rounded: count,
+        ..w
     }
 }
 
 // An operator or a sign, where it may stand.
+#[tactic(auto, using(base::proofs::Or::joins), unfolding(crate::specs::Expression::after_operator))]
 fn after_operator(w: Walk, may: bool) -> Walk
     ensures { result ≡ after_operator w may }
 {
     Walk {
-        formless: base::either(w.formless, !may),
-        long: w.long,
-        deep: w.deep,
-        depth: w.depth,
+        formless: w.formless || !may,
         operand: false,
         sign: false,
-        rounded: w.rounded,
+        ..w
     }
 }
 
 // An opening parenthesis.
+#[tactic(auto, using(base::proofs::Or::joins), unfolding(crate::specs::Expression::opened))]
 fn after_open(w: Walk) -> Walk
     requires { w.depth + 1 < 2 ^ 64 }
     ensures { result ≡ opened w }
 {
     Walk {
-        formless: base::either(w.formless, w.operand),
-        long: w.long,
-        deep: base::either(w.deep, 17 <= w.depth + 1),
+        formless: w.formless || w.operand,
+        deep: w.deep || 17 <= w.depth + 1,
         depth: w.depth + 1,
         operand: false,
         sign: true,
-        rounded: w.rounded,
+        ..w
     }
 }
 
 // A closing parenthesis.
+#[tactic(auto, using(base::proofs::Or::joins), unfolding(crate::specs::Expression::closed))]
 fn after_close(w: Walk) -> Walk
     ensures { result ≡ closed w }
 {
     Walk {
-        formless: base::either(base::either(w.formless, !w.operand), w.depth == 0),
-        long: w.long,
-        deep: w.deep,
-        depth: less_one(w.depth),
+        formless: w.formless || !w.operand || w.depth == 0,
+        depth: w.depth.saturating_sub(1),
         operand: true,
         sign: false,
-        rounded: w.rounded,
+        ..w
     }
 }
 
 // A byte that no expression holds.
+#[tactic(auto, unfolding(crate::specs::Expression::unknown))]
 fn after_unknown(w: Walk) -> Walk
     ensures { result ≡ unknown w }
 {
     Walk {
         formless: true,
-        long: w.long,
-        deep: w.deep,
-        depth: w.depth,
-        operand: w.operand,
-        sign: w.sign,
-        rounded: w.rounded,
+        ..w
     }
 }
 
 // One token further.
+#[tactic(auto, using(base::proofs::Or::joins), unfolding(crate::specs::Expression::step))]
 fn step(w: Walk, token: Token) -> Walk
     requires { (w.depth + 1 < 2 ^ 64) × (w.rounded + 1 < 2 ^ 64) }
     ensures { result ≡ step w token }
 {
     match token {
-        Token::End => after_unknown(w),
         Token::Number(n) => after_operand(w, n.formless, n.long, n.rounded),
         Token::Variable(n) => after_operand(w, n.formless, n.long, false),
-        Token::Plus => after_operator(w, base::either(w.operand, w.sign)),
-        Token::Minus => after_operator(w, base::either(w.operand, w.sign)),
-        Token::Times => after_operator(w, w.operand),
-        Token::Over => after_operator(w, w.operand),
+        Token::Plus | Token::Minus => after_operator(w, w.operand || w.sign),
+        Token::Times | Token::Over => after_operator(w, w.operand),
         Token::Open => after_open(w),
         Token::Close => after_close(w),
-        Token::Unknown => after_unknown(w),
+        Token::End | Token::Unknown => after_unknown(w),
     }
 }
 
 // The end of the text: an operand stands before it, and no parenthesis is open.
+#[tactic(auto, using(base::proofs::Or::joins), unfolding(crate::specs::Expression::finished))]
 fn finish(w: Walk) -> Form
     ensures { result ≡ finished w }
 {
     Form {
-        formless: base::either(base::either(w.formless, !w.operand), 1 <= w.depth),
+        formless: w.formless || !w.operand || 1 <= w.depth,
         long: w.long,
         deep: w.deep,
         rounded: w.rounded,
@@ -166,26 +148,26 @@ pub fn expression(t: &[u8]) -> Form
         rounded: 0,
     };
     let mut at: usize = 0;
+    // A place that jumps to the next token: no iterator walks so.
     while at < t.len() {
         let l = macro_tokens::token_at(t, at);
-        let token = l.token;
-        w = step(w, token);
+        w = step(w, l.token);
         at = l.next;
     }
     finish(w)
 }
 
 // What is wrong with either of two texts, and the decimals of both that were rounded.
+#[tactic(auto, using(base::proofs::Or::joins), unfolding(crate::specs::Blocks::joined))]
 fn both(f: Form, g: Form) -> Form
     requires { f.rounded + g.rounded < 2 ^ 64 }
     ensures { result ≡ joined f g }
 {
-    let rounded = f.rounded + g.rounded;
     Form {
-        formless: base::either(f.formless, g.formless),
-        long: base::either(f.long, g.long),
-        deep: base::either(f.deep, g.deep),
-        rounded,
+        formless: f.formless || g.formless,
+        long: f.long || g.long,
+        deep: f.deep || g.deep,
+        rounded: f.rounded + g.rounded,
     }
 }
 
@@ -200,6 +182,7 @@ fn primitive(t: &[u8]) -> Form
         deep: false,
         rounded: 0,
     };
+    // A place that jumps to the next comma: no iterator walks so.
     while at < t.len() {
         let next = text::find(t, at + 1, b',');
         f = both(
@@ -212,6 +195,7 @@ fn primitive(t: &[u8]) -> Form
 }
 
 // The number of an assigned variable.
+#[tactic(auto, unfolding(crate::specs::Blocks::numbered))]
 fn numbered(n: Number) -> Form
     ensures { result ≡ numbered n }
 {
@@ -224,6 +208,7 @@ fn numbered(n: Number) -> Form
 }
 
 // An assignment: `$n=` and an expression.
+#[tactic(auto, unfolding(crate::specs::Blocks::numbered, crate::specs::Blocks::assignment_form))]
 fn assignment(t: &[u8]) -> Form
     ensures { result ≡ assignment_form t.now }
 {
@@ -232,6 +217,7 @@ fn assignment(t: &[u8]) -> Form
 }
 
 // A block without its `*`, told by its first byte.
+#[tactic(auto, unfolding(base::specs::Choose::pick, crate::specs::Blocks::block_form, crate::specs::Blocks::good))]
 fn block(s: &[u8]) -> Form
     ensures { result ≡ block_form s.now }
 {
@@ -262,6 +248,7 @@ fn blocks(s: &[u8], from: usize) -> Form
         rounded: 0,
     };
     let mut at = from;
+    // A place that jumps to the next `*`: no iterator walks so.
     while at < s.len() {
         let next = text::find(s, at + 1, b'*');
         f = both(f, block(base::part(s, at + 1, next)));
@@ -271,12 +258,13 @@ fn blocks(s: &[u8], from: usize) -> Form
 }
 
 // AM with its name up to q, the `*` before its first block. What stands in u is t without its last byte.
+#[tactic(auto, using(base::proofs::Or::joins), unfolding(crate::specs::Macro::headed))]
 fn headed(t: &[u8], u: &[u8], q: usize) -> Command
     requires { q + 1 < 2 ^ 64 }
     ensures { result ≡ headed t.now u.now q }
 {
-    let named = base::both(text::begins(u, b"AM"), text::is_name(base::part(u, 2, q)));
-    let whole = base::both(text::ends(t, b"*"), named);
+    let named = text::begins(u, b"AM") && text::is_name(base::part(u, 2, q));
+    let whole = text::ends(t, b"*") && named;
     let f = blocks(u, q);
     let name = Span { from: 2, to: q };
     let blocks = Span {
@@ -284,7 +272,7 @@ fn headed(t: &[u8], u: &[u8], q: usize) -> Command
         to: u.len(),
     };
     command::judged(
-        base::either(!whole, f.formless),
+        !whole || f.formless,
         f.long,
         Command::Define(Definition::Macro {
             name,
@@ -296,6 +284,7 @@ fn headed(t: &[u8], u: &[u8], q: usize) -> Command
 }
 
 // AM: its text between the two `%`.
+#[tactic(auto, unfolding(base::specs::Choose::pick, crate::specs::Macro::macro_of))]
 pub fn macro_of(s: &[u8]) -> Command
     ensures { result ≡ macro_of s.now }
 {

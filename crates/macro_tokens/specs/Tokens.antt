@@ -1,10 +1,8 @@
 -- What the words of an expression are (01, Macros; decisions 64, 66 and 67).
-use Rattle.std.specs.Prelude.{ℕ, ◌+◌, true, false, cond, not, List, [], ◌∷◌, map, eqb, leb, ltb, length, drop, get_or}
+use Rattle.std.specs.Prelude.{ℕ, ◌+◌, true, false, cond, not, List, [], ◌∷◌, map, eqb, leb, ltb, length, drop, get_or, Err, Ok, Result}
 use Rattle.std.proofs.Math.Seq.{slice}
 use Rattle.base.specs.Or.{◌or◌}
 use Rattle.digits.specs.Natural.{natural_of}
-use Rattle.digits.specs.declared.answers.Natural.{Natural}
-use Rattle.digits.specs.declared.answers.Natural.TheVariants as natural
 use Rattle.text.specs.First.{first}
 use Rattle.text.specs.Text.{byte}
 use Rattle.base.specs.Choose.{choose}
@@ -14,12 +12,14 @@ use Rattle.macro_tokens.specs.Words.{numeral, joins, words}
 use Rattle.macro_tokens.specs.declared.Lexeme.{Lexeme}
 use Rattle.macro_tokens.specs.declared.Token.{Token}
 use Rattle.macro_tokens.specs.declared.Token.TheVariants.{End, Number as Numeral, Variable, Plus, Minus, Times, Over, Open, Close, Unknown}
+use Rattle.digits.specs.declared.answers.NumberError.TheVariants as number_error
+use Rattle.digits.specs.declared.answers.NumberError.{NumberError}
 
 -- `$n` with n 1 to 64, leading zeros allowed; another n is 5, no digit 4
-unfoldable pub variable_of : Natural → Number
-variable_of natural.NotForm = record { formless = true; long = false; value = 0 }
-variable_of natural.TooLarge = record { formless = false; long = true; value = 0 }
-variable_of (natural.Value n) = record { formless = false; long = eqb n 0 or leb 65 n; value = n }
+unfoldable pub variable_of : Result ℕ NumberError → Number
+variable_of (Err number_error.NotForm) = record { formless = true; long = false; value = 0 }
+variable_of (Err number_error.TooLong) = record { formless = false; long = true; value = 0 }
+variable_of (Ok n) = record { formless = false; long = eqb n 0 or leb 65 n; value = n }
 
 abbrev pub variable_number : List ℕ → Number
 variable_number t = variable_of (natural_of t)

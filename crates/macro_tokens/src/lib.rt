@@ -8,7 +8,7 @@ ghost use Rattle.macro_tokens.specs.Tokens.{variable_of, variable_number, token_
 ghost use Rattle.macro_tokens.specs.Words.{numeral, joins};
 
 use command::{Number, Size};
-use digits::Natural;
+use digits::NumberError;
 
 // What a word of an expression is. A number and a variable say whether they have their form and keep their range.
 #[derive(Clone, Copy)]
@@ -43,64 +43,62 @@ pub fn without_leading(t: &[u8]) -> &[u8]
 pub fn without_trailing(t: &[u8]) -> &[u8]
     ensures { result.now ≡ without_trailing t.now }
 {
-    let mut n = t.len();
-    while 0 < n {
-        if base::is_break(t[n - 1]) {
-            n -= 1;
-        } else {
-            return base::up_to(t, n);
+    let mut rest = t;
+    while let [others @ .., b] = rest {
+        if !base::is_break(*b) {
+            return rest;
         }
+        rest = others;
     }
-    base::up_to(t, n)
+    rest
 }
 
 // A digit or a point.
+#[tactic(auto, using(base::proofs::Or::joins), unfolding(crate::specs::Words::numeral))]
 fn is_numeral(b: u8) -> bool
     ensures { result ≡ numeral b }
 {
-    base::either(digits::is_digit(b), b == b'.')
+    digits::is_digit(b) || b == b'.'
 }
 
 // A byte that a digit or a point after it belongs to.
+#[tactic(auto, using(base::proofs::Or::joins), unfolding(crate::specs::Words::joins))]
 fn is_joined(b: u8) -> bool
     ensures { result ≡ joins b }
 {
-    base::either(is_numeral(b), b == b'$')
+    is_numeral(b) || b == b'$'
 }
 
 // The first place from `from` on that holds neither a digit nor a point.
 fn numeral_end(s: &[u8], from: usize) -> usize
     ensures { result ≡ first (λ b. not (numeral b)) s.now from }
 {
-    let mut at = from;
-    while at < s.len() {
-        if is_numeral(s[at]) {
-            at += 1;
-        } else {
-            return at;
-        }
-    }
-    at
+    let rest = base::from_on(s, from);
+    from + rest
+        .iter()
+        .position(|b| !is_numeral(*b))
+        .unwrap_or(rest.len())
 }
 
 // The number of a variable, of its digits.
-fn in_variables(n: Natural) -> Number
+#[tactic(auto, using(base::proofs::Or::joins), unfolding(crate::specs::Tokens::variable_of))]
+fn in_variables(n: Result<u64, NumberError>) -> Number
     ensures { result ≡ variable_of n }
 {
     match n {
-        Natural::NotForm => Number {
+        Err(NumberError::NotForm) => Number {
             formless: true,
             long: false,
             value: 0,
         },
-        Natural::TooLarge => Number {
+        Err(NumberError::TooLong) => Number {
             formless: false,
             long: true,
             value: 0,
         },
-        Natural::Value(v) => Number {
+        Ok(v) => Number {
             formless: false,
-            long: base::either(v == 0, 65 <= v),
+            long: v == 0 || 65 <= v,
             value: v,
         },
     }
@@ -114,38 +112,25 @@ pub fn variable_number(t: &[u8]) -> Number
 }
 
 // What a word is, by its first byte.
+#[tactic(auto, using(base::proofs::Or::joins), unfolding(base::specs::Choose::pick, crate::specs::Tokens::token_of))]
 fn token_of(w: &[u8]) -> Token
     ensures { result ≡ token_of w.now }
 {
-    let b = base::byte_at(w, 0);
-    if is_numeral(b) {
-        return Token::Number(command::size_of(w));
+    match base::byte_at(w, 0) {
+        b if is_numeral(b) => Token::Number(command::size_of(w)),
+        b'$' => Token::Variable(variable_number(base::from_on(w, 1))),
+        b'+' => Token::Plus,
+        b'-' => Token::Minus,
+        b'x' => Token::Times,
+        b'/' => Token::Over,
+        b'(' => Token::Open,
+        b')' => Token::Close,
+        _ => Token::Unknown,
     }
-    if b == b'$' {
-        return Token::Variable(variable_number(base::from_on(w, 1)));
-    }
-    if b == b'+' {
-        return Token::Plus;
-    }
-    if b == b'-' {
-        return Token::Minus;
-    }
-    if b == b'x' {
-        return Token::Times;
-    }
-    if b == b'/' {
-        return Token::Over;
-    }
-    if b == b'(' {
-        return Token::Open;
-    }
-    if b == b')' {
-        return Token::Close;
-    }
-    Token::Unknown
 }
 
 // The token at a place; at the end of the text, and past it, there is no more.
+#[tactic(auto, unfolding(crate::specs::Tokens::lexed, crate::specs::Tokens::word_end))]
 pub fn token_at(s: &[u8], at: usize) -> Lexeme
     ensures { result ≡ lexed s.now at }
 {

@@ -1,5 +1,6 @@
 -- A primitive's parameters, worked out one by one: what those from here on leave, after what was left so far, is what all of them leave.
 -- Assumes nothing.
+use Rattle.std.specs.Prelude.{None, Option, Some}
 use Prim.Native.Nat.{ℕ, ◌+◌, ◌<◌, ◌≤◌}
 use Prim.Native.Char.{code}
 use mathlib.Core.Path.{◌≡◌, refl, sym, ap, ◌∙◌}
@@ -9,7 +10,6 @@ use native.Mathlib.Omega.{arith}
 use lib.IntN.{ℤ}
 use lib.ListN.{length, drop, set, length-set}
 use lib.Seq.{slice}
-use Rattle.reckon.specs.declared.Reckoned.TheVariants.{Value}
 use lib.Dec.{eqb}
 use Rattle.text.specs.First.{place}
 use Rattle.text.proofs.First.{first_from_lem}
@@ -22,7 +22,7 @@ use Rattle.macros.specs.Pen.{penned, pens, laid}
 use Rattle.macros.specs.Says.{Comes, Gathers, reckoned_as}
 use Rattle.macros.specs.Work.{Values, onward, values_of, parameters_in}
 use Rattle.macros.specs.declared.Pen.{Pen}
-use Rattle.macros.specs.declared.Worth.{Worth}
+use Rattle.decimal.specs.declared.Amount.{Amount}
 
 pub record Gathering (all rest : Values) (l₀ l : List ℤ) (p₀ p : Pen) (q : Asked) (at : ℕ) : Type 0 where
   pub fine : rest.fine ≡ all.fine
@@ -39,7 +39,7 @@ gathering_starts all l p q at e =
     record { fine = refl; asks = rw e (gathered_is all.values); pen = refl; stores = refl; long = refl; counted = omega arith }
 
 module _ (all : Values) (l₀ l : List ℤ) (p₀ p : Pen) (q : Asked) (at : ℕ) where
-  pub gathering_goes : (rest : Values) (z : ℤ) (next : ℕ) → at < next → Gathering all (onward (Value z) rest) l₀ l p₀ p q at →
+  pub gathering_goes : (rest : Values) (z : ℤ) (next : ℕ) → at < next → Gathering all (onward (Some z) rest) l₀ l p₀ p q at →
       Gathering all rest l₀ (set l p.at z) p₀ (penned (length l) p) (added q (amount z)) next
   unfolding onward gathered pens laid added
   gathering_goes rest z next h g =
@@ -60,7 +60,7 @@ module _ (all : Values) (l₀ l : List ℤ) (p₀ p : Pen) (q : Asked) (at : ℕ
 
 -- the next parameter, and those after it
 module _ (variables : List ℤ) (t : List ℕ) (at : ℕ) where
-  pub values_next : (w : Worth) → at < length t → Comes variables (without_leading (slice (at + 1) (place (code ",") t (at + 1)) t)) w →
+  pub values_next : (w : Option Amount) → at < length t → Comes variables (without_leading (slice (at + 1) (place (code ",") t (at + 1)) t)) w →
       values_of variables (parameters_in (drop at t)) ≡ onward (reckoned_as w) (values_of variables (parameters_in (drop (place (code ",") t (at + 1)) t)))
   unfolding values_of
   values_next w h c = rw (pieces_next (code ",") t at h, sym c.says)
@@ -69,27 +69,28 @@ module _ (variables : List ℤ) (t : List ℕ) (at : ℕ) where
   unfolding values_of
   values_end h = rw (pieces_end (code ",") t at h)
 
-pub fine_value : (w : Worth) → w.fine ≡ true → reckoned_as w ≡ Value w.value.millionths
+pub fine_value : (w : Option Amount) (a : Amount) → w ≡ Some a → reckoned_as w ≡ Some a.millionths
 unfolding reckoned_as
-fine_value w e = rw e
+fine_value w a e = rw e
 
-pub refused_value : (w : Worth) → w.fine ≡ false → (vs : Values) → onward (reckoned_as w) vs ≡ record { fine = false; values = [] }
+pub refused_value : (w : Option Amount) → w ≡ None → (vs : Values) → onward (reckoned_as w) vs ≡ record { fine = false; values = [] }
 unfolding reckoned_as onward
 refused_value w e vs = rw e
 
 -- one turn, and the two ends, of the loop over the parameters
-module _ (vs : List ℤ) (ts : List (List ℕ)) (t : List ℕ) (at next : ℕ) (l₀ l : List ℤ) (p₀ p : Pen) (q : Asked) (w : Worth)
+module _ (vs : List ℤ) (ts : List (List ℕ)) (t : List ℕ) (at next : ℕ) (l₀ l : List ℤ) (p₀ p : Pen) (q : Asked) (w : Option Amount)
     (g : Gathering (values_of vs ts) (values_of vs (parameters_in (drop at t))) l₀ l p₀ p q at) where
-  pub gathering_step : at < length t → next ≡ place (code ",") t (at + 1) → Comes vs (without_leading (slice (at + 1) next t)) w → w.fine ≡ true →
-      (l' : List ℤ) (p' : Pen) (q' : Asked) → l' ≡ set l p.at w.value.millionths → p' ≡ penned (length l) p → q' ≡ added q w.value →
+  pub gathering_step : at < length t → next ≡ place (code ",") t (at + 1) → Comes vs (without_leading (slice (at + 1) next t)) w →
+      (a : Amount) → w ≡ Some a →
+      (l' : List ℤ) (p' : Pen) (q' : Asked) → l' ≡ set l p.at a.millionths → p' ≡ penned (length l) p → q' ≡ added q a →
       Gathering (values_of vs ts) (values_of vs (parameters_in (drop next t))) l₀ l' p₀ p' q' next
-  gathering_step h en c e l' p' q' el ep eq =
+  gathering_step h en c a e l' p' q' el ep eq =
       let low = first_from_lem (λ b. eqb b (code ",")) t (at + 1) in
       rw (el, ep, eq, en)
-      (gathering_goes (values_of vs ts) l₀ l p₀ p q at _ w.value.millionths _ (omega arith)
-      (rw (values_next vs t at w h (rw en at c), fine_value w e) at g))
+      (gathering_goes (values_of vs ts) l₀ l p₀ p q at _ a.millionths _ (omega arith)
+      (rw (values_next vs t at w h (rw en at c), fine_value w a e) at g))
 
-  pub gathering_stop : at < length t → next ≡ place (code ",") t (at + 1) → Comes vs (without_leading (slice (at + 1) next t)) w → w.fine ≡ false →
+  pub gathering_stop : at < length t → next ≡ place (code ",") t (at + 1) → Comes vs (without_leading (slice (at + 1) next t)) w → w ≡ None →
       Gathers vs ts l₀ l p₀ (record { fine = false; asked = q; pen = p })
   gathering_stop h en c e =
       let f = gathering_ends (values_of vs ts) l₀ l p₀ p q at false (rw (values_next vs t at w h (rw en at c), refused_value w e) at g) in

@@ -1,6 +1,7 @@
 -- A macro's blocks, worked out one by one: what those from here on do, after what was done so far, is what all of them do.
 -- Assumes nothing.
-use Prim.Native.Nat.{ℕ, ◌+◌, ◌-◌, ◌^◌, ◌<◌, ◌≤◌}
+use Rattle.std.specs.Prelude.{None, Option, Some}
+use Prim.Native.Nat.{ℕ, ◌+◌, ◌-◌, ◌<◌, ◌≤◌}
 use Prim.Native.Char.{code}
 use mathlib.Core.Path.{◌≡◌, refl, sym, ap, ◌∙◌}
 use mathlib.Core.Bool.{Bool, true, false}
@@ -10,6 +11,7 @@ use lib.IntN.{ℤ, pos}
 use lib.ListN.{length, take, drop, get_or, set, length-set}
 use lib.Seq.{slice}
 use borrow.Author.Tests.{eq-eqb, ne_eqb}
+use Rattle.faults.specs.Rule.{number_told}
 use Rattle.text.specs.First.{place, before, after}
 use Rattle.command.specs.declared.Number.{Number}
 use Rattle.macro_tokens.specs.Tokens.{variable_number}
@@ -30,13 +32,13 @@ use Rattle.macros.specs.Work.{Effect, behind, verdict, assigned, values_of, prim
 use Rattle.macros.specs.declared.Done.{Done}
 use Rattle.macros.specs.declared.Gathered.{Gathered}
 use Rattle.macros.specs.declared.Pen.{Pen}
-use Rattle.macros.specs.declared.Worth.{Worth}
+use Rattle.decimal.specs.declared.Amount.{Amount}
 use Rattle.macros.proofs.Gathering.{fine_value}
 use Rattle.macros.proofs.Settled.{fits_set}
 use Rattle.macros.proofs.Laid.{length_laid, pens_append, laid_append, laid_last}
 
 pub record Working (all rest : Effect) (l₀ l : List ℤ) (p : Pen) (d : Done) : Type 0 where
-  pub none : d.fault ≡ 0
+  pub none : number_told d.fault ≡ 0
   pub fault : rest.fault ≡ all.fault
   pub variables : rest.variables ≡ all.variables
   pub pen : pens (length l₀) d.pen rest.written ≡ pens (length l₀) p all.written
@@ -66,7 +68,7 @@ module _ (s : List ℕ) (at : ℕ) (variables : List ℤ) where
 
 module _ (all : Effect) (s : List ℕ) (at : ℕ) (l₀ l : List ℤ) (p : Pen) (d : Done)
     (w : Working all (worked_out d.variables.values (blocks_in (drop at s))) l₀ l p d) where
-  pub working_goes : (l' : List ℤ) (d' : Done) → at < length s → Does (block_done d.variables.values (piece s at d.variables.values)) l l' d.pen d' → d'.fault ≡ 0 →
+  pub working_goes : (l' : List ℤ) (d' : Done) → at < length s → Does (block_done d.variables.values (piece s at d.variables.values)) l l' d.pen d' → number_told d'.fault ≡ 0 →
       Working all (worked_out d'.variables.values (others s at d.variables.values)) l₀ l' p d'
   unfolding behind
   working_goes l' d' h b e =
@@ -85,7 +87,7 @@ module _ (all : Effect) (s : List ℕ) (at : ℕ) (l₀ l : List ℤ) (p : Pen) 
         small = rw f b.small;
       }
 
-  pub working_stops : (l' : List ℤ) (d' : Done) → at < length s → Does (block_done d.variables.values (piece s at d.variables.values)) l l' d.pen d' → (d'.fault ≡ 0 → ⊥) →
+  pub working_stops : (l' : List ℤ) (d' : Done) → at < length s → Does (block_done d.variables.values (piece s at d.variables.values)) l l' d.pen d' → (number_told d'.fault ≡ 0 → ⊥) →
       Does all l₀ l' p d'
   working_stops l' d' h b e =
       let vs = d.variables.values in
@@ -111,7 +113,7 @@ module _ (all : Effect) (s : List ℕ) (at : ℕ) (l₀ l : List ℤ) (p : Pen) 
         small = rw v at w.small;
       }
 
-pub working_starts : (l : List ℤ) (p : Pen) (d : Done) (all : Effect) → d.fault ≡ 0 → d.pen ≡ p → Fits d.variables.values → Working all all l l p d
+pub working_starts : (l : List ℤ) (p : Pen) (d : Done) (all : Effect) → number_told d.fault ≡ 0 → d.pen ≡ p → Fits d.variables.values → Working all all l l p d
 working_starts l p d all e f g = record { none = e; fault = refl; variables = refl; pen = rw f; stores = rw f; long = refl; small = g }
 
 -- ---- one block
@@ -133,7 +135,7 @@ counted q zs e = ap (λ x. x.count) e
 module _ (vs : List ℤ) (t : List ℕ) (comma c n : ℕ) (l l₁ l₂ l' : List ℤ) (p p₁ : Pen) (g : Gathered) (d : Done) {z : ℤ} where
   pub primitive_does : comma ≡ place (code ",") t 0 → c ≡ code_of (take comma t) → l₁ ≡ set l p.at (pos 0) → p₁ ≡ penned (length l) p →
       Gathers vs (parameters_in (drop comma t)) l₁ l₂ p₁ g → Fits vs → n ≡ heading c g.asked.count → l' ≡ set l₂ p.at z → z ≡ pos n →
-      d.fault ≡ verdict g.fine (keeps c g.asked) → d.variables.values ≡ vs → d.pen ≡ g.pen →
+      number_told d.fault ≡ verdict g.fine (keeps c g.asked) → d.variables.values ≡ vs → d.pen ≡ g.pen →
       Does (primitive_done vs t) l l' p d
   unfolding primitive_done pens
   primitive_does ec ek el ep gg f en eh ez df dv dp =
@@ -150,20 +152,20 @@ module _ (vs : List ℤ) (t : List ℕ) (comma c n : ℕ) (l l₁ l₂ l' : List
         small = f;
       }
 
-module _ (vs : List ℤ) (n : ℕ) (t : List ℕ) (w : Worth) (l : List ℤ) (p : Pen) (d : Done) (c : Comes vs t w) (f : Fits vs) (same : d.pen ≡ p) where
-  pub assign_fine : w.fine ≡ true → d.fault ≡ 0 → d.variables.values ≡ set vs (n - 1) w.value.millionths → Does (assigned vs n (value_of vs t)) l l p d
+module _ (vs : List ℤ) (n : ℕ) (t : List ℕ) (w : Option Amount) (l : List ℤ) (p : Pen) (d : Done) (c : Comes vs t w) (f : Fits vs) (same : d.pen ≡ p) where
+  pub assign_fine : (a : Amount) → w ≡ Some a → number_told d.fault ≡ 0 → d.variables.values ≡ set vs (n - 1) a.millionths → Does (assigned vs n (value_of vs t)) l l p d
   unfolding assigned pens laid
-  assign_fine e df dv =
-      rw (sym c.says, fine_value w e)
-      (record { fault = df; variables = dv; pen = same; stores = refl; small = fits_set vs (n - 1) w.value.millionths f c.small })
+  assign_fine a e df dv =
+      rw (sym c.says, fine_value w a e)
+      (record { fault = df; variables = dv; pen = same; stores = refl; small = fits_set vs (n - 1) a.millionths f (rw e at c.small) })
 
-  pub assign_refused : w.fine ≡ false → d.fault ≡ 9 → d.variables.values ≡ vs → Does (assigned vs n (value_of vs t)) l l p d
+  pub assign_refused : w ≡ None → number_told d.fault ≡ 9 → d.variables.values ≡ vs → Does (assigned vs n (value_of vs t)) l l p d
   unfolding assigned pens laid reckoned_as
   assign_refused e df dv =
-      rw (sym c.says, reckoned_as, e)
+      rw (sym c.says, e)
       (record { fault = df; variables = dv; pen = same; stores = refl; small = f })
 
-pub comment_does : (vs : List ℤ) (l : List ℤ) (p : Pen) (d : Done) → d.fault ≡ 0 → d.variables.values ≡ vs → d.pen ≡ p → Fits vs →
+pub comment_does : (vs : List ℤ) (l : List ℤ) (p : Pen) (d : Done) → number_told d.fault ≡ 0 → d.variables.values ≡ vs → d.pen ≡ p → Fits vs →
     Does (record { fault = 0; variables = vs; written = [] }) l l p d
 unfolding pens laid
 comment_does vs l p d df dv dp f = record { fault = df; variables = dv; pen = dp; stores = refl; small = f }

@@ -1,11 +1,9 @@
 -- "AD evaluates": a macro's blocks are worked out in order, the first at fault decides, in it 9 before 10 (01; decisions 58 to 62, 71, 77).
-use Rattle.std.specs.Prelude.{ℕ, ◌-◌, Bool, true, false, cond, List, [], ◌∷◌, ◌++◌, eqb, ℤ, pos, length, take, drop, get_or, set}
+use Rattle.std.specs.Prelude.{ℕ, ◌-◌, Bool, true, false, cond, List, [], ◌∷◌, ◌++◌, eqb, ℤ, pos, length, take, drop, get_or, set, None, Option, Some}
 use Prim.Native.Char.{code}
 use Rattle.text.specs.First.{place, before, after}
 use Rattle.text.specs.Text.{byte}
 use Rattle.base.specs.Choose.{choose}
-use Rattle.reckon.specs.declared.Reckoned.{Reckoned}
-use Rattle.reckon.specs.declared.Reckoned.TheVariants.{Refused, Value}
 use Rattle.macro_tokens.specs.LineEnds.{without_leading}
 use Rattle.text.specs.Pieces.{pieces}
 use Rattle.macro_tokens.specs.Tokens.{variable_number}
@@ -26,9 +24,9 @@ pub record Values : Type 0 where
   pub fine : Bool
   pub values : List ℤ
 
-unfoldable pub onward : Reckoned → Values → Values
-onward Refused vs = record { fine = false; values = [] }
-onward (Value z) vs = record { fine = vs.fine; values = z ∷ vs.values }
+unfoldable pub onward : Option ℤ → Values → Values
+onward None vs = record { fine = false; values = [] }
+onward (Some z) vs = record { fine = vs.fine; values = z ∷ vs.values }
 
 unfoldable pub values_of : List ℤ → List (List ℕ) → Values
 values_of variables [] = record { fine = true; values = [] }
@@ -53,9 +51,9 @@ primitive_done variables t =
     record { fault = verdict vs.fine (keeps c (asked none vs.values)); variables = variables; written = pos (heading c (length vs.values)) ∷ vs.values }
 
 -- an assignment replaces the old value
-unfoldable pub assigned : List ℤ → ℕ → Reckoned → Effect
-assigned variables n Refused = record { fault = 9; variables = variables; written = [] }
-assigned variables n (Value z) = record { fault = 0; variables = set variables (n - 1) z; written = [] }
+unfoldable pub assigned : List ℤ → ℕ → Option ℤ → Effect
+assigned variables n None = record { fault = 9; variables = variables; written = [] }
+assigned variables n (Some z) = record { fault = 0; variables = set variables (n - 1) z; written = [] }
 
 unfoldable pub assignment_done : List ℤ → List ℕ → Effect
 assignment_done variables t =

@@ -6,25 +6,19 @@ ghost use Rattle.expression.specs.Reading.{Fits};
 ghost use Rattle.macros.specs.Given.{variables_of};
 ghost use Rattle.macros.specs.Pen.{penned};
 ghost use Rattle.macros.specs.Work.{parameters_in, blocks_in, verdict, primitive_done, assignment_done, block_done, worked_out};
-ghost use Rattle.macros.specs.Says.{Comes, Gathers, Does, Answers, outcome_by};
+ghost use Rattle.faults.specs.Rule.{number_told};
+ghost use Rattle.macros.specs.Says.{Comes, Gathers, Does, Answers, Told};
 
 use decimal::Amount;
 use expression::Variables;
+use faults::Rule;
 use primitives::Asked;
-use reckon::Reckoned;
 
 // Where the next number is written, and whether there was no room for one.
 #[derive(Clone, Copy)]
 pub struct Pen {
     pub at: usize,
     pub over: bool,
-}
-
-// The value of an expression, if it has one.
-#[derive(Clone, Copy)]
-pub struct Worth {
-    pub fine: bool,
-    pub value: Amount,
 }
 
 // A primitive's parameters: whether each has a value, what the rules ask of them, and the pen after them.
@@ -35,18 +29,18 @@ pub struct Gathered {
     pub pen: Pen,
 }
 
-// A block, or all of them: what is at fault (0, 9 or 10), the variables and the pen after it.
+// A block, or all of them: the rule that is broken, if one is (9 or 10), the variables and the pen after it.
 #[derive(Clone, Copy)]
 pub struct Done {
-    pub fault: u64,
+    pub fault: Result<(), Rule>,
     pub variables: Variables,
     pub pen: Pen,
 }
 
-// What an AD answers: 0, 9, 10 or 17, and the numbers that are used.
+// What an AD answers: the rule that is broken, if one is (8, 9, 10 or 17), and the numbers that are used.
 #[derive(Clone, Copy)]
 pub struct Outcome {
-    pub number: u64,
+    pub worked: Result<(), Rule>,
     pub used: usize,
 }
 
@@ -67,20 +61,13 @@ pub fn write(numbers: &mut [i64], p: Pen, a: Amount) -> Pen
 }
 
 // The value of the text of an expression.
-fn worth_of(t: &[u8], v: Variables) -> Worth
+fn worth_of(t: &[u8], v: Variables) -> Option<Amount>
     requires { Fits v.values }
     ensures { Comes v.values t.now result }
 {
-    let r = expression::value_of(t, v);
-    match r {
-        Reckoned::Refused => Worth {
-            fine: false,
-            value: Amount { millionths: 0 },
-        },
-        Reckoned::Value(z) => Worth {
-            fine: true,
-            value: Amount { millionths: z },
-        },
+    match expression::value_of(t, v) {
+        None => None,
+        Some(millionths) => Some(Amount { millionths }),
     }
 }
 
@@ -92,24 +79,20 @@ fn values(t: &[u8], comma: usize, v: Variables, numbers: &mut [i64], p: Pen) -> 
     let mut q = primitives::nothing();
     let mut pen = p;
     let mut at = comma;
+    // A place that jumps to the next comma: no iterator walks so.
     while at < t.len() {
         let next = text::find(t, at + 1, b',');
-        let w = worth_of(
-            macro_tokens::without_leading(base::part(t, at + 1, next)),
-            v,
-        );
-        if w.fine {
-            let a = w.value;
-            pen = write(numbers, pen, a);
-            q = primitives::one_more(q, a);
-            at = next;
-        } else {
+        let text = macro_tokens::without_leading(base::part(t, at + 1, next));
+        let Some(a) = worth_of(text, v) else {
             return Gathered {
                 fine: false,
                 asked: q,
                 pen,
             };
-        }
+        };
+        pen = write(numbers, pen, a);
+        q = primitives::one_more(q, a);
+        at = next;
     }
     Gathered {
         fine: true,
@@ -119,16 +102,17 @@ fn values(t: &[u8], comma: usize, v: Variables, numbers: &mut [i64], p: Pen) -> 
 }
 
 // 9 where a parameter has no value, else 10 where a rule is broken.
-fn verdict(fine: bool, kept: bool) -> u64
-    ensures { result ≡ verdict fine kept }
+#[tactic(auto, unfolding(crate::specs::Work::verdict, faults::specs::Rule::number_told, faults::specs::Rule::number_of_rule))]
+pub fn verdict(fine: bool, kept: bool) -> Result<(), Rule>
+    ensures { number_told result ≡ verdict fine kept }
 {
-    if fine {
-        if kept {
-            return 0;
-        }
-        return 10;
+    if !fine {
+        return Err(Rule::Undefined);
     }
-    9
+    if !kept {
+        return Err(Rule::Parameter);
+    }
+    Ok(())
 }
 
 // A primitive: its parameters, and before them its code and how many they are.
@@ -180,18 +164,16 @@ fn assignment(t: &[u8], v: Variables, numbers: &mut [i64], p: Pen) -> Done
     ensures { Does (assignment_done v.values t.now) numbers.old numbers.new p result }
 {
     let n = macro_tokens::variable_number(base::from_on(text::before(t, b'='), 1));
-    let w = worth_of(text::after(t, b'='), v);
-    if w.fine {
-        let a = w.value;
+    let Some(a) = worth_of(text::after(t, b'='), v) else {
         return Done {
-            fault: 0,
-            variables: assigned(v, n.value, a),
+            fault: Err(Rule::Undefined),
+            variables: v,
             pen: p,
         };
-    }
+    };
     Done {
-        fault: 9,
-        variables: v,
+        fault: Ok(()),
+        variables: assigned(v, n.value, a),
         pen: p,
     }
 }
@@ -205,7 +187,7 @@ fn block(s: &[u8], v: Variables, numbers: &mut [i64], p: Pen) -> Done
     let b = base::byte_at(t, 0);
     if b == b'0' {
         return Done {
-            fault: 0,
+            fault: Ok(()),
             variables: v,
             pen: p,
         };
@@ -222,21 +204,21 @@ fn blocks(s: &[u8], from: usize, v: Variables, numbers: &mut [i64], p: Pen) -> D
     ensures { Does (worked_out v.values (blocks_in (drop from s.now))) numbers.old numbers.new p result }
 {
     let mut d = Done {
-        fault: 0,
+        fault: Ok(()),
         variables: v,
         pen: p,
     };
     let mut at = from;
+    // A place that jumps to the next `*`: no iterator walks so.
     while at < s.len() {
         let next = text::find(s, at + 1, b'*');
         let w = d.variables;
         let pen = d.pen;
         d = block(base::part(s, at + 1, next), w, numbers, pen);
-        if d.fault == 0 {
-            at = next;
-        } else {
+        if d.fault.is_err() {
             return d;
         }
+        at = next;
     }
     d
 }
@@ -248,6 +230,7 @@ fn given(s: &[u8], comma: usize) -> Variables
     let mut v = Variables { values: [0i64; 64] };
     let mut i: u64 = 0;
     let mut at = comma;
+    // A place that jumps to the next `X`: no iterator walks so.
     while at < s.len() {
         let next = text::find(s, at + 1, b'X');
         let d = command::size_of(base::part(s, at + 1, next));
@@ -287,19 +270,23 @@ pub fn work_out(
 }
 
 // 17 where there was no room, if nothing is at fault.
-pub fn answered(fault: u64, p: Pen) -> Outcome
-    ensures { result ≡ outcome_by fault p }
+pub fn answered(fault: Result<(), Rule>, p: Pen) -> Outcome
+    ensures { Told (number_told fault) p result }
 {
-    if fault == 0 {
-        if p.over {
-            return Outcome {
-                number: 17,
-                used: p.at,
-            };
-        }
+    if let Err(rule) = fault {
+        return Outcome {
+            worked: Err(rule),
+            used: p.at,
+        };
+    }
+    if p.over {
+        return Outcome {
+            worked: Err(Rule::NoRoom),
+            used: p.at,
+        };
     }
     Outcome {
-        number: fault,
+        worked: Ok(()),
         used: p.at,
     }
 }

@@ -1,18 +1,18 @@
 -- The items that D01 and D03 draw (01, Items; decisions 93 to 95). No flash has brought them yet: their own place is the outer one too
 -- (02, [6]).
-use Rattle.std.specs.Prelude.{ℕ, ◌+◌, false}
+use Rattle.std.specs.Prelude.{ℕ, ◌+◌, false, Option}
 use Rattle.points.specs.declared.Point.{Point}
 use Rattle.place.specs.Kind as kind
 use Rattle.place.specs.declared.Item.{Item}
 use Rattle.place.specs.declared.Pose.{Pose}
-use Rattle.command.specs.declared.Offset.{Offset}
 use Rattle.graphics.specs.Graphics.{origin}
 use Rattle.graphics.specs.Orientation.{orientation}
 use Rattle.graphics.specs.declared.Graphics.{Graphics}
 use Rattle.arcs.specs.Arcs.{kind_drawn, arc_centre}
+use Rattle.command.specs.declared.Offset.{Offset}
 
 -- a D01 outside a region
-unfoldable pub drawn : Graphics → Point → Offset → ℕ → Item
+unfoldable pub drawn : Graphics → Point → Option Offset → ℕ → Item
 drawn g end o place = record {
   kind = kind_drawn g end;
   aperture = g.aperture.number;
@@ -29,7 +29,7 @@ drawn g end o place = record {
 }
 
 -- "contours and edges have angle 0, scale 1, no flip", and aperture 0; edges are numbered as the kinds of D01, after the contour
-unfoldable pub edge : Graphics → Point → Offset → ℕ → Item
+unfoldable pub edge : Graphics → Point → Option Offset → ℕ → Item
 edge g end o place = record {
   kind = kind.contour + kind_drawn g end;
   aperture = 0;

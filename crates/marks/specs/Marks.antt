@@ -1,11 +1,9 @@
 -- What each command leaves on the sheet: its marks, in order (01, What is read and Items).
-use Rattle.std.specs.Prelude.{ℕ, cond, List, [], ◌∷◌, nat_abs}
+use Rattle.std.specs.Prelude.{ℕ, cond, List, [], ◌∷◌, nat_abs, Option, ℤ}
 use Rattle.decimal.specs.declared.answers.Amount.{Amount}
 use Rattle.place.specs.Mark as mark
 use Rattle.place.specs.Mark.{Mark}
 use Rattle.place.specs.declared.Repeat.{Repeat}
-use Rattle.command.specs.declared.Axis.{Axis}
-use Rattle.command.specs.declared.Offset.{Offset}
 use Rattle.command.specs.declared.Operation.{Operation}
 use Rattle.command.specs.declared.Operation.TheVariants as operation
 use Rattle.command.specs.declared.Bracket.{Bracket}
@@ -15,9 +13,10 @@ use Rattle.command.specs.declared.Command.TheVariants.{Broken, Note, End, Set, O
 use Rattle.graphics.specs.declared.Graphics.{Graphics}
 use Rattle.changes.specs.After.{target, starts_contour, after_setting}
 use Rattle.marks.specs.Items.{drawn, edge, contour, flashed, pose}
+use Rattle.command.specs.declared.Offset.{Offset}
 
 -- D01 draws an item; in a region it gives a contour an edge, and begins the contour where none is open
-unfoldable pub draw_marks : Graphics → Axis → Axis → Offset → ℕ → List Mark
+unfoldable pub draw_marks : Graphics → Option ℤ → Option ℤ → Option Offset → ℕ → List Mark
 draw_marks g x y o place =
     cond g.region.on
     (cond (starts_contour g.region)
@@ -26,7 +25,7 @@ draw_marks g x y o place =
     (mark.draw (drawn g (target g x y) o place) ∷ [])
 
 -- D03 draws a flash, or flashes a block
-unfoldable pub flash_marks : Graphics → Axis → Axis → ℕ → List Mark
+unfoldable pub flash_marks : Graphics → Option ℤ → Option ℤ → ℕ → List Mark
 flash_marks g x y place =
     cond g.aperture.block
     (mark.flash g.aperture.number (pose g (target g x y)) place ∷ [])

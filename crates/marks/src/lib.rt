@@ -13,13 +13,12 @@ use place::{Item, Pose, Repeat};
 use points::Point;
 
 // The item of a D01 to end, outside a region.
-pub fn drawn(g: Graphics, end: Point, o: Offset, place: u64) -> Item
+#[tactic(auto, unfolding(crate::specs::Items::drawn))]
+pub fn drawn(g: Graphics, end: Point, o: Option<Offset>, place: u64) -> Item
     requires { Near g end o }
     ensures { result ≡ drawn g end o place }
 {
-    let t = g.transform;
-    let turn = graphics::oriented(t);
-    let start = g.point.at;
+    let turn = graphics::oriented(g.transform);
     Item {
         kind: arcs::kind_drawn(g, end),
         aperture: g.aperture.number,
@@ -27,7 +26,7 @@ pub fn drawn(g: Graphics, end: Point, o: Offset, place: u64) -> Item
         flip: turn.flip,
         angle: turn.angle,
         scale: g.transform.scale,
-        start,
+        start: g.point.at,
         end,
         centre: arcs::arc_centre(g, end, o),
         count: 0,
@@ -37,57 +36,47 @@ pub fn drawn(g: Graphics, end: Point, o: Offset, place: u64) -> Item
 }
 
 // The edge of a D01 to end, in a region.
-pub fn edge(g: Graphics, end: Point, o: Offset, place: u64) -> Item
+#[tactic(auto, using(arcs::proofs::Draws::kind_most), unfolding(crate::specs::Items::edge, graphics::specs::Graphics::origin, place::specs::Item::zero_item))]
+pub fn edge(g: Graphics, end: Point, o: Option<Offset>, place: u64) -> Item
     requires mode_bound { g.mode ≤ 3 }
     requires near { Near g end o }
     ensures { result ≡ edge g end o place }
 {
-    let start = g.point.at;
     Item {
         kind: 5 + arcs::kind_drawn(g, end),
-        aperture: 0,
         clear: g.transform.clear,
-        flip: false,
-        angle: 0,
         scale: 1000000,
-        start,
+        start: g.point.at,
         end,
         centre: arcs::arc_centre(g, end, o),
-        count: 0,
         place,
         outer: place,
+        ..place::zero_item()
     }
 }
 
 // The contour that a D01 begins, without its edges.
+#[tactic(auto, unfolding(crate::specs::Items::contour, graphics::specs::Graphics::origin, place::specs::Item::zero_item))]
 pub fn contour(g: Graphics, place: u64) -> Item
     ensures { result ≡ contour g place }
 {
-    let start = g.point.at;
-    let none = Point { x: 0, y: 0 };
     Item {
         kind: 5,
-        aperture: 0,
         clear: g.transform.clear,
-        flip: false,
-        angle: 0,
         scale: 1000000,
-        start,
-        end: none,
-        centre: none,
-        count: 0,
+        start: g.point.at,
         place,
         outer: place,
+        ..place::zero_item()
     }
 }
 
 // The flash of an aperture that is no block.
+#[tactic(auto, unfolding(crate::specs::Items::flashed, graphics::specs::Graphics::origin, place::specs::Item::zero_item))]
 pub fn flashed(g: Graphics, at: Point, place: u64) -> Item
     ensures { result ≡ flashed g at place }
 {
-    let t = g.transform;
-    let turn = graphics::oriented(t);
-    let none = Point { x: 0, y: 0 };
+    let turn = graphics::oriented(g.transform);
     Item {
         kind: 4,
         aperture: g.aperture.number,
@@ -95,21 +84,19 @@ pub fn flashed(g: Graphics, at: Point, place: u64) -> Item
         flip: turn.flip,
         angle: turn.angle,
         scale: g.transform.scale,
-        start: none,
         end: at,
-        centre: none,
-        count: 0,
         place,
         outer: place,
+        ..place::zero_item()
     }
 }
 
 // How a block is flashed.
+#[tactic(auto, unfolding(crate::specs::Items::pose))]
 pub fn pose(g: Graphics, at: Point) -> Pose
     ensures { result ≡ pose g at }
 {
-    let t = g.transform;
-    let turn = graphics::oriented(t);
+    let turn = graphics::oriented(g.transform);
     Pose {
         flip: turn.flip,
         angle: turn.angle,
@@ -119,13 +106,14 @@ pub fn pose(g: Graphics, at: Point) -> Pose
 }
 
 // What SR repeats.
+#[tactic(auto, unfolding(crate::specs::Marks::repeat_of))]
 pub fn repeat_of(nx: u64, ny: u64, dx: Amount, dy: Amount) -> Repeat
     ensures { result ≡ repeat_of nx ny dx dy }
 {
     Repeat {
         nx,
         ny,
-        dx: ints::size(dx.millionths),
-        dy: ints::size(dy.millionths),
+        dx: dx.millionths.unsigned_abs(),
+        dy: dy.millionths.unsigned_abs(),
     }
 }

@@ -1,5 +1,6 @@
 -- The outcome of mending, by what the pass wrote and by what the reader says of it.
 -- Assumes nothing.
+use Rattle.std.specs.Prelude.{Result, Err, ℕ}
 use Prim.Native.Nat.{ℕ}
 use mathlib.Core.Path.{◌≡◌, refl, sym, ap, ◌∙◌, subst}
 use mathlib.Core.Bool.{Bool, true, false}
@@ -15,8 +16,6 @@ use Rattle.law_reading.specs.State.{Room, State}
 use Rattle.law_reading.specs.Reading as reading
 use Rattle.progress.specs.Lent.{Lent, lent_of, room_of}
 use Rattle.reader.specs.Reads.{AsLong, Zeroed, Reads}
-use Rattle.reader.specs.declared.Answer as reader
-use Rattle.reader.specs.declared.Answer.TheVariants as read
 use Rattle.mending.specs.Changes.{changes}
 use Rattle.mending.specs.Mended.{report, file_fits, report_fits, written, Fills}
 use Rattle.mending.specs.Rebuilt.{mended}
@@ -26,8 +25,9 @@ use Rattle.mending.proofs.Filled.{Says, said}
 use Rattle.mend_call.specs.Outcome.{Outcome, accepted, refused, still_refused, judged, mending_of}
 use Rattle.mend_call.specs.Mends.{Given, Mends}
 use Rattle.mend_call.specs.Steps.{has_file, has_report, bytes_written, changes_written, answer_from, is_mended, Stopped, Comes}
-use Rattle.mend_call.specs.declared.Answer as code
-use Rattle.mend_call.specs.declared.Answer.TheVariants as answer
+use Rattle.reader.specs.declared.Accepted.{Accepted}
+use Rattle.sequence.specs.declared.Refusal.{Refusal}
+use Rattle.mend_call.specs.declared.Mended.{Mended}
 
 -- zeros of some length, and of their own
 pub zeros_long : {A : Type 0} (z : A) (n : ℕ) {l : List A} → l ≡ replicate n z → length l ≡ n
@@ -122,12 +122,12 @@ module _ {book : Book} {file : List ℕ} {bytes words : ℕ} {w : Written} {out 
   abbrev left : List ℕ → Lent
   left f = lent_of f e' a' m' n'
 
-  stops : (number : ℕ) {x : code.Answer} → x ≡ answer.Refused number → AsLong (lent (mended book file)) (left (mended book file)) →
+  stops : (number : ℕ) {x : Result Mended ℕ} → x ≡ Err number → AsLong (lent (mended book file)) (left (mended book file)) →
       Comes book (refused number) (lent file) (left file) bytes out words noted head x
   unfolding Comes
   stops number q l = record { answer = q; file_long = d.as_long; report_long = d.as_many; as_long = long_same file (mended book file) e a m n e' a' m' n' l }
 
-  gives : (s : State) (r : reader.Answer) → has_report w ≡ true → Reads (rounded_in book (mended book file)) (reading.accepted s) (lent (mended book file)) (left (mended book file)) head r →
+  gives : (s : State) (r : Result Accepted Refusal) → has_report w ≡ true → Reads (rounded_in book (mended book file)) (reading.accepted s) (lent (mended book file)) (left (mended book file)) head r →
       Comes book (accepted s) (lent file) (left file) bytes out words noted head (answer_from true (bytes_written w) (changes_written w) r)
   unfolding Comes Reads answer_from lent_of
   gives s r g k = record {
@@ -139,17 +139,17 @@ module _ {book : Book} {file : List ℕ} {bytes words : ℕ} {w : Written} {out 
   }
 
   -- the report does not fit, or the mended file is refused
-  short_stops : (s : State) (r : reader.Answer) → Reads (rounded_in book (mended book file)) (reading.accepted s) (lent (mended book file)) (left (mended book file)) head r →
+  short_stops : (s : State) (r : Result Accepted Refusal) → Reads (rounded_in book (mended book file)) (reading.accepted s) (lent (mended book file)) (left (mended book file)) head r →
       Comes book (refused 17) (lent file) (left file) bytes out words noted head (answer_from false (bytes_written w) (changes_written w) r)
   unfolding Reads answer_from
   short_stops s r k = stops 17 (rw k.0 refl) k.1
 
-  refused_stops : (number place : ℕ) (r : reader.Answer) (t : Bool) → Reads (rounded_in book (mended book file)) (reading.refused number place) (lent (mended book file)) (left (mended book file)) head r →
+  refused_stops : (number place : ℕ) (r : Result Accepted Refusal) (t : Bool) → Reads (rounded_in book (mended book file)) (reading.refused number place) (lent (mended book file)) (left (mended book file)) head r →
       Comes book (refused (still_refused number)) (lent file) (left file) bytes out words noted head (answer_from t (bytes_written w) (changes_written w) r)
   unfolding Reads answer_from
   refused_stops number place r t k = stops (still_refused number) (rw k.0 refl) (zeroed_long (lent (mended book file)) (left (mended book file)) head k.1)
 
-  judges : (x : reading.Answer) (r : reader.Answer) (t : Bool) → has_report w ≡ t → Reads (rounded_in book (mended book file)) x (lent (mended book file)) (left (mended book file)) head r →
+  judges : (x : reading.Answer) (r : Result Accepted Refusal) (t : Bool) → has_report w ≡ t → Reads (rounded_in book (mended book file)) x (lent (mended book file)) (left (mended book file)) head r →
       Comes book (judged t x) (lent file) (left file) bytes out words noted head (answer_from t (bytes_written w) (changes_written w) r)
   unfolding judged
   judges (reading.accepted s) r true g k = gives s r g k
@@ -157,7 +157,7 @@ module _ {book : Book} {file : List ℕ} {bytes words : ℕ} {w : Written} {out 
   judges (reading.refused number place) r t g k = refused_stops number place r t k
 
   -- the whole: the bytes that were written are read
-  pub comes : (r : reader.Answer) {x : code.Answer} → fits file ≡ true →
+  pub comes : (r : Result Accepted Refusal) {x : Result Mended ℕ} → fits file ≡ true →
       {b k : ℕ} {t : Bool} → b ≡ bytes_written w → t ≡ has_report w → k ≡ changes_written w →
       Reads (rounded_in book (take b out)) (reading.reading book (room_of (lent (take b out))) (take b out)) (lent (take b out)) (left (take b out)) head r →
       x ≡ answer_from t b k r →
@@ -169,18 +169,18 @@ module _ {book : Book} {file : List ℕ} {bytes words : ℕ} {w : Written} {out 
 
 -- a pass that wrote nothing, and a file that is too long
 pub comes_short : {book : Book} {file : List ℕ} {bytes words : ℕ} {w : Written} {out noted : List ℕ} (d : Fills book file bytes words w out noted) → has_file w ≡ false → fits file ≡ true →
-    (v v' : Lent) (head : List ℕ) → AsLong v v' → (room : Room) → Comes book (mending_of book room bytes words file) v v' bytes out words noted head (answer.Refused 17)
+    (v v' : Lent) (head : List ℕ) → AsLong v v' → (room : Room) → Comes book (mending_of book room bytes words file) v v' bytes out words noted head (Err 17)
 unfolding Comes
 comes_short d h q v v' head l room = rw (comes_nothing d room q h) (record { answer = refl; file_long = d.as_long; report_long = d.as_many; as_long = l })
 
 pub comes_over : (book : Book) (file : List ℕ) (room : Room) (out noted head : List ℕ) (v v' : Lent) → fits file ≡ false → AsLong v v' →
-    Comes book (mending_of book room (length out) (length noted) file) v v' (length out) out (length noted) noted head (answer.Refused 1)
+    Comes book (mending_of book room (length out) (length noted) file) v v' (length out) out (length noted) noted head (Err 1)
 unfolding Comes
 comes_over book file room out noted head v v' q l =
     rw (comes_long book room (length out) (length noted) file q) (record { answer = refl; file_long = refl; report_long = refl; as_long = l })
 
 -- what is mended stays, and a refusal is cleared
-module _ (book : Book) (w w' : Lent) (bytes : ℕ) (out : List ℕ) (words : ℕ) (noted head : List ℕ) (r : code.Answer) where
+module _ (book : Book) (w w' : Lent) (bytes : ℕ) (out : List ℕ) (words : ℕ) (noted head : List ℕ) (r : Result Mended ℕ) where
   stays : (o : Outcome) → Comes book o w w' bytes out words noted head r → is_mended r ≡ true → Mends book o w w' bytes out words noted head r
   unfolding Comes Mends is_mended
   stays (accepted s) k h = k

@@ -1,16 +1,15 @@
 -- What the functions below `mend` promise each other.
-use Rattle.std.specs.Prelude.{ℕ, ◌≡◌, Bool, true, false, cond, List, length}
+use Rattle.std.specs.Prelude.{ℕ, ◌≡◌, Bool, true, false, cond, List, length, Err, Ok, Result}
 use Rattle.book.specs.declared.Book.{Book}
 use Rattle.progress.specs.Lent.{Lent}
 use Rattle.reader.specs.Reads.{AsLong}
-use Rattle.reader.specs.declared.Answer as reader
-use Rattle.reader.specs.declared.Answer.TheVariants as read
 use Rattle.mending.specs.declared.Written.{Written}
 use Rattle.mending.specs.declared.Written.TheVariants.{Both, File, Nothing}
 use Rattle.mend_call.specs.Outcome.{Outcome, accepted, refused, still_refused}
 use Rattle.mend_call.specs.Mends.{Given}
-use Rattle.mend_call.specs.declared.Answer as code
-use Rattle.mend_call.specs.declared.Answer.TheVariants as answer
+use Rattle.reader.specs.declared.Accepted.{Accepted}
+use Rattle.sequence.specs.declared.Refusal.{Refusal}
+use Rattle.mend_call.specs.declared.Mended.{Mended}
 
 -- what the pass that mends says of the two rooms, and how much it wrote
 unfoldable pub has_file : Written → Bool
@@ -34,21 +33,21 @@ changes_written (File bytes) = 0
 changes_written Nothing = 0
 
 -- the answer, by that of the reader and by whether the report fits
-unfoldable pub answer_from : Bool → ℕ → ℕ → reader.Answer → code.Answer
-answer_from reported bytes changes (read.Accepted unit rounded) = cond reported (answer.Mended bytes changes unit rounded) (answer.Refused 17)
-answer_from reported bytes changes (read.Refused number place) = answer.Refused (still_refused number)
+unfoldable pub answer_from : Bool → ℕ → ℕ → Result Accepted Refusal → Result Mended ℕ
+answer_from reported bytes changes (Ok r) = cond reported (Ok (record { bytes = bytes; changes = changes; unit = r.unit; rounded = r.rounded })) (Err 17)
+answer_from reported bytes changes (Err f) = Err (still_refused f.number)
 
-unfoldable pub is_mended : code.Answer → Bool
-is_mended (answer.Mended bytes changes unit rounded) = true
-is_mended (answer.Refused number) = false
+unfoldable pub is_mended : Result Mended ℕ → Bool
+is_mended (Ok m) = true
+is_mended (Err number) = false
 
 -- a refusal that has cleared nothing yet: everything is as long as it was
-pub record Stopped (number : ℕ) (w w' : Lent) (bytes : ℕ) (out : List ℕ) (words : ℕ) (noted : List ℕ) (r : code.Answer) : Type 0 where
-  pub answer : r ≡ answer.Refused number
+pub record Stopped (number : ℕ) (w w' : Lent) (bytes : ℕ) (out : List ℕ) (words : ℕ) (noted : List ℕ) (r : Result Mended ℕ) : Type 0 where
+  pub answer : r ≡ Err number
   pub file_long : length out ≡ bytes
   pub report_long : length noted ≡ words
   pub as_long : AsLong w w'
 
-unfoldable pub Comes : Book → Outcome → Lent → Lent → ℕ → List ℕ → ℕ → List ℕ → List ℕ → code.Answer → Type 0
+unfoldable pub Comes : Book → Outcome → Lent → Lent → ℕ → List ℕ → ℕ → List ℕ → List ℕ → Result Mended ℕ → Type 0
 Comes book (accepted s) w w' bytes out words noted head r = Given book s w w' bytes out words noted head r
 Comes book (refused number) w w' bytes out words noted head r = Stopped number w w' bytes out words noted r

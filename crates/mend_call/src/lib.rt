@@ -13,22 +13,17 @@ ghost use Rattle.mend_call.specs.Steps.{has_file, has_report, bytes_written, cha
 use book::Book;
 use mending::Written;
 
-// So many bytes of the mended file, so many changes, the unit of its sheet, 1 mm or 2 inch, and how many decimals were rounded; or a
-// number, whose place is 0.
+// So many bytes of the mended file, so many changes, the unit of its sheet, 1 mm or 2 inch, and how many decimals were rounded.
 #[derive(Clone, Copy)]
-pub enum Answer {
-    Mended {
-        bytes: usize,
-        changes: usize,
-        unit: u64,
-        rounded: usize,
-    },
-    Refused {
-        number: u64,
-    },
+pub struct Mended {
+    pub bytes: usize,
+    pub changes: usize,
+    pub unit: u64,
+    pub rounded: usize,
 }
 
 // The number of mending where the mended file is refused with this one.
+#[tactic(auto, unfolding(crate::specs::Outcome::still_refused))]
 fn still_refused(number: u64) -> u64
     ensures { result ≡ still_refused number }
 {
@@ -39,41 +34,46 @@ fn still_refused(number: u64) -> u64
 }
 
 // The answer, by that of the reader on the mended file, and by whether the report fits.
-fn answer_from(reported: bool, bytes: usize, changes: usize, r: reader::Answer) -> Answer
+#[tactic(auto, unfolding(crate::specs::Steps::answer_from))]
+fn answer_from(
+    reported: bool,
+    bytes: usize,
+    changes: usize,
+    r: Result<reader::Accepted, sequence::Refusal>,
+) -> Result<Mended, u64>
     ensures { result ≡ answer_from reported bytes changes r }
 {
     match r {
-        reader::Answer::Accepted { unit, rounded } => {
+        Ok(reader::Accepted { unit, rounded }) => {
             if reported {
-                return Answer::Mended {
+                return Ok(Mended {
                     bytes,
                     changes,
                     unit,
                     rounded,
-                };
+                });
             }
-            Answer::Refused { number: 17 }
+            Err(17)
         }
-        reader::Answer::Refused { number, place: _ } => {
-            Answer::Refused {
-                number: still_refused(number),
-            }
-        }
+        Err(sequence::Refusal { number, place: _ }) => { Err(still_refused(number)) }
     }
 }
 
 // The answer is no refusal.
-fn is_mended(r: Answer) -> bool
+#[tactic(auto, unfolding(crate::specs::Steps::is_mended))]
+fn is_mended(r: Result<Mended, u64>) -> bool
     ensures { result ≡ is_mended r }
 {
     match r {
-        Answer::Mended {
-            bytes: _,
-            changes: _,
-            unit: _,
-            rounded: _,
-        } => true,
-        Answer::Refused { number: _ } => false,
+        Ok(
+            Mended {
+                bytes: _,
+                changes: _,
+                unit: _,
+                rounded: _,
+            },
+        ) => true,
+        Err(_) => false,
     }
 }
 
@@ -95,7 +95,7 @@ fn read_bytes(
     a: &mut [u64],
     m: &mut [u64],
     numbers: &mut [i64],
-) -> reader::Answer
+) -> Result<reader::Accepted, sequence::Refusal>
     ensures { Reads (rounded_in book (take bytes out.now)) (reading book (room_of (lent_of (take bytes out.now) e.old a.old m.old numbers.old)) (take bytes out.now))
         (lent_of (take bytes out.now) e.old a.old m.old numbers.old)
         (lent_of (take bytes out.now) e.new a.new m.new numbers.new) head.new result }
@@ -104,52 +104,40 @@ fn read_bytes(
 }
 
 // Whether the mended file has room.
+#[tactic(auto, unfolding(crate::specs::Steps::has_file))]
 fn has_file(w: Written) -> bool
     ensures { result ≡ has_file w }
 {
-    match w {
-        Written::Both {
-            bytes: _,
-            changes: _,
-        } => true,
-        Written::File { bytes: _ } => true,
-        Written::Nothing => false,
-    }
+    matches!(w, Written::Both { .. } | Written::File { .. })
 }
 
 // Whether the report has room too.
+#[tactic(auto, unfolding(crate::specs::Steps::has_report))]
 fn has_report(w: Written) -> bool
     ensures { result ≡ has_report w }
 {
-    match w {
-        Written::Both {
-            bytes: _,
-            changes: _,
-        } => true,
-        Written::File { bytes: _ } => false,
-        Written::Nothing => false,
-    }
+    matches!(w, Written::Both { .. })
 }
 
 // How many bytes the mended file has.
+#[tactic(auto, unfolding(crate::specs::Steps::bytes_written))]
 fn bytes_of(w: Written) -> usize
     ensures { result ≡ bytes_written w }
 {
     match w {
-        Written::Both { bytes, changes: _ } => bytes,
-        Written::File { bytes } => bytes,
+        Written::Both { bytes, .. } | Written::File { bytes } => bytes,
         Written::Nothing => 0,
     }
 }
 
 // How many changes the report has.
+#[tactic(auto, unfolding(crate::specs::Steps::changes_written))]
 fn changes_of(w: Written) -> usize
     ensures { result ≡ changes_written w }
 {
     match w {
-        Written::Both { bytes: _, changes } => changes,
-        Written::File { bytes: _ } => 0,
-        Written::Nothing => 0,
+        Written::Both { changes, .. } => changes,
+        _ => 0,
     }
 }
 
@@ -164,7 +152,7 @@ fn mend_over(
     a: &mut [u64],
     m: &mut [u64],
     numbers: &mut [i64],
-) -> Answer
+) -> Result<Mended, u64>
     requires { (out.old ≡ replicate (length out.old) 0) × (report.old ≡ replicate (length report.old) 0) }
     ensures { Comes book (mending_of book (room_of (lent_of file.now e.old a.old m.old numbers.old)) (length out.old) (length report.old) file.now)
         (lent_of file.now e.old a.old m.old numbers.old)
@@ -178,9 +166,9 @@ fn mend_over(
             let r = read_bytes(book, out, bytes, head, e, a, m, numbers);
             return answer_from(has_report(w), bytes, changes_of(w), r);
         }
-        return Answer::Refused { number: 17 };
+        return Err(17);
     }
-    Answer::Refused { number: 1 }
+    Err(1)
 }
 
 // Zeros in everything that is lent.
@@ -218,7 +206,7 @@ pub fn mend(
     a: &mut [u64],
     m: &mut [u64],
     numbers: &mut [i64],
-) -> Answer
+) -> Result<Mended, u64>
     ensures { Mends book (mending_of book (room_of (lent_of file.now e.old a.old m.old numbers.old)) (length out.old) (length report.old) file.now)
         (lent_of file.now e.old a.old m.old numbers.old)
         (lent_of file.now e.new a.new m.new numbers.new)

@@ -1,5 +1,6 @@
 -- The next complete command as a part of the file, and the cut after it.
 -- Assumes nothing.
+use Rattle.std.specs.Prelude.{None, Option, Some}
 use Prim.Native.Nat.{ℕ, suc, ◌+◌, ◌-◌, ◌≤◌}
 use mathlib.Core.Path.{◌≡◌, refl, sym, ap, ◌∙◌}
 use mathlib.Core.List.{List, [], ◌∷◌, ◌++◌, append_assoc}
@@ -9,8 +10,8 @@ use lib.ListN.{length, drop, length-append, length-drop}
 use lib.Seq.{slice, drop-drop, take-append_seam, drop-append_seam}
 use Rattle.base.proofs.Lists.{slice_take}
 use Rattle.text.specs.First.{first_in, place}
-use Rattle.mending.specs.Extents.{Site, between, inside, closes, mark, Piece, piece, pieces, extent_of}
-use Rattle.mending.specs.declared.Extent.TheVariants.{Command, Rest}
+use Rattle.mending.specs.declared.Extent.{Extent}
+use Rattle.mending.specs.Extents.{Site, between, inside, closes, mark, Piece, piece, pieces, extent_of, extent}
 use Rattle.mending.proofs.Told.{Breaks, Whole, ended, goes, First, first_told}
 
 -- a command has a byte
@@ -71,7 +72,7 @@ module _ (file : List ℕ) (at : ℕ) (gap c : List ℕ) (ps : List Piece) (e : 
   }
 
 -- where `extent_at` answers, the cut is known
-pub none_cut : (at : ℕ) (ps : List Piece) → Rest ≡ extent_of at ps → ps ≡ []
+pub none_cut : (at : ℕ) (ps : List Piece) → None ≡ extent_of at ps → ps ≡ []
 unfolding extent_of
 none_cut at [] e = refl
 none_cut at (piece gap c ∷ ps) e = absurd (let z : ◌≡◌ {A = ℕ} 0 1 = cc in omega arith)
@@ -84,16 +85,21 @@ pub record Cuts (file : List ℕ) (at start next : ℕ) : Type 0 where
   pub some : start + 1 ≤ next
   pub inside : next ≤ length file
 
-pub command_cut : (file : List ℕ) (at start next : ℕ) → Command start next ≡ extent_of at (pieces (drop at file)) → Cuts file at start next
+-- an extent, where there is one
+abbrev read : Option Extent → Extent
+read None = record { place = 0; next = 0 }
+read (Some e) = e
+
+pub command_cut : (file : List ℕ) (at start next : ℕ) → extent start next ≡ extent_of at (pieces (drop at file)) → Cuts file at start next
 unfolding extent_of
 command_cut file at start next e = go (pieces (drop at file)) refl e
   where
-    go : (ps : List Piece) → pieces (drop at file) ≡ ps → Command start next ≡ extent_of at ps → Cuts file at start next
+    go : (ps : List Piece) → pieces (drop at file) ≡ ps → extent start next ≡ extent_of at ps → Cuts file at start next
     go [] p e = absurd (let z : ◌≡◌ {A = ℕ} 0 1 = cc in omega arith)
     go (piece gap c ∷ ps) p e =
         let f = found file at gap c ps p in
-        let s : start ≡ at + length gap = cc in
-        let n : next ≡ at + length gap + length c = cc in
+        let s : start ≡ at + length gap = ap (λ (o : Option Extent). (read o).place) e in
+        let n : next ≡ at + length gap + length c = ap (λ (o : Option Extent). (read o).next) e in
         rw (s, n) (record {
           cut_there = rw (← f.before, ← f.command, f.others) p;
           start_so = rw (← f.before) refl;

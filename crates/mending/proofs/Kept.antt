@@ -11,7 +11,6 @@ use lib.ListN.{length, take, drop, drop_of_length-le, take-append-drop}
 use lib.Seq.{slice, slice_empty, take-add, drop-drop}
 use borrow.Author.Tests.{ltb-false, eqb-true}
 use Rattle.book.specs.declared.Book.{Book}
-use Rattle.base.specs.And.{◌and◌}
 use Rattle.base.specs.Bytes.{same_bytes}
 use Rattle.base.proofs.And.{and_l}
 use Rattle.mending.proofs.Or.{false_or}

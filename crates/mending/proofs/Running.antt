@@ -1,5 +1,6 @@
 -- The pass over a file's complete commands: what is still to be written at a place, and what each command does to it.
 -- Assumes nothing.
+use Rattle.std.specs.Prelude.{None}
 use Prim.Native.Nat.{ℕ, ◌+◌, ◌-◌, ◌*◌, ◌/◌, ◌<◌, ◌≤◌}
 use mathlib.Core.Path.{◌≡◌, refl, sym, ap, ◌∙◌}
 use mathlib.Core.Bool.{Bool, true, false, cond, false≢true}
@@ -14,10 +15,9 @@ use Rattle.base.specs.And.{◌and◌}
 use Rattle.base.proofs.And.{and_l, and_r}
 use Rattle.text.specs.Text.{text}
 use Rattle.mending.specs.Extents.{pieces, closing, extent_of}
-use Rattle.mending.specs.declared.Extent.TheVariants.{Rest}
 use Rattle.mending.proofs.Found.{Cuts, none_cut}
 use Rattle.mending.specs.Changes.{Change, drop_repeat, add_end, drop_tail, drop_after_end, first_of, repeats, follows, changes_from, changes}
-use Rattle.mending.specs.Mended.{words_of, words, report, file_fits, report_fits, written_of, written, Fills}
+use Rattle.mending.specs.Mended.{words_of, words, report, file_fits, report_fits, written_of, Fills}
 use Rattle.mending.specs.Rebuilt.{mended}
 use Rattle.mending.specs.Steps.{holds, laid, Noted, Finished}
 use Rattle.mending.specs.declared.Tally.{Tally}
@@ -45,7 +45,7 @@ module _ (book : Book) (file fs mo : List ℕ) (at : ℕ) where
   abbrev pub changes_left : List Change
   changes_left = changes_from book file fs mo at (pieces (drop at file))
 
-module _ (book : Book) (file fs mo : List ℕ) (at : ℕ) (e : Rest ≡ extent_of at (pieces (drop at file))) where
+module _ (book : Book) (file fs mo : List ℕ) (at : ℕ) (e : None ≡ extent_of at (pieces (drop at file))) where
   bytes_end : bytes_left book file fs mo at ≡ text "M02*"
   unfolding kept_from
   bytes_end = rw (none_cut at (pieces (drop at file)) e)
@@ -177,13 +177,13 @@ module _ {book : Book} {file : List ℕ} {bytes room : ℕ} {fs mo : List ℕ} {
           rw (d.answer, p) (fills_nothing book file bytes room (part_short g.out_part s [] e' p) (d.as_long ∙ g.out_part.long) many)
 
   -- M02 is missing
-  pub ends_tail : Rest ≡ extent_of at (pieces (drop at file)) → at < length file →
+  pub ends_tail : None ≡ extent_of at (pieces (drop at file)) → at < length file →
       {r : Written} {out' noted' : List ℕ} → Finished out n (text "M02*") noted t (2 ∷ at ∷ 3 ∷ at ∷ []) r out' noted' → Fills book file bytes room r out' noted'
   unfolding words words_of
   ends_tail e h d =
       finishes (text "M02*") (2 ∷ at ∷ 3 ∷ at ∷ []) (bytes_end book file fs mo at e) (rw (changes_end book file fs mo at e, lt-ltb at (length file) h) refl) d
 
-  pub ends_there : Rest ≡ extent_of at (pieces (drop at file)) → length file ≤ at →
+  pub ends_there : None ≡ extent_of at (pieces (drop at file)) → length file ≤ at →
       {r : Written} {out' noted' : List ℕ} → Finished out n (text "M02*") noted t (2 ∷ at ∷ []) r out' noted' → Fills book file bytes room r out' noted'
   unfolding words words_of
   ends_there e h d =

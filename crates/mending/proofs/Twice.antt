@@ -8,11 +8,10 @@ use native.Mathlib.Omega.{arith}
 use lib.ListN.{length, drop, length-append}
 use lib.Seq.{drop-drop, drop-append_seam}
 use Rattle.book.specs.declared.Book.{Book}
-use Rattle.base.specs.And.{◌and◌}
 use Rattle.base.specs.Or.{◌or◌}
 use Rattle.base.specs.Bytes.{same_bytes}
 use Rattle.text.specs.Text.{text}
-use Rattle.mending.specs.Extents.{between, skips, closes, mark, Piece, piece, cut, pieces, closing, extents_from, extents}
+use Rattle.mending.specs.Extents.{between, skips, closes, mark, Piece, piece, pieces, closing, extents_from, extents}
 use Rattle.mending.proofs.Told.{Breaks, none, Whole, ended, goes}
 use Rattle.mending.proofs.Joined.{piece_joined, breaks_joined}
 use Rattle.mending.proofs.Found.{Found, found}

@@ -1,5 +1,5 @@
 -- A file cut into its complete commands by extent alone, whatever their bytes (02, [13]; decisions 540 and 547).
-use Rattle.std.specs.Prelude.{ℕ, ◌+◌, Bool, true, false, cond, List, [], ◌∷◌, eqb, length}
+use Rattle.std.specs.Prelude.{ℕ, ◌+◌, Bool, true, false, cond, List, [], ◌∷◌, eqb, length, None, Option, Some}
 use Prim.Native.Char.{code}
 use Rattle.base.specs.And.{◌and◌}
 use Rattle.base.specs.Breaks.{is_break}
@@ -8,7 +8,6 @@ use Rattle.text.specs.Text.{◌is◌}
 use Rattle.book.specs.Books.{is_old}
 use Rattle.book.specs.declared.Book.{Book}
 use Rattle.mending.specs.declared.Extent.{Extent}
-use Rattle.mending.specs.declared.Extent.TheVariants.{Command, Rest}
 
 -- where a byte stands: between two commands, or in one that ends at its next m
 pub data Site : Type 0 where
@@ -68,7 +67,10 @@ extents_from book at (piece gap c ∷ ps) =
 unfoldable pub extents : Book → List ℕ → List (ℕ × List ℕ)
 extents book file = extents_from book 0 (pieces file)
 
+abbrev pub extent : ℕ → ℕ → Option Extent
+extent place next = Some (record { place = place; next = next })
+
 -- where the first of these commands, which stand from `at` on, begins and ends
-unfoldable pub extent_of : ℕ → List Piece → Extent
-extent_of at [] = Rest
-extent_of at (piece gap c ∷ ps) = Command (at + length gap) (at + length gap + length c)
+unfoldable pub extent_of : ℕ → List Piece → Option Extent
+extent_of at [] = None
+extent_of at (piece gap c ∷ ps) = extent (at + length gap) (at + length gap + length c)

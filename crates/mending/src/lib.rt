@@ -17,37 +17,37 @@ use book::Book;
 
 // The next complete command is place..next, with its `*` or its two `%`; or what is left holds none.
 #[derive(Clone, Copy)]
-pub enum Extent {
-    Command { place: usize, next: usize },
-    Rest,
+pub struct Extent {
+    pub place: usize,
+    pub next: usize,
 }
 
 // The next complete command from a place on.
-fn extent_at(file: &[u8], from: usize) -> Extent
+fn extent_at(file: &[u8], from: usize) -> Option<Extent>
     ensures { result ≡ extent_of from (pieces (drop from file.now)) }
 {
     let place = text::past_breaks(file, from);
     if place >= file.len() {
-        return Extent::Rest;
+        return None;
     }
     if file[place] == b'%' {
         let close = text::find(file, place + 1, b'%');
         if close >= file.len() {
-            return Extent::Rest;
+            return None;
         }
-        return Extent::Command {
+        return Some(Extent {
             place,
             next: close + 1,
-        };
+        });
     }
     let close = text::find(file, place, b'*');
     if close >= file.len() {
-        return Extent::Rest;
+        return None;
     }
-    Extent::Command {
+    Some(Extent {
         place,
         next: close + 1,
-    }
+    })
 }
 
 // These bytes are M02, or M2 in the old edition.
@@ -88,15 +88,14 @@ pub struct Span {
 fn trimmed(s: &[u8]) -> usize
     ensures { (take result s.now ≡ drop_trailing is_break s.now) × (result ≤ length s.now) }
 {
-    let mut n = s.len();
-    while 0 < n {
-        if base::is_break(base::byte_at(s, n - 1)) {
-            n -= 1;
-        } else {
-            return n;
+    let mut rest = s;
+    while let [others @ .., b] = rest {
+        if !base::is_break(*b) {
+            return rest.len();
         }
+        rest = others;
     }
-    n
+    rest.len()
 }
 
 // Where the text of an extended command ends; it begins at 1.
@@ -111,10 +110,11 @@ fn text_end(c: &[u8]) -> usize
 fn is_match(w: &[u8], file: &[u8], t: Span, c: &[u8]) -> bool
     ensures { result ≡ matches w.now (slice t.from t.to file.now) c.now }
 {
-    let from = t.from;
-    let to = t.to;
     if text::begins(c, w) {
-        return text::is(base::part(c, 1, text_end(c)), base::part(file, from, to));
+        return text::is(
+            base::part(c, 1, text_end(c)),
+            base::part(file, t.from, t.to),
+        );
     }
     false
 }
@@ -131,9 +131,7 @@ fn first_of(w: &[u8], file: &[u8], t: Span, place: usize, next: usize) -> Span
     requires { Stands file.now place next }
     ensures { slice result.from result.to file.now ≡ first_of w.now (slice t.from t.to file.now) (slice place next file.now) }
 {
-    let from = t.from;
-    let to = t.to;
-    let before = base::part(file, from, to);
+    let before = base::part(file, t.from, t.to);
     let c = base::part(file, place, next);
     if base::both(before.len() == 0, text::begins(c, w)) {
         return Span {
@@ -155,28 +153,17 @@ fn is_followed(file: &[u8], from: usize) -> bool
 pub fn clear_bytes(s: &mut [u8])
     ensures { s.new ≡ replicate (length s.old) 0 }
 {
-    let mut i: usize = 0;
-    while i < s.len() {
-        s[i] = 0;
-        i += 1;
-    }
+    s.fill(0);
 }
 
 // Lays s into out from n on, where it fits.
 fn lay(out: &mut [u8], n: usize, s: &[u8]) -> bool
     ensures { (result ≡ holds out.old n s.now) × (out.new ≡ laid out.old n s.now) }
 {
-    if out.len() < n {
+    if out.len() < n || out.len() - n < s.len() {
         return false;
     }
-    if out.len() - n < s.len() {
-        return false;
-    }
-    let mut i: usize = 0;
-    while i < s.len() {
-        out[n + i] = s[i];
-        i += 1;
-    }
+    out[n..n + s.len()].copy_from_slice(s);
     true
 }
 
@@ -184,17 +171,10 @@ fn lay(out: &mut [u8], n: usize, s: &[u8]) -> bool
 fn note(out: &mut [u64], n: usize, s: &[u64]) -> bool
     ensures { (result ≡ holds out.old n s.now) × (out.new ≡ laid out.old n s.now) }
 {
-    if out.len() < n {
+    if out.len() < n || out.len() - n < s.len() {
         return false;
     }
-    if out.len() - n < s.len() {
-        return false;
-    }
-    let mut i: usize = 0;
-    while i < s.len() {
-        out[n + i] = s[i];
-        i += 1;
-    }
+    out[n..n + s.len()].copy_from_slice(s);
     true
 }
 
@@ -246,44 +226,45 @@ pub fn mend_into(book: Book, file: &[u8], out: &mut [u8], noted: &mut [u64]) -> 
     };
     let mut fs = Span { from: 0, to: 0 };
     let mut mo = Span { from: 0, to: 0 };
+    // The file's next command is known only once this one is cut: no iterator walks so.
     loop {
         let e = extent_at(file, at);
         match e {
-            Extent::Command { place, next } => {
-                let c = base::part(file, place, next);
+            Some(found) => {
+                let c = base::part(file, found.place, found.next);
                 if is_closing(book, c) {
-                    if is_followed(file, next) {
+                    if is_followed(file, found.next) {
                         return finish(
                             out,
                             n,
-                            base::part(file, at, next),
+                            base::part(file, at, found.next),
                             noted,
                             t,
-                            &[4, next as u64],
+                            &[4, found.next as u64],
                         );
                     }
                     return finish(out, n, base::from_on(file, at), noted, t, &[]);
                 }
                 if is_repeat(file, fs, mo, c) {
-                    if lay(out, n, base::part(file, at, place)) {
-                        n += place - at;
-                        t = note_on(noted, t, &[1, place as u64]);
-                        at = next;
+                    if lay(out, n, base::part(file, at, found.place)) {
+                        n += found.place - at;
+                        t = note_on(noted, t, &[1, found.place as u64]);
+                        at = found.next;
                     } else {
                         return Written::Nothing;
                     }
                 } else {
-                    if lay(out, n, base::part(file, at, next)) {
-                        n += next - at;
-                        fs = first_of(b"%FS", file, fs, place, next);
-                        mo = first_of(b"%MO", file, mo, place, next);
-                        at = next;
+                    if lay(out, n, base::part(file, at, found.next)) {
+                        n += found.next - at;
+                        fs = first_of(b"%FS", file, fs, found.place, found.next);
+                        mo = first_of(b"%MO", file, mo, found.place, found.next);
+                        at = found.next;
                     } else {
                         return Written::Nothing;
                     }
                 }
             }
-            Extent::Rest => {
+            None => {
                 if at < file.len() {
                     return finish(out, n, b"M02*", noted, t, &[2, at as u64, 3, at as u64]);
                 }

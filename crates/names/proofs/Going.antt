@@ -1,5 +1,6 @@
 -- The walk under way, over plain variables: at a place, with some of the names set before it in the table.
 -- Assumes nothing.
+use Rattle.std.specs.Prelude.{Err, Ok, Result, ℕ}
 use Prim.Native.Nat.{ℕ, suc, ◌+◌, ◌/◌, ◌<◌, ◌≤◌, min}
 use mathlib.Core.Path.{◌≡◌, refl, sym, ◌∙◌}
 use mathlib.Core.Bool.{Bool, true, false}
@@ -11,8 +12,6 @@ use lib.ListN.{length}
 use lib.Seq.{slice}
 use borrow.Author.Tests.{ltb-true, ltb-false}
 use Rattle.book.specs.declared.Book.{Book}
-use Rattle.index.specs.declared.Search.{Search}
-use Rattle.index.specs.declared.Search.TheVariants.{At, Free}
 use Rattle.index.specs.Names.{named}
 use Rattle.tables.specs.Added.{has_room, added}
 use Rattle.tables.specs.Macros.{macro_words}
@@ -70,9 +69,9 @@ pub kept_long : (file s : List ℕ) (used from to : ℕ) → length (kept_of fil
 unfolding kept_of kept_at
 kept_long file s used from to = go (named file s used (slice from to file))
   where
-    go : (x : Search) → length (kept_at s used from to x) ≡ length s
-    go (At i) = refl
-    go (Free link) = long s used link (macro_words (name_at from to)) (eight from to) (ltb used (length s / 8)) refl
+    go : (x : Result ℕ ℕ) → length (kept_at s used from to x) ≡ length s
+    go (Ok i) = refl
+    go (Err link) = long s used link (macro_words (name_at from to)) (eight from to) (ltb used (length s / 8)) refl
 
 -- what follows from how the name of the TF at a place is noted, the next command standing from `next` on
 abbrev pub Follows : Book → List ℕ → ℕ → ℕ → ℕ → ℕ → ℕ → ℕ → List ℕ → Noted → Type 0
@@ -160,18 +159,18 @@ module _ (book : Book) (file s : List ℕ) (used from at rest : ℕ) (g : Going 
         go (all r q) = at_rest at (omega (arith, g.inside)) g.onward (omega arith) (sym (in_parts book file at g.names g.inside) ∙ q)
         go (some _ o i q) = at_rest rest (omega arith) o i q
 
-    not_found : (link : ℕ) → named file s used name ≡ Free link → (t : Bool) → ltb used (length s / 8) ≡ t
-        → Follows book file used from at rest place next (added s used link (macro_words (name_at begins to))) (noted s used (Free link))
+    not_found : (link : ℕ) → named file s used name ≡ Err link → (t : Bool) → ltb used (length s / 8) ≡ t
+        → Follows book file used from at rest place next (added s used link (macro_words (name_at begins to))) (noted s used (Err link))
     unfolding noted has_room added
     not_found link f true r =
         let room = ltb-true used (length s / 8) r in
         rw (r, add-one) (kept _ (rw (r, added) at (long s used link (macro_words (name_at begins to)) (eight begins to) true r)) room (held_new file s used g.names g.held name link f) (rw (r, added) at (held_more file s used g.names g.held begins to link room f)))
     not_found link f false r = rw r (without_room (ltb-false used (length s / 8) r) (held_new file s used g.names g.held name link f))
 
-    follows : (x : Search) → named file s used name ≡ x → Follows book file used from at rest place next (kept_at s used begins to x) (noted s used x)
+    follows : (x : Result ℕ ℕ) → named file s used name ≡ x → Follows book file used from at rest place next (kept_at s used begins to x) (noted s used x)
     unfolding kept_at noted
-    follows (At i) f = again (held_again file s used g.names g.held name i f)
-    follows (Free link) f = not_found link f (ltb used (length s / 8)) refl
+    follows (Ok i) f = again (held_again file s used g.names g.held name i f)
+    follows (Err link) f = not_found link f (ltb used (length s / 8)) refl
 
     going_kept : Follows book file used from at rest place next (kept_of file s used begins to) (noted_of file s used begins to)
     unfolding kept_of noted_of

@@ -1,5 +1,6 @@
 -- The table of names: it holds those that were kept, and no others.
 -- Assumes nothing.
+use Rattle.std.specs.Prelude.{Result, Err, Ok}
 use Prim.Native.Nat.{ℕ, zero, suc, ◌+◌, ◌/◌, ◌<◌}
 use mathlib.Core.Path.{◌≡◌, refl, sym, ap, ◌∙◌}
 use mathlib.Core.Bool.{Bool, true, false}
@@ -12,7 +13,6 @@ use lib.Seq.{slice}
 use Rattle.base.specs.Or.{◌or◌}
 use Rattle.base.specs.Bytes.{same_bytes}
 use Rattle.base.proofs.Lists.{same_is, same_refl}
-use Rattle.index.specs.declared.Search.TheVariants.{At, Free}
 use Rattle.index.specs.First.{first_of}
 use Rattle.index.specs.Names.{name_of, named, Named}
 use Rattle.index.proofs.More.{named_none}
@@ -38,16 +38,16 @@ held_start file s = record {
 }
 
 -- a search that found a record
-found_at : (is : ℕ → Bool) (i n x j : ℕ) → first_of is i n (Free x) ≡ At j → (j < i + n) × (is j ≡ true)
+found_at : (is : ℕ → Bool) (i n x j : ℕ) → first_of is i n (Err x) ≡ Ok j → (j < i + n) × (is j ≡ true)
 unfolding first_of
 found_at is i zero x j e = let z : ◌≡◌ {A = ℕ} 0 1 = cc in absurd (omega arith)
 found_at is i (suc n) x j e = go (is i) refl e (found_at is (suc i) n x j)
   where
-    at_is : (a b : ℕ) → At a ≡ At b → a ≡ b
+    at_is : (a b : ℕ) → ◌≡◌ {A = Result ℕ ℕ} (Ok a) (Ok b) → a ≡ b
     at_is a b e = cc
 
-    go : (t : Bool) → is i ≡ t → elim t [ true ↦ At i | false ↦ first_of is (suc i) n (Free x) ] ≡ At j
-        → (first_of is (suc i) n (Free x) ≡ At j → (j < suc i + n) × (is j ≡ true)) → (j < i + suc n) × (is j ≡ true)
+    go : (t : Bool) → is i ≡ t → ◌≡◌ {A = Result ℕ ℕ} (elim t [ true ↦ Ok i | false ↦ first_of is (suc i) n (Err x) ]) (Ok j)
+        → (first_of is (suc i) n (Err x) ≡ Ok j → (j < suc i + n) × (is j ≡ true)) → (j < i + suc n) × (is j ≡ true)
     go true f e rest = let q = at_is i j e in (omega arith, ap is (sym q) ∙ f)
     go false f e rest = let r = rest e in (omega (arith, r.0), r.1)
 
@@ -66,14 +66,14 @@ among_here n names = rw (same_refl n)
 
 module _ (file s : List ℕ) (used : ℕ) (names : List (List ℕ)) (h : Held file s used names) where
   -- a name that is found was kept
-  pub held_again : (name : List ℕ) (i : ℕ) → named file s used name ≡ At i → is_among name names ≡ true
+  pub held_again : (name : List ℕ) (i : ℕ) → named file s used name ≡ Ok i → is_among name names ≡ true
   unfolding named
   held_again name i e =
       let f = found_at (λ j. same_bytes (name_of file s j) name) 0 used _ i e in
       ap (λ (n : List ℕ). is_among n names) (sym (same_is _ _ f.1)) ∙ h.set i (omega (arith, f.0))
 
   -- one that is not was not
-  pub held_new : (name : List ℕ) (link : ℕ) → named file s used name ≡ Free link → is_among name names ≡ false
+  pub held_new : (name : List ℕ) (link : ℕ) → named file s used name ≡ Err link → is_among name names ≡ false
   held_new name link e = go (is_among name names) refl
     where
       go : (t : Bool) → is_among name names ≡ t → t ≡ false
@@ -81,7 +81,7 @@ module _ (file s : List ℕ) (used : ℕ) (names : List (List ℕ)) (h : Held fi
       go false a = refl
 
   -- with room it holds one more
-  module _ (from to link : ℕ) (room : used < length s / 8) (free : named file s used (slice from to file) ≡ Free link) where
+  module _ (from to link : ℕ) (room : used < length s / 8) (free : named file s used (slice from to file) ≡ Err link) where
     abbrev s' : List ℕ
     s' = added s used link (macro_words (name_at from to))
 

@@ -1,5 +1,6 @@
 -- The name of a TF lies in its text.
 -- Assumes nothing.
+use Rattle.std.specs.Prelude.{None, Option, Some}
 use Prim.Native.Nat.{ℕ, ◌≤◌}
 use mathlib.Core.List.{List}
 use lib.ListN.{length}
@@ -9,13 +10,12 @@ use Rattle.command.specs.declared.Deed.{Deed}
 use Rattle.command.specs.declared.Deed.TheVariants as deed
 use Rattle.law_bounds.specs.Bounded.{DeedBounded, Bounded}
 use Rattle.names.specs.Sets.{sets_by, sets_of}
-use Rattle.names.specs.declared.Sets.{Sets}
-use Rattle.names.specs.declared.Sets.TheVariants.{Nothing, Name}
+use Rattle.command.specs.declared.Span.{Span}
 
 -- a name in a text of n bytes
-abbrev pub Inside : ℕ → Sets → Type 0
-Inside n Nothing = Unit
-Inside n (Name p) = (p.from ≤ p.to) × (p.to ≤ n)
+abbrev pub Inside : ℕ → Option Span → Type 0
+Inside n None = Unit
+Inside n (Some p) = (p.from ≤ p.to) × (p.to ≤ n)
 
 module _ (s : List ℕ) where
   deed_inside : (d : Deed) → DeedBounded s d → Inside (length s) (sets_by d)

@@ -1,5 +1,6 @@
 -- Which commands set a name of the file's: TF only, and only where the text begins with `TF`, whatever the format of FS and the edition.
 -- Assumes nothing.
+use Rattle.std.specs.Prelude.{Err, Ok, Result, None}
 use Prim.Native.Nat.{ℕ, zero, suc}
 use Prim.Native.Char.{code}
 use mathlib.Core.Path.{◌≡◌, refl, sym, ◌∙◌}
@@ -16,8 +17,6 @@ use Rattle.command.specs.declared.Command.{Command}
 use Rattle.book.specs.declared.Book.{Book}
 use Rattle.formats.specs.Format.{no_format}
 use Rattle.formats.specs.declared.Format.{Format}
-use Rattle.formats.specs.declared.Said.{Said}
-use Rattle.formats.specs.declared.Said.TheVariants as fs
 use Rattle.films.specs.Words as film
 use Rattle.films.specs.declared.Word.{Word}
 use Rattle.films.specs.declared.Word.TheVariants as word
@@ -36,35 +35,36 @@ use Rattle.attribute_commands.specs.Attributes.{attribute_of, deletion_of}
 use Rattle.recognise.specs.Commands.{data_of, data_in, extended_of, command_of}
 use Rattle.law_bounds.proofs.Tables.{picks, judges}
 use Rattle.names.specs.Sets.{sets_by, sets_of}
-use Rattle.names.specs.declared.Sets.TheVariants.{Nothing}
+use Rattle.formats.specs.declared.FormatError.TheVariants as format_error
+use Rattle.formats.specs.declared.FormatError.{FormatError}
 
 -- it sets no name
-abbrev pub None : Command → Type 0
-None c = sets_of c ≡ Nothing
+abbrev pub Nameless : Command → Type 0
+Nameless c = sets_of c ≡ None
 
 -- no word command does, nor a macro
-operation_none : (w : Written) → None (operates w)
+operation_none : (w : Written) → Nameless (operates w)
 unfolding sets_of operates
-operation_none w = judges None refl refl (λ formed fits. refl)
+operation_none w = judges Nameless refl refl (λ formed fits. refl)
 
-select_none : (t : List ℕ) → None (select_of t)
+select_none : (t : List ℕ) → Nameless (select_of t)
 unfolding sets_of select_of
-select_none t = judges None refl refl (λ formed fits. refl)
+select_none t = judges Nameless refl refl (λ formed fits. refl)
 
-newer_none : (f : Format) (s : List ℕ) → None (newer_word f s)
+newer_none : (f : Format) (s : List ℕ) → Nameless (newer_word f s)
 unfolding sets_of newer_word comment_of operation_of code_of
 newer_none f s =
-    picks None (λ e. picks None (λ e. refl) refl)
-    (picks None (λ e. operation_none _)
-    (picks None (λ e. operation_none _)
-    (picks None (λ e. operation_none _)
-    (picks None (λ e. select_none _)
-    (picks None (λ e. refl)
-    (picks None (λ e. refl)
-    (picks None (λ e. refl)
-    (picks None (λ e. refl) (picks None (λ e. refl) (picks None (λ e. refl) (picks None (λ e. refl) refl)))))))))))
+    picks Nameless (λ e. picks Nameless (λ e. refl) refl)
+    (picks Nameless (λ e. operation_none _)
+    (picks Nameless (λ e. operation_none _)
+    (picks Nameless (λ e. operation_none _)
+    (picks Nameless (λ e. select_none _)
+    (picks Nameless (λ e. refl)
+    (picks Nameless (λ e. refl)
+    (picks Nameless (λ e. refl)
+    (picks Nameless (λ e. refl) (picks Nameless (λ e. refl) (picks Nameless (λ e. refl) (picks Nameless (λ e. refl) refl)))))))))))
 
-said_none : (f : Format) (s : List ℕ) (w : Word) → None (said f s w)
+said_none : (f : Format) (s : List ℕ) (w : Word) → Nameless (said f s w)
 unfolding sets_of said operated coded
 said_none f s word.NotForm = refl
 said_none f s word.Note = refl
@@ -72,76 +72,76 @@ said_none f s word.Halt = refl
 said_none f s word.End = refl
 said_none f s (word.Code g) = refl
 said_none f s (word.Select at) = select_none _
-said_none f s (word.Operate g number from to) = picks None (λ e. operation_none _) (judges None refl refl (λ formed fits. refl))
+said_none f s (word.Operate g number from to) = picks Nameless (λ e. operation_none _) (judges Nameless refl refl (λ formed fits. refl))
 
-pub word_none : (book : Book) (f : Format) (s : List ℕ) → None (word_of book f s)
+pub word_none : (book : Book) (f : Format) (s : List ℕ) → Nameless (word_of book f s)
 unfolding word_of old_word
-word_none book f s = picks None (λ e. said_none f s (film.word_of s)) (newer_none f s)
+word_none book f s = picks Nameless (λ e. said_none f s (film.word_of s)) (newer_none f s)
 
-pub macro_none : (s : List ℕ) → None (macro_of s)
+pub macro_none : (s : List ℕ) → Nameless (macro_of s)
 unfolding sets_of macro_of headed
-macro_none s = picks None (λ e. judges None refl refl (λ formed fits. refl)) refl
+macro_none s = picks Nameless (λ e. judges Nameless refl refl (λ formed fits. refl)) refl
 
 -- nor an extended one with another beginning
 module _ (s : List ℕ) where
-  formatted_none : (a : Said) → None (formatted a)
+  formatted_none : (a : Result Format FormatError) → Nameless (formatted a)
   unfolding sets_of formatted
-  formatted_none fs.NotForm = refl
-  formatted_none fs.SevenPlaces = refl
-  formatted_none (fs.Is f) = refl
+  formatted_none (Err format_error.NotForm) = refl
+  formatted_none (Err format_error.SevenPlaces) = refl
+  formatted_none (Ok f) = refl
 
-  format_none : (book : Book) → None (format_of book s)
+  format_none : (book : Book) → Nameless (format_of book s)
   unfolding format_of
   format_none book = formatted_none _
 
-  unit_none : None (unit_of s)
+  unit_none : Nameless (unit_of s)
   unfolding sets_of unit_of
-  unit_none = picks None (λ e. refl) (picks None (λ e. refl) refl)
+  unit_none = picks Nameless (λ e. refl) (picks Nameless (λ e. refl) refl)
 
-  aperture_none : None (aperture_of s)
+  aperture_none : Nameless (aperture_of s)
   unfolding sets_of aperture_of definition
-  aperture_none = picks None (λ e. judges None refl refl (λ formed fits. refl)) refl
+  aperture_none = picks Nameless (λ e. judges Nameless refl refl (λ formed fits. refl)) refl
 
-  block_none : None (block_of s)
+  block_none : Nameless (block_of s)
   unfolding sets_of block_of block_start
-  block_none = picks None (λ e. refl) (picks None (λ e. judges None refl refl (λ formed fits. refl)) refl)
+  block_none = picks Nameless (λ e. refl) (picks Nameless (λ e. judges Nameless refl refl (λ formed fits. refl)) refl)
 
-  repeat_none : None (repeat_of s)
+  repeat_none : Nameless (repeat_of s)
   unfolding sets_of repeat_of repeat_start repeats
-  repeat_none = picks None (λ e. refl) (picks None (λ e. judges None refl refl (λ formed fits. refl)) refl)
+  repeat_none = picks Nameless (λ e. refl) (picks Nameless (λ e. judges Nameless refl refl (λ formed fits. refl)) refl)
 
-  mirror_none : None (mirror_of s)
+  mirror_none : Nameless (mirror_of s)
   unfolding sets_of mirror_of
-  mirror_none = picks None (λ e. refl) (picks None (λ e. refl) (picks None (λ e. refl) (picks None (λ e. refl) refl)))
+  mirror_none = picks Nameless (λ e. refl) (picks Nameless (λ e. refl) (picks Nameless (λ e. refl) (picks Nameless (λ e. refl) refl)))
 
-  transformation_none : None (transformation_of s)
+  transformation_none : Nameless (transformation_of s)
   unfolding sets_of transformation_of rotation_of scale_of
   transformation_none =
-      picks None (λ e. refl)
-      (picks None (λ e. refl)
-      (picks None (λ e. mirror_none)
-      (picks None (λ e. judges None refl refl (λ formed fits. refl)) (picks None (λ e. judges None refl refl (λ formed fits. refl)) refl))))
+      picks Nameless (λ e. refl)
+      (picks Nameless (λ e. refl)
+      (picks Nameless (λ e. mirror_none)
+      (picks Nameless (λ e. judges Nameless refl refl (λ formed fits. refl)) (picks Nameless (λ e. judges Nameless refl refl (λ formed fits. refl)) refl))))
 
-  deletion_none : None (deletion_of s)
+  deletion_none : Nameless (deletion_of s)
   unfolding sets_of sets_by deletion_of
-  deletion_none = picks None (λ e. refl) (picks None (λ e. refl) refl)
+  deletion_none = picks Nameless (λ e. refl) (picks Nameless (λ e. refl) refl)
 
-  attribute_none : s begins "TF" ≡ false → None (attribute_of s)
+  attribute_none : s begins "TF" ≡ false → Nameless (attribute_of s)
   unfolding sets_of sets_by attribute_of
   attribute_none other =
-      picks None (λ named. picks None (λ e. absurd (false≢true (sym other ∙ e))) (picks None (λ e. refl) (picks None (λ e. refl) refl))) refl
+      picks Nameless (λ named. picks Nameless (λ e. absurd (false≢true (sym other ∙ e))) (picks Nameless (λ e. refl) (picks Nameless (λ e. refl) refl))) refl
 
-  data_none : (book : Book) → s begins "TF" ≡ false → None (data_in book s)
+  data_none : (book : Book) → s begins "TF" ≡ false → Nameless (data_in book s)
   unfolding sets_of data_in data_of
   data_none book other =
-      picks None (λ e. refl)
-      (picks None (λ e. format_none book)
-      (picks None (λ e. unit_none)
-      (picks None (λ e. aperture_none)
-      (picks None (λ e. block_none)
-      (picks None (λ e. repeat_none)
-      (picks None (λ e. transformation_none)
-      (picks None (λ e. deletion_none) (attribute_none other))))))))
+      picks Nameless (λ e. refl)
+      (picks Nameless (λ e. format_none book)
+      (picks Nameless (λ e. unit_none)
+      (picks Nameless (λ e. aperture_none)
+      (picks Nameless (λ e. block_none)
+      (picks Nameless (λ e. repeat_none)
+      (picks Nameless (λ e. transformation_none)
+      (picks Nameless (λ e. deletion_none) (attribute_none other))))))))
 
 -- a part that begins so is that of a text that begins so
 begins_part : (k : ℕ) (s : List ℕ) → s begins "TF" ≡ false → take k s begins "TF" ≡ false
@@ -157,9 +157,9 @@ begins_part (suc (suc k)) [] e = refl
 begins_part (suc (suc k)) (a ∷ []) e = e
 begins_part (suc (suc k)) (a ∷ b ∷ s) e = e
 
-pub extended_none : (book : Book) (s : List ℕ) → s begins "TF" ≡ false → None (extended_of book s)
+pub extended_none : (book : Book) (s : List ℕ) → s begins "TF" ≡ false → Nameless (extended_of book s)
 unfolding sets_of extended_of
-extended_none book s other = picks None (λ e. data_none _ book (begins_part (place (code "*") s 0) s other)) refl
+extended_none book s other = picks Nameless (λ e. data_none _ book (begins_part (place (code "*") s 0) s other)) refl
 
 -- FS does not matter
 pub sets_any : (book : Book) (f : Format) (k : Kind) (s : List ℕ) → sets_of (command_of book f k s) ≡ sets_of (command_of book no_format k s)

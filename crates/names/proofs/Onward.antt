@@ -1,6 +1,7 @@
 -- What the reading of a file needs of the names, command by command: at a TF, whether its name was set before; after any command that is no
 -- fault, what is known of the names set by then.
 -- Assumes nothing.
+use Rattle.std.specs.Prelude.{None, Some}
 use Prim.Native.Nat.{ℕ, ◌+◌, ◌-◌, ◌≤◌}
 use mathlib.Core.Path.{◌≡◌, refl, sym, ap, ◌∙◌}
 use mathlib.Core.Bool.{false, not}
@@ -29,7 +30,6 @@ use Rattle.law_reading.specs.Apertures.{is_among}
 use Rattle.names.specs.Sets.{sets_of}
 use Rattle.names.specs.Twice.{seen, looked, look_at, twice_at, first_at}
 use Rattle.names.specs.declared.Look.TheVariants.{Naming}
-use Rattle.names.specs.declared.Sets.TheVariants.{Nothing, Name}
 use Rattle.names.proofs.Nameless.{sets_any}
 use Rattle.names.proofs.Inside.{Inside, sets_inside}
 use Rattle.names.proofs.Known.{Known, known_other, known_naming, by_walk, by_look_lem}
@@ -71,12 +71,12 @@ module _ (book : Book) (f : Format) (file : List ℕ) (at : ℕ) where
 
     module _ (names : List (List ℕ)) (k : Known book file at names) where
       -- a command that sets no name
-      pub known_past : sets_of c.command ≡ Nothing → Known book file next names
+      pub known_past : sets_of c.command ≡ None → Known book file next names
       unfolding seen
       known_past q = known_other book file at names h k (rw q at same.look)
 
       -- one that sets this name
-      module _ {name : Span} (q : sets_of c.command ≡ Name name) where
+      module _ {name : Span} (q : sets_of c.command ≡ Some name) where
         abbrev part : List ℕ
         part = slice name.from name.to (slice c.from c.end file)
 
@@ -86,7 +86,7 @@ module _ (book : Book) (f : Format) (file : List ℕ) (at : ℕ) where
 
         here_is : slice (c.from + name.from) (c.from + name.to) file ≡ part
         here_is =
-            let i : Inside (c.end - c.from) (Name name) = rw q at same.inside in
+            let i : Inside (c.end - c.from) (Some name) = rw q at same.inside in
             sym (part_of_part name.from name.to c.from c.end file (omega (arith, i.1, same.ordered)))
 
         pub known_set : is_among part names ≡ false → Known book file next (part ∷ names)

@@ -1,5 +1,6 @@
 -- The look over a file's commands: each turn leads past where it began, a name lies in the file, and what is listed from there on follows.
 -- Assumes nothing.
+use Rattle.std.specs.Prelude.{None, Option, Some}
 use Prim.Native.Nat.{ℕ, zero, suc, ◌+◌, ◌-◌, ◌<◌, ◌≤◌}
 use mathlib.Core.Path.{◌≡◌, refl, sym, ap, ◌∙◌}
 use mathlib.Core.Bool.{true, false}
@@ -22,8 +23,6 @@ use Rattle.names.specs.Sets.{sets_of}
 use Rattle.names.specs.Twice.{seen, looked, look_at, Named, named_from, named_in, twice_from, twice_in, first_from, first_in}
 use Rattle.names.specs.declared.Look.{Look}
 use Rattle.names.specs.declared.Look.TheVariants.{End, Other, Naming}
-use Rattle.names.specs.declared.Sets.{Sets}
-use Rattle.names.specs.declared.Sets.TheVariants.{Nothing, Name}
 use Rattle.names.proofs.Inside.{Inside, sets_inside}
 
 -- a turn from `at` on leads past it, in l bytes, and a name lies among them
@@ -32,11 +31,11 @@ Onward l at End = Unit
 Onward l at (Other next) = (at < next) × (next ≤ l)
 Onward l at (Naming place from to next) = (at ≤ place) × (place < next) × (next ≤ l) × (from ≤ to) × (to ≤ l)
 
-seen_onward : (l at place from end next : ℕ) (x : Sets) → at ≤ place → place ≤ from → from ≤ end → next ≡ end + 1 → next ≤ l → Inside (end - from) x
+seen_onward : (l at place from end next : ℕ) (x : Option Span) → at ≤ place → place ≤ from → from ≤ end → next ≡ end + 1 → next ≤ l → Inside (end - from) x
     → Onward l at (seen place from next x)
 unfolding seen
-seen_onward l at place from end next Nothing h i j e k w = (omega arith, k)
-seen_onward l at place from end next (Name n) h i j e k (p, q) = (h, omega arith, k, omega arith, omega arith)
+seen_onward l at place from end next None h i j e k w = (omega arith, k)
+seen_onward l at place from end next (Some n) h i j e k (p, q) = (h, omega arith, k, omega arith, omega arith)
 
 looked_onward : (book : Book) (file : List ℕ) (at : ℕ) (s : Scan) → Within (length file) at s → Onward (length file) at (looked book file s)
 unfolding looked
@@ -53,11 +52,11 @@ look_onward book file at h = looked_onward book file at (next_command book file 
 
 -- what the scanner found tells what is seen
 module _ (book : Book) (file : List ℕ) (at : ℕ) {k : Kind} {place from end next : ℕ} (e : next_command book file at ≡ scan.Command k place from end next) where
-  pub look_other : sets_of (command_of book no_format k (slice from end file)) ≡ Nothing → Other next ≡ look_at book file at
+  pub look_other : sets_of (command_of book no_format k (slice from end file)) ≡ None → Other next ≡ look_at book file at
   unfolding look_at looked seen
   look_other q = sym (ap (looked book file) e ∙ ap (seen place from next) q)
 
-  module _ {n : Span} (q : sets_of (command_of book no_format k (slice from end file)) ≡ Name n) where
+  module _ {n : Span} (q : sets_of (command_of book no_format k (slice from end file)) ≡ Some n) where
     pub look_naming : Naming place (from + n.from) (from + n.to) next ≡ look_at book file at
     unfolding look_at looked seen
     look_naming = sym (ap (looked book file) e ∙ ap (seen place from next) q)

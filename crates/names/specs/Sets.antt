@@ -1,28 +1,28 @@
 -- What a command sets of the file's attributes (01, State).
+use Rattle.std.specs.Prelude.{None, Option, Some}
 use Rattle.command.specs.declared.Command.{Command}
 use Rattle.command.specs.declared.Command.TheVariants as cmd
 use Rattle.command.specs.declared.Deed.{Deed}
 use Rattle.command.specs.declared.Deed.TheVariants as deed
-use Rattle.names.specs.declared.Sets.{Sets}
-use Rattle.names.specs.declared.Sets.TheVariants.{Nothing, Name}
+use Rattle.command.specs.declared.Span.{Span}
 
 -- TF sets a name, at this place of its text
-unfoldable pub sets_by : Deed → Sets
-sets_by (deed.SetFile name value) = Name name
-sets_by (deed.SetAperture name value) = Nothing
-sets_by (deed.SetObject name value) = Nothing
-sets_by (deed.Delete name) = Nothing
-sets_by deed.DeleteAll = Nothing
+unfoldable pub sets_by : Deed → Option Span
+sets_by (deed.SetFile name value) = Some name
+sets_by (deed.SetAperture name value) = None
+sets_by (deed.SetObject name value) = None
+sets_by (deed.Delete name) = None
+sets_by deed.DeleteAll = None
 
 -- no other command does
-unfoldable pub sets_of : Command → Sets
-sets_of (cmd.Broken flaw) = Nothing
-sets_of cmd.Note = Nothing
-sets_of cmd.End = Nothing
-sets_of (cmd.Set s) = Nothing
-sets_of (cmd.Operate o) = Nothing
-sets_of (cmd.Coded code o) = Nothing
-sets_of (cmd.Select n) = Nothing
-sets_of (cmd.Define d) = Nothing
-sets_of (cmd.Contain b) = Nothing
+unfoldable pub sets_of : Command → Option Span
+sets_of (cmd.Broken flaw) = None
+sets_of cmd.Note = None
+sets_of cmd.End = None
+sets_of (cmd.Set s) = None
+sets_of (cmd.Operate o) = None
+sets_of (cmd.Coded code o) = None
+sets_of (cmd.Select n) = None
+sets_of (cmd.Define d) = None
+sets_of (cmd.Contain b) = None
 sets_of (cmd.Attribute d) = sets_by d

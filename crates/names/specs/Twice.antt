@@ -1,6 +1,6 @@
 -- Where a name of a file attribute is set twice (01, number 19), told by the file as it is cut into commands: what stands after a fault
 -- or after M02 is looked at too, and no reader comes there (decision 254).
-use Rattle.std.specs.Prelude.{ℕ, zero, suc, ◌+◌, true, false, List, [], ◌∷◌, length}
+use Rattle.std.specs.Prelude.{ℕ, zero, suc, ◌+◌, true, false, List, [], ◌∷◌, length, None, Option, Some}
 use Rattle.std.proofs.Math.Seq.{slice}
 use Rattle.scan.specs.Scan.{next_command}
 use Rattle.book.specs.declared.Book.{Book}
@@ -12,13 +12,12 @@ use Rattle.law_reading.specs.Apertures.{is_among}
 use Rattle.names.specs.Sets.{sets_of}
 use Rattle.names.specs.declared.Look.{Look}
 use Rattle.names.specs.declared.Look.TheVariants.{End, Other, Naming}
-use Rattle.names.specs.declared.Sets.{Sets}
-use Rattle.names.specs.declared.Sets.TheVariants.{Nothing, Name}
+use Rattle.command.specs.declared.Span.{Span}
 
 -- the command at a place, its text from `from` on, that leads on to `next`: where in the file its name lies, if it sets one
-unfoldable pub seen : ℕ → ℕ → ℕ → Sets → Look
-seen place from next Nothing = Other next
-seen place from next (Name n) = Naming place (from + n.from) (from + n.to) next
+unfoldable pub seen : ℕ → ℕ → ℕ → Option Span → Look
+seen place from next None = Other next
+seen place from next (Some n) = Naming place (from + n.from) (from + n.to) next
 
 -- no TF depends on the format of FS, so that there is none here (proofs/Nameless)
 unfoldable pub looked : Book → List ℕ → Scan → Look

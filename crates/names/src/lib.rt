@@ -13,15 +13,7 @@ ghost use Rattle.register.specs.Wide.{half, wide};
 
 use book::Book;
 use command::{Command, Deed, Span};
-use register::Found;
 use scan::{Kind, Scan};
-
-// What a command sets of the file's attributes, with the place of the name in its text.
-#[derive(Clone, Copy)]
-pub enum Sets {
-    Nothing,
-    Name(Span),
-}
 
 // What stands next: no command; one that sets no name; a TF, its name from..to in the file.
 #[derive(Clone, Copy)]
@@ -55,49 +47,40 @@ pub struct Pass {
 }
 
 // What is set of the file's attributes by what is done to one.
-fn sets_by(deed: Deed) -> Sets
+#[tactic(auto, unfolding(crate::specs::Sets::sets_by))]
+fn sets_by(deed: Deed) -> Option<Span>
     ensures { result ≡ sets_by deed }
 {
     match deed {
-        Deed::SetFile { name, .. } => Sets::Name(name),
-        Deed::SetAperture { .. } => Sets::Nothing,
-        Deed::SetObject { .. } => Sets::Nothing,
-        Deed::Delete { .. } => Sets::Nothing,
-        Deed::DeleteAll => Sets::Nothing,
+        Deed::SetFile { name, .. } => Some(name),
+        _ => None,
     }
 }
 
 // What a command sets of the file's attributes.
-pub fn sets_of(c: Command) -> Sets
+#[tactic(auto, unfolding(crate::specs::Sets::sets_of))]
+pub fn sets_of(c: Command) -> Option<Span>
     ensures { result ≡ sets_of c }
 {
     match c {
-        Command::Broken(_) => Sets::Nothing,
-        Command::Note => Sets::Nothing,
-        Command::End => Sets::Nothing,
-        Command::Set(_) => Sets::Nothing,
-        Command::Operate(_) => Sets::Nothing,
-        Command::Coded { .. } => Sets::Nothing,
-        Command::Select(_) => Sets::Nothing,
-        Command::Define(_) => Sets::Nothing,
-        Command::Contain(_) => Sets::Nothing,
         Command::Attribute(deed) => sets_by(deed),
+        _ => None,
     }
 }
 
 // The same of a command's kind and text. Only one that begins with `TF` is recognised: that costs more than to cut it out.
-fn sets_in(book: Book, kind: Kind, s: &[u8]) -> Sets
+fn sets_in(book: Book, kind: Kind, s: &[u8]) -> Option<Span>
     ensures { result ≡ sets_of (command_of book no_format kind s.now) }
 {
     match kind {
-        Kind::Word => Sets::Nothing,
-        Kind::Macro => Sets::Nothing,
+        Kind::Word => None,
+        Kind::Macro => None,
         Kind::Extended => {
             if text::begins(s, b"TF") {
                 let none = formats::no_format();
                 return sets_of(recognise::command_of(book, none, Kind::Extended, s));
             }
-            Sets::Nothing
+            None
         }
     }
 }
@@ -107,8 +90,7 @@ fn look_at(book: Book, file: &[u8], at: usize) -> Look
     requires { at ≤ length file.now }
     ensures { result ≡ look_at book file.now at }
 {
-    let s = scan::next_command(book, file, at);
-    match s {
+    match scan::next_command(book, file, at) {
         Scan::Command {
             kind,
             place,
@@ -116,10 +98,9 @@ fn look_at(book: Book, file: &[u8], at: usize) -> Look
             end,
             next,
         } => {
-            let sets = sets_in(book, kind, base::part(file, from, end));
-            match sets {
-                Sets::Nothing => Look::Other { next },
-                Sets::Name(n) => Look::Naming {
+            match sets_in(book, kind, base::part(file, from, end)) {
+                None => Look::Other { next },
+                Some(n) => Look::Naming {
                     place,
                     from: from + n.from,
                     to: from + n.to,
@@ -137,6 +118,7 @@ pub fn first_at(book: Book, file: &[u8], name: &[u8]) -> usize
     ensures { result ≡ first_at book file.now name.now }
 {
     let mut at: usize = 0;
+    // The file's next command is known only once this one is cut: no iterator walks so.
     loop {
         let l = look_at(book, file, at);
         match l {
@@ -167,20 +149,13 @@ fn note(file: &[u8], s: &mut [u64], used: usize, from: usize, to: usize) -> Note
     ensures { (result ≡ noted_of file.now (wide s.old) used from to) × (wide s.new ≡ kept_of file.now (wide s.old) used from to) }
 {
     let found = register::find(file, s, used, from, to);
-    let Found::Free { at, high } = found else {
+    let Err(free) = found else {
         return Noted::Again;
     };
-    if register::put(s, used, at, high, from, to) {
+    if register::put(s, used, free.at, free.high, from, to) {
         return Noted::New(used + 1);
     }
     Noted::Full
-}
-
-// The place nearer to the file's start.
-fn nearer(a: usize, b: usize) -> usize
-    ensures { result ≡ min a b }
-{
-    if a < b { a } else { b }
 }
 
 // A walk from a place on: keeps the names while there is room, and finds the first TF that sets one of those kept.
@@ -191,6 +166,7 @@ fn walk_from(book: Book, file: &[u8], s: &mut [u64], from: usize) -> Pass
     let mut used: usize = 0;
     let mut at: usize = from;
     let mut rest: usize = file.len();
+    // The file's next command is known only once this one is cut: no iterator walks so.
     loop {
         let l = look_at(book, file, at);
         match l {
@@ -219,7 +195,7 @@ fn walk_from(book: Book, file: &[u8], s: &mut [u64], from: usize) -> Pass
                         at = next;
                     }
                     Noted::Full => {
-                        rest = nearer(rest, at);
+                        rest = rest.min(at);
                         at = next;
                     }
                 }
@@ -236,9 +212,10 @@ fn repeat_in(book: Book, file: &[u8], s: &mut [u64]) -> usize
 {
     let mut at: usize = 0;
     let mut found: usize = file.len();
+    // Each walk says where the next begins: no iterator walks so.
     while at < found {
         let p = walk_from(book, file, s, at);
-        found = nearer(found, p.found);
+        found = found.min(p.found);
         at = p.rest;
     }
     found
@@ -255,11 +232,12 @@ fn own_repeat_in(book: Book, file: &[u8]) -> usize
 
 // The same for those who lend room for the names, which holds zeros afterwards; where it is smaller than the own room, or too large for
 // links of half a word, it is not used for the names.
+#[tactic(auto, using(base::proofs::Or::joins))]
 pub fn first_repeat(book: Book, file: &[u8], scratch: &mut [u64]) -> usize
     requires { length file.now < half }
     ensures { (result ≡ twice_at book file.now) × (scratch.new ≡ replicate (length scratch.old) 0) }
 {
-    if base::either(scratch.len() < 131072, scratch.len() >= 8589934592) {
+    if scratch.len() < 131072 || scratch.len() >= 8589934592 {
         base::clear(scratch);
         return own_repeat_in(book, file);
     }

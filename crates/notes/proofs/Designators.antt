@@ -1,5 +1,6 @@
 -- The table of designators with one more, and what is noted of a value by it.
 -- Assumes nothing.
+use Rattle.std.specs.Prelude.{Result, Err, Ok}
 use Prim.Native.Nat.{ℕ, zero, suc, ◌+◌, ◌/◌, ◌≤◌, ◌<◌}
 use mathlib.Core.Path.{◌≡◌, refl, sym, ap, ◌∙◌, subst}
 use mathlib.Core.Bool.{Bool, true, false}
@@ -17,7 +18,6 @@ use Rattle.command.specs.declared.Span.{Span}
 use Rattle.index.specs.Tree.{record_width}
 use Rattle.index.specs.First.{first_of}
 use Rattle.index.specs.Names.{name_of, named, Named}
-use Rattle.index.specs.declared.Search.TheVariants.{At, Free}
 use Rattle.tables.specs.Added.{has_room, added}
 use Rattle.tables.specs.Macros.{macro_of, macro_words}
 use Rattle.tables.specs.declared.Macro.{Macro}
@@ -34,20 +34,20 @@ use Rattle.notes.specs.Designators.{Denotes, nothing, one, Designators, Grown, K
 use Rattle.notes.specs.declared.Designated.{Designated}
 
 -- a search that found a record
-found_at : (is : ℕ → Bool) (i n x j : ℕ) → first_of is i n (Free x) ≡ At j → (j < i + n) × (is j ≡ true)
+pub found_at : (is : ℕ → Bool) (i n x j : ℕ) → first_of is i n (Err x) ≡ Ok j → (j < i + n) × (is j ≡ true)
 unfolding first_of
 found_at is i zero x j e = let z : ◌≡◌ {A = ℕ} 0 1 = cc in absurd (omega arith)
 found_at is i (suc n) x j e = go (is i) refl e (found_at is (suc i) n x j)
   where
-    at_is : (a b : ℕ) → At a ≡ At b → a ≡ b
+    at_is : (a b : ℕ) → ◌≡◌ {A = Result ℕ ℕ} (Ok a) (Ok b) → a ≡ b
     at_is a b e = cc
 
-    go : (t : Bool) → is i ≡ t → elim t [ true ↦ At i | false ↦ first_of is (suc i) n (Free x) ] ≡ At j
-        → (first_of is (suc i) n (Free x) ≡ At j → (j < suc i + n) × (is j ≡ true)) → (j < i + suc n) × (is j ≡ true)
+    go : (t : Bool) → is i ≡ t → ◌≡◌ {A = Result ℕ ℕ} (elim t [ true ↦ Ok i | false ↦ first_of is (suc i) n (Err x) ]) (Ok j)
+        → (first_of is (suc i) n (Err x) ≡ Ok j → (j < suc i + n) × (is j ≡ true)) → (j < i + suc n) × (is j ≡ true)
     go true f e rest = let q = at_is i j e in (omega arith, ap is (sym q) ∙ f)
     go false f e rest = let r = rest e in (omega (arith, r.0), r.1)
 
-pub found_below : (file s : List ℕ) (used i : ℕ) (d : List ℕ) → named file s used d ≡ At i → i < used
+pub found_below : (file s : List ℕ) (used i : ℕ) (d : List ℕ) → named file s used d ≡ Ok i → i < used
 unfolding named
 found_below file s used i d e = let f = found_at (λ j. same_bytes (name_of file s j) d) 0 used _ i e in omega (arith, f.0)
 
@@ -68,7 +68,7 @@ module _ (file s : List ℕ) (used : ℕ) (t : Designators file s used) where
     abbrev d : List ℕ
     d = slice p.from p.to file
 
-    pub kept_found : {i : ℕ} → named file s used d ≡ At i → Kept file s s used d (record { word = i + 1; used = used })
+    pub kept_found : {i : ℕ} → named file s used d ≡ Ok i → Kept file s s used d (record { word = i + 1; used = used })
     unfolding named
     kept_found {i} e =
         let f = found_at (λ j. same_bytes (name_of file s j) d) 0 used _ i e in
@@ -78,7 +78,7 @@ module _ (file s : List ℕ) (used : ℕ) (t : Designators file s used) where
           is = λ room b q. rw (add-one i) (one {d = i} l (same_is (name_of file s i) d f.1 ∙ sym q));
         }
 
-    module _ {link : ℕ} (free : named file s used d ≡ Free link) where
+    module _ {link : ℕ} (free : named file s used d ≡ Err link) where
       abbrev m : Macro
       m = record { from = p.from; to = p.to; first = 0; end = 0 }
 

@@ -1,7 +1,7 @@
 // What is noted of each D01 and D03: its place, and where its object attributes lie in the file. Notes stand in the order of their places.
 #![tactic(auto)]
 
-ghost use Rattle.std.specs.Prelude.{◌≡◌, ◌+◌, ◌*◌, ◌≤◌, ◌<◌, min, get_or, length, take, drop, []};
+ghost use Rattle.std.specs.Prelude.{◌≡◌, ◌+◌, ◌*◌, ◌≤◌, ◌<◌, get_or, length, take, drop, []};
 ghost use Rattle.command.specs.Span.{span};
 ghost use Rattle.sheet.specs.Records.{stored};
 ghost use Rattle.notes.specs.Notes.{note_width, note_room, note_in, note_of, note_words, with_note, Sought, Found};
@@ -14,7 +14,6 @@ ghost use Rattle.notes.specs.Functions.{function_is, FunctionFollows};
 
 use attribute_call::Saying;
 use command::Span;
-use index::Search;
 use tables::Macro;
 
 // The words of a note.
@@ -74,25 +73,20 @@ fn put_words(s: &mut [u64], i: usize, n: Note)
     requires { i < note_room s.old }
     ensures { s.new ≡ stored s.old (i * note_width) (note_words n) }
 {
-    let number = n.number;
-    let rotation = n.rotation;
-    let value = n.value;
-    let footprint = n.footprint;
-    let mount = n.mount;
     let w = [
         n.place,
         n.component,
         n.pin,
-        number.from as u64,
-        number.to as u64,
-        rotation.from as u64,
-        rotation.to as u64,
-        value.from as u64,
-        value.to as u64,
-        footprint.from as u64,
-        footprint.to as u64,
-        mount.from as u64,
-        mount.to as u64,
+        n.number.from as u64,
+        n.number.to as u64,
+        n.rotation.from as u64,
+        n.rotation.to as u64,
+        n.value.from as u64,
+        n.value.to as u64,
+        n.footprint.from as u64,
+        n.footprint.to as u64,
+        n.mount.from as u64,
+        n.mount.to as u64,
     ];
     sheet::put_words(s, i * NOTE_WORDS, &w);
 }
@@ -119,6 +113,7 @@ pub fn find(s: &[u64], used: usize, place: u64) -> usize
     requires { Sought s.now used place }
     ensures { Found s.now used place result }
 {
+    // A search that halves what is left: the places stand among the other words of the notes, so that no slice holds them alone.
     let mut low: usize = 0;
     let mut high = used;
     while low + 1 < high {
@@ -134,13 +129,6 @@ pub fn find(s: &[u64], used: usize, place: u64) -> usize
 
 // What the commands of a file say of the attributes that a placement list asks for, as it is noted.
 
-// The smaller of two numbers.
-fn lower(a: usize, b: usize) -> usize
-    ensures { result ≡ min a b }
-{
-    if a < b { a } else { b }
-}
-
 // No text.
 pub fn nowhere() -> Span
     ensures { result ≡ record { from = 0; to = 0 } }
@@ -152,7 +140,7 @@ pub fn nowhere() -> Span
 fn first_field(file: &[u8], place: usize, length: usize) -> Span
     ensures { SpanIs file.now result (field 0 (held (take length (drop place file.now)))) }
 {
-    let from = lower(place, file.len());
+    let from = place.min(file.len());
     let value = base::up_to(base::from_on(file, place), length);
     Span {
         from,
@@ -210,11 +198,11 @@ fn designate(file: &[u8], names: &mut [u64], used: usize, p: Span) -> Designated
     let to = p.to;
     let found = index::search_name(file, names, used, from, to);
     match found {
-        Search::At(i) => Designated {
+        Ok(i) => Designated {
             word: i as u64 + 1,
             used,
         },
-        Search::Free(link) => {
+        Err(link) => {
             let name = Macro {
                 from,
                 to,
@@ -254,30 +242,30 @@ pub fn designator_after(
 }
 
 // 1 where a value is set.
+#[tactic(auto, unfolding(layer::specs::Work::set_by))]
 pub fn set_by(s: Saying) -> usize
     ensures { result ≡ set_by s }
 {
     match s {
-        Saying::Silent => 0,
-        Saying::Deletes => 0,
         Saying::Sets { .. } => 1,
+        Saying::Silent | Saying::Deletes => 0,
     }
 }
 
 // What an aperture with this function is for.
+#[tactic(auto, unfolding(crate::specs::Functions::function_is))]
 fn function_is(s: &[u8]) -> u64
     ensures { result ≡ function_is s.now }
 {
     if text::is(s, b"ComponentMain") {
-        return 1;
+        1
+    } else if text::is(s, b"ComponentPin") {
+        2
+    } else if text::is(s, b"ComponentOutline") {
+        3
+    } else {
+        0
     }
-    if text::is(s, b"ComponentPin") {
-        return 2;
-    }
-    if text::is(s, b"ComponentOutline") {
-        return 3;
-    }
-    0
 }
 
 // What apertures are for after a command that says this of `.AperFunction`.

@@ -1,11 +1,12 @@
 -- What is known before the first command, and that what is known after the last is what the pass leaves.
 -- Assumes nothing.
-use Prim.Native.Nat.{ℕ, ◌+◌, ◌*◌, ◌/◌, ◌≤◌, ◌<◌}
+use Rattle.std.specs.Prelude.{Err, Ok, Result, ℕ}
+use Prim.Native.Nat.{ℕ, ◌+◌, ◌*◌, ◌<◌}
 use mathlib.Core.Path.{◌≡◌, refl, sym, ap, ◌∙◌, subst}
 use mathlib.Core.Bool.{Bool, true, false}
 use mathlib.Core.List.{List, []}
 use native.Mathlib.Omega.{arith}
-use lib.ListN.{length, get_or}
+use lib.ListN.{get_or}
 use Rattle.text.specs.Pieces.{parted}
 use Rattle.base.specs.Bytes.{same_bytes}
 use Rattle.book.specs.declared.Book.{Book}
@@ -13,10 +14,7 @@ use Rattle.sequence.specs.Commands.{commands_of}
 use Rattle.sequence.specs.declared.Placed.{Placed}
 use Rattle.attribute_call.specs.declared.Saying.TheVariants.{Silent}
 use Rattle.index.specs.Tree.{record_width}
-use Rattle.index.specs.Names.{name_of}
 use Rattle.index.specs.Numbers.{number_of, numbered, Numbered}
-use Rattle.index.specs.declared.Search.{Search}
-use Rattle.index.specs.declared.Search.TheVariants.{At, Free}
 use Rattle.index.proofs.More.{numbered_none, named_none}
 use Rattle.tables.proofs.Numbers.{number_new}
 use Rattle.law_components.specs.Values as values
@@ -29,13 +27,12 @@ use Rattle.notes.specs.Designators as designators
 use Rattle.notes.specs.Functions.{function_is, function_number}
 use Rattle.notes.proofs.Fields.{nowhere_is}
 use Rattle.noting.specs.Steps.{begun}
-use Rattle.noting.specs.Holds.{word_at, role_number, Roomy, Noted, Makes, here, there}
+use Rattle.noting.specs.Holds.{word_at, role_number, Noted, Makes}
 use Rattle.noting.specs.declared.Noting.{Noting}
 use Rattle.noting.proofs.Roles.{number_found}
 use Rattle.noting.proofs.Functions.{has_aperture, function_none}
 use Rattle.noting.proofs.Known.{Known}
 use Rattle.noting.proofs.RolesKnown.{RolesKnown}
-use Rattle.noting.proofs.NotesKnown.{NotesKnown}
 
 no_command : {place : ℕ} {A : Type 0} → Makes place [] → A
 no_command = elim [ ]
@@ -76,17 +73,17 @@ known_none book file notes names roles = record {
 
 -- the number that is found for an aperture
 module _ {file roles : List ℕ} {used : ℕ} {cs : List Placed} (t : Numbered roles used) (k : RolesKnown file roles used cs) (n : ℕ) where
-  at_found : (i : ℕ) → i < used → number_of roles i ≡ n → (q : Search) → numbered roles used n ≡ q → word_at roles q ≡ get_or roles (i * record_width + 1) 0
+  at_found : (i : ℕ) → i < used → number_of roles i ≡ n → (q : Result ℕ ℕ) → numbered roles used n ≡ q → word_at roles q ≡ get_or roles (i * record_width + 1) 0
   unfolding word_at
-  at_found i l e (At j) f =
+  at_found i l e (Ok j) f =
       let g = number_found roles used n f in
       ap (λ (x : ℕ). get_or roles (x * record_width + 1) 0) (t.distinct j i g.0 l (g.1 ∙ sym e))
-  at_found i l e (Free link) f = absurd (number_new roles used n link f i l e)
+  at_found i l e (Err link) f = absurd (number_new roles used n link f i l e)
 
-  at_none : ((j : ℕ) → j < used → number_of roles j ≡ n → ⊥) → (q : Search) → numbered roles used n ≡ q → word_at roles q ≡ 0
+  at_none : ((j : ℕ) → j < used → number_of roles j ≡ n → ⊥) → (q : Result ℕ ℕ) → numbered roles used n ≡ q → word_at roles q ≡ 0
   unfolding word_at
-  at_none none (At j) f = let g = number_found roles used n f in absurd (none j g.0 g.1)
-  at_none none (Free link) f = refl
+  at_none none (Ok j) f = let g = number_found roles used n f in absurd (none j g.0 g.1)
+  at_none none (Err link) f = refl
 
   pub role_is : role_number roles used n ≡ function_number (function_in file n Silent cs)
   unfolding role_number function_number function_is field bytes_of parted same_bytes

@@ -1,11 +1,10 @@
 -- What is heard after a command, from what it says of each name.
 -- Assumes nothing.
-use Prim.Native.Nat.{ℕ, ◌+◌, ◌/◌, ◌≤◌, ◌<◌}
+use Prim.Native.Nat.{ℕ, ◌+◌, ◌/◌}
 use mathlib.Core.Path.{◌≡◌, refl, ap, ◌∙◌, subst}
 use mathlib.Core.Bool.{Bool}
 use mathlib.Core.List.{List, [], ◌∷◌, ◌++◌}
 use native.Mathlib.Omega.{arith}
-use lib.ListN.{length}
 use Rattle.text.specs.Text.{text}
 use Rattle.command.specs.declared.Span.{Span}
 use Rattle.sequence.specs.declared.Placed.{Placed}
@@ -15,20 +14,16 @@ use Rattle.attribute_call.specs.declared.Saying.{Saying}
 use Rattle.attribute_call.specs.declared.Kind.TheVariants as kind
 use Rattle.attribute_call.specs.Attribute.{later}
 use Rattle.index.specs.Tree.{record_width}
-use Rattle.index.specs.Names.{name_of}
-use Rattle.law_components.specs.Values.{Value, field}
-use Rattle.law_components.specs.Parts.{Texts}
 use Rattle.notes.specs.declared.Note.{Note}
 use Rattle.layer.specs.Made.{made_of}
 use Rattle.layer.specs.Attributes.{declares_as}
-use Rattle.layer.specs.Work.{items_by, apertures_by, set_by, sets_of}
+use Rattle.layer.specs.Work.{items_by, apertures_by, sets_of}
 use Rattle.layer.specs.declared.Made.{Made}
 use Rattle.layer.proofs.Held.{said_more}
-use Rattle.layer.specs.Said.{said_object, value_said, said_by, texts_by}
-use Rattle.notes.specs.Spans.{SpanIs, Follows}
-use Rattle.notes.specs.Designators.{Denotes, Grown, Hears}
+use Rattle.layer.specs.Said.{value_said, said_by, texts_by}
+use Rattle.notes.specs.Spans.{Follows}
+use Rattle.notes.specs.Designators.{Grown, Hears}
 use Rattle.notes.specs.Functions.{FunctionFollows}
-use Rattle.notes.specs.Means.{Means}
 use Rattle.notes.specs.declared.Designated.{Designated}
 use Rattle.notes.proofs.Designators.{denotes_more}
 use Rattle.noting.specs.Steps.{function_by, placed_at, noted_as, Puts, HearsBoth, TextFollows, HearsAll, Notes}

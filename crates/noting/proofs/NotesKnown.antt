@@ -7,7 +7,6 @@ use mathlib.Core.Logic.{⊎_elim}
 use native.Mathlib.Nat.{eq-or-lt_of_le, le_of_suc-le-suc, add-zero}
 use native.Mathlib.Omega.{arith}
 use native.Mathlib.Numerals.{add-one}
-use Rattle.base.specs.Or.{◌or◌}
 use Rattle.book.specs.declared.Book.{Book}
 use Rattle.sequence.specs.declared.Placed.{Placed}
 use Rattle.law_components.specs.Parts.{Texts}

@@ -1,43 +1,29 @@
 -- The table of what apertures are for, with one AD more.
 -- Assumes nothing.
-use Prim.Native.Nat.{ℕ, zero, suc, ◌+◌, ◌*◌, ◌/◌, ◌≤◌, ◌<◌}
+use Rattle.std.specs.Prelude.{Err, Ok}
+use Prim.Native.Nat.{ℕ, ◌+◌, ◌*◌, ◌/◌, ◌<◌}
 use mathlib.Core.Path.{◌≡◌, refl, sym, ap, ◌∙◌, subst}
-use mathlib.Core.Bool.{Bool, true, false}
+use mathlib.Core.Bool.{true, false}
 use mathlib.Core.List.{List}
 use native.Mathlib.Nat.{add-zero}
 use native.Mathlib.Numerals.{add-one}
 use native.Mathlib.Omega.{arith}
 use lib.Dec.{eqb}
-use lib.ListN.{length, get_or, drop}
+use lib.ListN.{length, get_or}
 use lib.Seq.{get_or-drop}
 use borrow.Author.Tests.{ltb-true, ltb-false, eqb-true}
 use Rattle.index.specs.Tree.{record_width}
-use Rattle.index.specs.First.{first_of}
 use Rattle.index.specs.Numbers.{number_of, numbered, Numbered}
-use Rattle.index.specs.declared.Search.TheVariants.{At, Free}
 use Rattle.sheet.specs.Records.{aperture_in, aperture_of}
 use Rattle.sheet.specs.declared.Aperture.{Aperture}
 use Rattle.tables.specs.Added.{has_room, added}
 use Rattle.tables.specs.Apertures.{aperture_words}
 use Rattle.tables.proofs.Numbers.{number_new}
 use Rattle.tables.proofs.Apertures.{aperture_numbered, aperture_new, aperture_kept}
+use Rattle.notes.proofs.Designators.{found_at}
 use Rattle.noting.specs.Steps.{Put}
 
--- a search that found a record
-pub found_at : (is : ℕ → Bool) (i n x j : ℕ) → first_of is i n (Free x) ≡ At j → (j < i + n) × (is j ≡ true)
-unfolding first_of
-found_at is i zero x j e = let z : ◌≡◌ {A = ℕ} 0 1 = cc in absurd (omega arith)
-found_at is i (suc n) x j e = go (is i) refl e (found_at is (suc i) n x j)
-  where
-    at_is : (a b : ℕ) → At a ≡ At b → a ≡ b
-    at_is a b e = cc
-
-    go : (t : Bool) → is i ≡ t → elim t [ true ↦ At i | false ↦ first_of is (suc i) n (Free x) ] ≡ At j
-        → (first_of is (suc i) n (Free x) ≡ At j → (j < suc i + n) × (is j ≡ true)) → (j < i + suc n) × (is j ≡ true)
-    go true f e rest = let q = at_is i j e in (omega arith, ap is (sym q) ∙ f)
-    go false f e rest = let r = rest e in (omega (arith, r.0), r.1)
-
-pub number_found : (s : List ℕ) (used n : ℕ) {i : ℕ} → numbered s used n ≡ At i → (i < used) × (number_of s i ≡ n)
+pub number_found : (s : List ℕ) (used n : ℕ) {i : ℕ} → numbered s used n ≡ Ok i → (i < used) × (number_of s i ≡ n)
 unfolding numbered
 number_found s used n {i} e =
     let f = found_at (λ j. eqb (number_of s j) n) 0 used _ i e in
@@ -65,10 +51,10 @@ module _ (s : List ℕ) (used number function : ℕ) (t : Numbered s used) where
     new = λ l. absurd (omega arith);
   }
 
-  pub put_found : {i : ℕ} → numbered s used number ≡ At i → Put s s used used number function
+  pub put_found : {i : ℕ} → numbered s used number ≡ Ok i → Put s s used used number function
   put_found {i} e = same number (λ room none. none i (number_found s used number e).0 (number_found s used number e).1)
 
-  module _ {link : ℕ} {s' : List ℕ} (free : numbered s used number ≡ Free link)
+  module _ {link : ℕ} {s' : List ℕ} (free : numbered s used number ≡ Err link)
       (k : s' ≡ added s used link (aperture_words (record { number = number; kind = function; first = 0; len = 0; items = 0; height = 0 }))) (long : length s' ≡ length s) where
     abbrev r : Aperture
     r = record { number = number; kind = function; first = 0; len = 0; items = 0; height = 0 }

@@ -24,7 +24,6 @@ use Rattle.layer.specs.declared.Made.TheVariants.{Item, Aperture, File, Nothing}
 use Rattle.layer.specs.Said.{said_by}
 use Rattle.notes.specs.Functions.{function_number}
 use Rattle.noting.specs.Steps.{function_by, Put, Puts}
-use Rattle.noting.specs.Holds.{here, there}
 use Rattle.noting.proofs.Functions.{has_aperture, has_append, function_found, function_behind, function_here}
 
 pub record RolesKnown (file roles : List ℕ) (used : ℕ) (cs : List Placed) : Type 0 where

@@ -1,14 +1,12 @@
 -- What the pass over a file's commands leaves: its counts, and, where there is room for all, a note of each D01 and D03 with the texts at its
 -- place, and what each aperture is for.
-use Rattle.std.specs.Prelude.{ℕ, ◌+◌, ◌*◌, ◌/◌, ◌≤◌, ◌<◌, ◌≡◌, List, [], ◌∷◌, length, get_or}
+use Rattle.std.specs.Prelude.{ℕ, ◌+◌, ◌*◌, ◌/◌, ◌≤◌, ◌<◌, ◌≡◌, List, ◌∷◌, length, get_or, Err, Ok, Result}
 use Rattle.book.specs.declared.Book.{Book}
 use Rattle.sequence.specs.Commands.{commands_of}
 use Rattle.sequence.specs.declared.Placed.{Placed}
 use Rattle.index.specs.Tree.{record_width}
 use Rattle.index.specs.Names.{name_of}
 use Rattle.index.specs.Numbers.{numbered, Numbered}
-use Rattle.index.specs.declared.Search.{Search}
-use Rattle.index.specs.declared.Search.TheVariants.{At, Free}
 use Rattle.notes.specs.Notes.{note_room, note_of, Ordered}
 use Rattle.layer.specs.Made.{made_of}
 use Rattle.layer.specs.Attributes.{texts_at, function_of, is_component}
@@ -25,9 +23,9 @@ pub data Makes (place : ℕ) : List Placed → Type 0 where
   there : {c : Placed} {cs : List Placed} → Makes place cs → Makes place (c ∷ cs)
 
 -- what the table says that an aperture is for
-unfoldable pub word_at : List ℕ → Search → ℕ
-word_at s (At i) = get_or s (i * record_width + 1) 0
-word_at s (Free link) = 0
+unfoldable pub word_at : List ℕ → Result ℕ ℕ → ℕ
+word_at s (Ok i) = get_or s (i * record_width + 1) 0
+word_at s (Err link) = 0
 
 unfoldable pub role_number : List ℕ → ℕ → ℕ → ℕ
 role_number s used n = word_at s (numbered s used n)

@@ -14,7 +14,6 @@ ghost use Rattle.noting.specs.Holds.{Noted};
 use attribute_call::Kind;
 use book::Book;
 use command::Span;
-use index::Search;
 use layer::Made;
 use notes::Note;
 use sequence::{Placed, Turn};
@@ -100,11 +99,11 @@ fn hear(file: &[u8], names: &mut [u64], used: usize, n: Note, c: Placed) -> Hear
             place: 0,
             component: both.component,
             pin: both.pin,
-            number: number,
-            rotation: rotation,
-            value: value,
-            footprint: footprint,
-            mount: mount,
+            number,
+            rotation,
+            value,
+            footprint,
+            mount,
         },
         used: both.used,
         settings: both.settings,
@@ -112,27 +111,18 @@ fn hear(file: &[u8], names: &mut [u64], used: usize, n: Note, c: Placed) -> Hear
 }
 
 // What is held, noted at a place.
+#[tactic(auto, unfolding(crate::specs::Steps::placed_at))]
 fn placed_at(n: Note, place: usize) -> Note
     ensures { result ≡ placed_at n place }
 {
-    let number = n.number;
-    let rotation = n.rotation;
-    let value = n.value;
-    let footprint = n.footprint;
-    let mount = n.mount;
     Note {
         place: place as u64,
-        component: n.component,
-        pin: n.pin,
-        number: number,
-        rotation: rotation,
-        value: value,
-        footprint: footprint,
-        mount: mount,
+        ..n
     }
 }
 
 // Notes a D01 or D03; how many are noted.
+#[tactic(auto, unfolding(layer::specs::Work::items_by, crate::specs::Steps::noted_as))]
 fn note_operation(notes: &mut [u64], made: Made, operations: usize, n: Note) -> usize
     requires { operations ≤ 16777216 }
     ensures { (result ≡ operations + items_by made) × (notes.new ≡ noted_as made notes.old operations n) }
@@ -142,9 +132,7 @@ fn note_operation(notes: &mut [u64], made: Made, operations: usize, n: Note) -> 
             notes::put_note(notes, operations, n);
             operations + 1
         }
-        Made::Aperture(_) => operations,
-        Made::File { .. } => operations,
-        Made::Nothing => operations,
+        _ => operations,
     }
 }
 
@@ -154,11 +142,11 @@ fn put_role(roles: &mut [u64], used: usize, number: u64, function: u64) -> usize
     ensures { Put roles.old roles.new used result number function }
 {
     let found = index::search_number(roles, used, number);
-    let Search::Free(link) = found else {
+    let Err(link) = found else {
         return used;
     };
     let a = Aperture {
-        number: number,
+        number,
         kind: function,
         first: 0,
         len: 0,
@@ -172,45 +160,42 @@ fn put_role(roles: &mut [u64], used: usize, number: u64, function: u64) -> usize
 }
 
 // Notes an AD.
+#[tactic(auto, unfolding(crate::specs::Steps::Puts))]
 fn note_aperture(roles: &mut [u64], made: Made, used: usize, function: u64) -> usize
     requires { Numbered roles.old used }
     ensures { Puts made roles.old roles.new used result function }
 {
     match made {
-        Made::Item => used,
         Made::Aperture(number) => put_role(roles, used, number, function),
-        Made::File { .. } => used,
-        Made::Nothing => used,
+        _ => used,
     }
 }
 
 // 1 of an AD.
+#[tactic(auto, unfolding(layer::specs::Work::apertures_by))]
 fn apertures_by(made: Made) -> usize
     ensures { result ≡ apertures_by made }
 {
     match made {
-        Made::Item => 0,
         Made::Aperture(_) => 1,
-        Made::File { .. } => 0,
-        Made::Nothing => 0,
+        _ => 0,
     }
 }
 
 // Whether a command with this text says that the layer is a component layer.
+#[tactic(auto, using(base::proofs::And::ands), unfolding(layer::specs::Attributes::declares_as))]
 fn declares(t: &[u8], made: Made) -> bool
     ensures { result ≡ declares_as t.now made }
 {
     match made {
-        Made::Item => false,
-        Made::Aperture(_) => false,
-        Made::File { name, value } => base::both(
-            text::is(base::part(t, name.from, name.to), b".FileFunction"),
-            text::is(
-                text::before(base::part(t, value.from, value.to), b','),
-                b"Component",
-            ),
-        ),
-        Made::Nothing => false,
+        Made::File { name, value } => {
+            text::is(base::part(t, name.from, name.to), b".FileFunction")
+                && text::is(
+                    text::before(base::part(t, value.from, value.to), b','),
+                    b"Component",
+                )
+        }
+        _ => false,
     }
 }
 
@@ -238,9 +223,9 @@ fn note_command(
     let note = heard.note;
     Noting {
         said: note,
-        function: function,
-        component: base::either(n.component, declared),
-        operations: operations,
+        function,
+        component: n.component || declared,
+        operations,
         settings: n.settings + heard.settings,
         apertures: n.apertures + apertures_by(made),
         names: heard.used,
@@ -249,6 +234,7 @@ fn note_command(
 }
 
 // Before any command.
+#[tactic(auto, unfolding(crate::specs::Steps::begun))]
 fn nothing() -> Noting
     ensures { result ≡ begun }
 {

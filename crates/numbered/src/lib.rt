@@ -13,43 +13,34 @@ ghost use Rattle.numbered.specs.Calls.{attribute_by, signature_by, reading_by, r
 use attribute_call::{Answer, Kind};
 use book::{Book, Edition, Letters};
 
-// The book that is named, or none.
-#[derive(Clone, Copy)]
-pub enum Choice {
-    By(Book),
-    Unknown,
-}
-
 // The book of an edition with the rule of letters of a number: 1 is the old one, 2 the new one.
-fn with_letters(edition: Edition, letters: u64) -> Choice
+#[tactic(auto, unfolding(crate::specs::Choice::with_letters))]
+fn with_letters(edition: Edition, letters: u64) -> Option<Book>
     ensures { result ≡ with_letters edition letters }
 {
-    if letters == 1 {
-        return Choice::By(Book {
-            edition: edition,
+    match letters {
+        1 => Some(Book {
+            edition,
             letters: Letters::Old,
-        });
-    }
-    if letters == 2 {
-        return Choice::By(Book {
-            edition: edition,
+        }),
+        2 => Some(Book {
+            edition,
             letters: Letters::New,
-        });
+        }),
+        _ => None,
     }
-    Choice::Unknown
 }
 
 // The book of two numbers: 1 is the newer edition, 2 the old one.
-fn choice_of(edition: u64, letters: u64) -> Choice
+#[tactic(auto, unfolding(crate::specs::Choice::choice_of))]
+fn choice_of(edition: u64, letters: u64) -> Option<Book>
     ensures { result ≡ choice_of edition letters }
 {
-    if edition == 1 {
-        return with_letters(Edition::New, letters);
+    match edition {
+        1 => with_letters(Edition::New, letters),
+        2 => with_letters(Edition::Old, letters),
+        _ => None,
     }
-    if edition == 2 {
-        return with_letters(Edition::Old, letters);
-    }
-    Choice::Unknown
 }
 
 // The attribute call by the book of two numbers; 101 where one of them names nothing.
@@ -63,10 +54,9 @@ pub fn attribute(
 ) -> Answer
     ensures { result ≡ attribute_by (choice_of edition letters) file.now kind place name.now }
 {
-    let c = choice_of(edition, letters);
-    match c {
-        Choice::By(book) => attribute_call::attribute(book, file, kind, place, name),
-        Choice::Unknown => Answer {
+    match choice_of(edition, letters) {
+        Some(book) => attribute_call::attribute(book, file, kind, place, name),
+        None => Answer {
             number: 101,
             place: 0,
             length: 0,
@@ -78,50 +68,44 @@ pub fn attribute(
 pub fn signature(edition: u64, letters: u64, file: &[u8]) -> signature::Answer
     ensures { result ≡ signature_by (choice_of edition letters) file.now }
 {
-    let c = choice_of(edition, letters);
-    match c {
-        Choice::By(book) => signature::check(book, file),
-        Choice::Unknown => signature::refuse(101, 0),
+    match choice_of(edition, letters) {
+        Some(book) => signature::check(book, file),
+        None => signature::refuse(101, 0),
     }
 }
 
-// The book of a reading that names its letters by a number, and no edition.
-fn short_choice(letters: u64) -> Choice
+// The book of a reading that names its letters by a number, and no edition: the old one's.
+#[tactic(auto, unfolding(crate::specs::Choice::short_choice, crate::specs::Choice::with_letters, reader::specs::Short::short_of))]
+fn short_choice(letters: u64) -> Option<Book>
     ensures { result ≡ short_choice letters }
 {
-    if letters == 1 {
-        return Choice::By(reader::short_of(Letters::Old));
-    }
-    if letters == 2 {
-        return Choice::By(reader::short_of(Letters::New));
-    }
-    Choice::Unknown
+    with_letters(Edition::Old, letters)
 }
 
 // Reads a file into the lent words by the book that is named; where none is, every word is zero.
 fn read_chosen(
-    c: Choice,
+    c: Option<Book>,
     file: &[u8],
     head: &mut [u64; 8],
     e: &mut [u64],
     a: &mut [u64],
     m: &mut [u64],
     numbers: &mut [i64],
-) -> reader::Answer
+) -> Result<reader::Accepted, sequence::Refusal>
     ensures { Reads (rounded_by c file.now)
         (reading_by c (room_of (lent_of file.now e.old a.old m.old numbers.old)) file.now)
         (lent_of file.now e.old a.old m.old numbers.old)
         (lent_of file.now e.new a.new m.new numbers.new) head.new result }
 {
     match c {
-        Choice::By(book) => reader::read_as(book, file, head, e, a, m, numbers),
-        Choice::Unknown => {
+        Some(book) => reader::read_as(book, file, head, e, a, m, numbers),
+        None => {
             *head = [0u64; 8];
             reader::clear(e, a, m, numbers);
-            reader::Answer::Refused {
+            Err(sequence::Refusal {
                 number: 101,
                 place: 0,
-            }
+            })
         }
     }
 }
@@ -136,14 +120,13 @@ pub fn read_as(
     a: &mut [u64],
     m: &mut [u64],
     numbers: &mut [i64],
-) -> reader::Answer
+) -> Result<reader::Accepted, sequence::Refusal>
     ensures { Reads (rounded_by (choice_of edition letters) file.now)
         (reading_by (choice_of edition letters) (room_of (lent_of file.now e.old a.old m.old numbers.old)) file.now)
         (lent_of file.now e.old a.old m.old numbers.old)
         (lent_of file.now e.new a.new m.new numbers.new) head.new result }
 {
-    let c = choice_of(edition, letters);
-    read_chosen(c, file, head, e, a, m, numbers)
+    read_chosen(choice_of(edition, letters), file, head, e, a, m, numbers)
 }
 
 // The short call, which names no edition, likewise.
@@ -155,14 +138,13 @@ pub fn read(
     a: &mut [u64],
     m: &mut [u64],
     numbers: &mut [i64],
-) -> reader::Answer
+) -> Result<reader::Accepted, sequence::Refusal>
     ensures { Reads (rounded_by (short_choice letters) file.now)
         (reading_by (short_choice letters) (room_of (lent_of file.now e.old a.old m.old numbers.old)) file.now)
         (lent_of file.now e.old a.old m.old numbers.old)
         (lent_of file.now e.new a.new m.new numbers.new) head.new result }
 {
-    let c = short_choice(letters);
-    read_chosen(c, file, head, e, a, m, numbers)
+    read_chosen(short_choice(letters), file, head, e, a, m, numbers)
 }
 
 // Mends a file into what is lent, likewise; numbers that name no book leave zeros in all of it.
@@ -177,18 +159,17 @@ pub fn mend(
     a: &mut [u64],
     m: &mut [u64],
     numbers: &mut [i64],
-) -> mend_call::Answer
+) -> Result<mend_call::Mended, u64>
     ensures { MendsBy (choice_of edition letters)
         (lent_of file.now e.old a.old m.old numbers.old)
         (lent_of file.now e.new a.new m.new numbers.new)
         (length out.old) out.new (length report.old) report.new head.new result }
 {
-    let c = choice_of(edition, letters);
-    match c {
-        Choice::By(book) => mend_call::mend(book, file, out, report, head, e, a, m, numbers),
-        Choice::Unknown => {
+    match choice_of(edition, letters) {
+        Some(book) => mend_call::mend(book, file, out, report, head, e, a, m, numbers),
+        None => {
             mend_call::clear(out, report, head, e, a, m, numbers);
-            mend_call::Answer::Refused { number: 101 }
+            Err(101)
         }
     }
 }
@@ -214,12 +195,11 @@ pub fn placement(
         (lent_of file.now e.new a.new m.new numbers.new) head.new
         (work_of notes.old names.old roles.old pins.old) (length out.old) out.new result }
 {
-    let c = choice_of(edition, letters);
-    match c {
-        Choice::By(book) => placement_call::placement(
+    match choice_of(edition, letters) {
+        Some(book) => placement_call::placement(
             book, file, head, e, a, m, numbers, notes, names, roles, pins, out,
         ),
-        Choice::Unknown => {
+        None => {
             mending::clear_bytes(out);
             *head = [0u64; 8];
             reader::clear(e, a, m, numbers);
@@ -232,10 +212,9 @@ pub fn placement(
 pub fn label_named(edition: u64, letters: u64, file: &[u8], name: &[u8]) -> labels::Answer
     ensures { result ≡ label_named_by (choice_of edition letters) file.now name.now }
 {
-    let c = choice_of(edition, letters);
-    match c {
-        Choice::By(book) => labels::label_named(book, file, name),
-        Choice::Unknown => labels::refused(101),
+    match choice_of(edition, letters) {
+        Some(book) => labels::label_named(book, file, name),
+        None => labels::refused(101),
     }
 }
 
@@ -243,9 +222,8 @@ pub fn label_named(edition: u64, letters: u64, file: &[u8], name: &[u8]) -> labe
 pub fn label_at(edition: u64, letters: u64, file: &[u8], i: usize) -> labels::Answer
     ensures { result ≡ label_at_by (choice_of edition letters) file.now i }
 {
-    let c = choice_of(edition, letters);
-    match c {
-        Choice::By(book) => labels::label_at(book, file, i),
-        Choice::Unknown => labels::refused(101),
+    match choice_of(edition, letters) {
+        Some(book) => labels::label_at(book, file, i),
+        None => labels::refused(101),
     }
 }

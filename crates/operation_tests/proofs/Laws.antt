@@ -1,5 +1,6 @@
 -- Points that are not far are within 10^12, and where an operation goes that does not break 5.
 -- Assumes nothing.
+use Rattle.std.specs.Prelude.{Option, ℤ}
 use Prim.Native.Nat.{ℕ, ◌*◌, ◌^◌, ◌≤◌, ◌<◌}
 use mathlib.Core.Path.{◌≡◌, ap}
 use mathlib.Core.Bool.{Bool, true, false}
@@ -12,7 +13,6 @@ use Rattle.base.specs.Or.{◌or◌}
 use Rattle.ints.proofs.Bounded.{abs_sub}
 use Rattle.points.specs.Points.{Within}
 use Rattle.points.specs.declared.Point.{Point}
-use Rattle.command.specs.declared.Axis.{Axis}
 use Rattle.graphics.specs.declared.Graphics.{Graphics}
 use Rattle.changes.specs.After.{target}
 use Rattle.operation_tests.specs.Far.{is_formatted, is_far, goes_far}
@@ -54,11 +54,11 @@ pub less_within : (p : Point) → Less p → Within (10 ^ 12) p
 less_within p h = record { across = omega (arith, h.across); up = omega (arith, h.up) }
 
 -- an operation after FS that breaks not 5: where it goes from and to
-pub record Reaches (g : Graphics) (x y : Axis) : Type 0 where
+pub record Reaches (g : Graphics) (x y : Option ℤ) : Type 0 where
   pub from : Less g.point.at
   pub to : Less (target g x y)
 
-pub reaches : (g : Graphics) (x y : Axis) → is_formatted g ≡ true → goes_far g x y ≡ false → Reaches g x y
+pub reaches : (g : Graphics) (x y : Option ℤ) → is_formatted g ≡ true → goes_far g x y ≡ false → Reaches g x y
 unfolding goes_far ◌and◌
 reaches g x y f e =
     let far : (is_far g.point.at or is_far (target g x y)) ≡ false = rw f at e in

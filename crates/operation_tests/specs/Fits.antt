@@ -1,15 +1,11 @@
 -- Whether an operation fits the state (01, State: numbers 6 and 11 to 15; 02, [7]: 29; 02, [9]: 5).
-use Rattle.std.specs.Prelude.{◌%◌, Bool, true, false, not, eqb, leb}
+use Rattle.std.specs.Prelude.{◌%◌, Bool, true, false, not, eqb, leb, None, Option, Some, ℤ}
 use Rattle.std.specs.Bool.{xor}
 use Rattle.base.specs.And.{◌and◌}
 use Rattle.base.specs.Or.{◌or◌}
 use Rattle.points.specs.Points.{same_point}
 use Rattle.points.specs.declared.Point.{Point}
 use Rattle.place.specs.Placing.{quarter_turn}
-use Rattle.command.specs.declared.Axis.{Axis}
-use Rattle.command.specs.declared.Axis.TheVariants as axis
-use Rattle.command.specs.declared.Offset.{Offset}
-use Rattle.command.specs.declared.Offset.TheVariants as offset
 use Rattle.graphics.specs.Graphics.{origin}
 use Rattle.graphics.specs.Orientation.{orientation}
 use Rattle.graphics.specs.declared.Graphics.{Graphics}
@@ -17,17 +13,18 @@ use Rattle.changes.specs.After.{starts_contour}
 use Rattle.operation_tests.specs.Far.{is_formatted, is_far, goes_far}
 use Rattle.graphics.specs.Level.{block}
 use Rattle.graphics.specs.declared.Level.{Level}
+use Rattle.command.specs.declared.Offset.{Offset}
 
-unfoldable pub is_missing : Axis → Bool
-is_missing axis.Missing = true
-is_missing (axis.At v) = false
+unfoldable pub is_missing : Option ℤ → Bool
+is_missing None = true
+is_missing (Some v) = false
 
 -- 6: "FS or MO .. missing at an operation"; "The first G70 or G71 sets the unit where no MO does"
 unfoldable pub unready : Graphics → Bool
 unready g = not (is_formatted g) or (eqb g.header.unit 0 and eqb g.header.coded 0)
 
 -- 11: "an unset point needed for a missing coordinate"
-unfoldable pub placeless : Graphics → Axis → Axis → Bool
+unfoldable pub placeless : Graphics → Option ℤ → Option ℤ → Bool
 placeless g x y = not g.point.set and (is_missing x or is_missing y)
 
 unfoldable pub circular : Graphics → Bool
@@ -41,28 +38,28 @@ has_brush g = g.aperture.set and (g.aperture.circle or (g.old and (g.aperture.re
 unfoldable pub brushless : Graphics → Bool
 brushless g = not g.region.on and not (has_brush g)
 
-unfoldable pub has_offset : Offset → Bool
-has_offset offset.Missing = false
-has_offset (offset.By p signed) = true
+unfoldable pub has_offset : Option Offset → Bool
+has_offset None = false
+has_offset (Some o) = true
 
-unfoldable pub is_signed : Offset → Bool
-is_signed offset.Missing = false
-is_signed (offset.By p signed) = signed
+unfoldable pub is_signed : Option Offset → Bool
+is_signed None = false
+is_signed (Some o) = o.signed
 
 -- "circular D01 before any G75"; in the old edition "G74 as the default": "In single quadrant mode I and J are unsigned (a sign is 11)"
-unfoldable pub quadrantless : Graphics → Offset → Bool
+unfoldable pub quadrantless : Graphics → Option Offset → Bool
 quadrantless g o = not g.quadrants and (not g.old or is_signed o)
 
 -- "I and J present in linear mode or absent in circular mode"
-unfoldable pub arcless : Graphics → Offset → Bool
+unfoldable pub arcless : Graphics → Option Offset → Bool
 arcless g o = xor (circular g) (has_offset o) or (circular g and quadrantless g o)
 
 -- 11 at D01, which starts at the current point
-unfoldable pub draw_misfits : Graphics → Offset → Bool
+unfoldable pub draw_misfits : Graphics → Option Offset → Bool
 draw_misfits g o = not g.point.set or eqb g.mode 0 or brushless g or arcless g o
 
 -- 11 at D03
-unfoldable pub flash_misfits : Graphics → Axis → Axis → Bool
+unfoldable pub flash_misfits : Graphics → Option ℤ → Option ℤ → Bool
 flash_misfits g x y = placeless g x y or not g.aperture.set
 
 -- 29 (02, [7]): "Inside a region, the first D01 needs a D02 since that G36"; "29 is not given" in the old edition
@@ -70,12 +67,12 @@ unfoldable pub moveless : Graphics → Bool
 moveless g = not g.old and (starts_contour g.region and not g.region.moved)
 
 -- I and J
-unfoldable pub offset_of : Offset → Point
-offset_of offset.Missing = origin
-offset_of (offset.By p signed) = p
+unfoldable pub offset_of : Option Offset → Point
+offset_of None = origin
+offset_of (Some o) = o.offset
 
 -- 5 at D01, whose I and J are a point too
-unfoldable pub draws_far : Graphics → Axis → Axis → Offset → Bool
+unfoldable pub draws_far : Graphics → Option ℤ → Option ℤ → Option Offset → Bool
 draws_far g x y o = goes_far g x y or (is_formatted g and is_far (offset_of o))
 
 -- 13: "its last point must equal its first"

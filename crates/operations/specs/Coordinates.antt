@@ -1,21 +1,21 @@
 -- The coordinates of an operation (01, Form; decisions 23 to 29 and 41), by the format that FS gave (02, [9]; decision 483).
-use Rattle.std.specs.Prelude.{ℕ, ◌+◌, Bool, true, false, cond, List, ltb, eqb, pos, length, get_or}
+use Rattle.std.specs.Prelude.{ℕ, ◌+◌, Bool, true, false, cond, List, ltb, eqb, pos, length, get_or, Err, Ok, Result, ℤ}
 use Prim.Native.Char.{code}
 use Rattle.digits.specs.Sign.{is_sign}
-use Rattle.digits.specs.declared.answers.Coordinate.{Coordinate}
-use Rattle.digits.specs.declared.answers.Coordinate.TheVariants as coordinate
 use Rattle.digits.specs.declared.answers.Taken.{Taken}
 use Rattle.formats.specs.Values.{taken_in}
 use Rattle.formats.specs.declared.Format.{Format}
 use Rattle.operations.specs.declared.Field.{Field}
 use Rattle.operations.specs.declared.TakenField.{TakenField}
 use Rattle.operations.specs.declared.Fields.{Fields}
+use Rattle.digits.specs.declared.answers.NumberError.TheVariants as number_error
+use Rattle.digits.specs.declared.answers.NumberError.{NumberError}
 
 -- a coordinate that is there, with a sign or without
-unfoldable pub given : Bool → Coordinate → Field
-given sign coordinate.NotForm = record { given = true; formless = true; long = false; signed = sign; value = pos 0 }
-given sign coordinate.TooLong = record { given = true; formless = false; long = true; signed = sign; value = pos 0 }
-given sign (coordinate.Value v) = record { given = true; formless = false; long = false; signed = sign; value = v }
+unfoldable pub given : Bool → Result ℤ NumberError → Field
+given sign (Err number_error.NotForm) = record { given = true; formless = true; long = false; signed = sign; value = pos 0 }
+given sign (Err number_error.TooLong) = record { given = true; formless = false; long = true; signed = sign; value = pos 0 }
+given sign (Ok v) = record { given = true; formless = false; long = false; signed = sign; value = v }
 
 unfoldable pub missing : Field
 missing = record { given = false; formless = false; long = false; signed = false; value = pos 0 }

@@ -1,15 +1,11 @@
 -- D01, D02 and D03 (01, Form: "X and Y optional, each in that order; for D01 only, I and J together after them"; decisions 27 and 43).
-use Rattle.std.specs.Prelude.{ℕ, ◌-◌, Bool, cond, not, List, [], ◌∷◌, eqb, length, take}
+use Rattle.std.specs.Prelude.{ℕ, ◌-◌, Bool, cond, not, List, [], ◌∷◌, eqb, length, take, None, Option, Some, ℤ}
 use Rattle.base.specs.Or.{◌or◌}
 use Rattle.points.specs.Points.{pt}
 use Rattle.text.specs.Text.{◌ends◌}
 use Rattle.base.specs.Choose.{choose}
 use Rattle.formats.specs.declared.Format.{Format}
 use Rattle.command.specs.Numbers.{judged}
-use Rattle.command.specs.declared.Axis.{Axis}
-use Rattle.command.specs.declared.Axis.TheVariants as axis
-use Rattle.command.specs.declared.Offset.{Offset}
-use Rattle.command.specs.declared.Offset.TheVariants as offset
 use Rattle.command.specs.declared.Setting.{Setting}
 use Rattle.command.specs.declared.Operation.{Operation}
 use Rattle.command.specs.declared.Operation.TheVariants.{Draw, Move, Flash}
@@ -19,6 +15,7 @@ use Rattle.operations.specs.Coordinates.{fields_in}
 use Rattle.operations.specs.declared.Field.{Field}
 use Rattle.operations.specs.declared.Fields.{Fields}
 use Rattle.operations.specs.declared.Written.{Written}
+use Rattle.command.specs.declared.Offset.{Offset}
 
 -- a coordinate that is none, or bytes left after them
 unfoldable pub broken : Fields → Bool
@@ -31,12 +28,12 @@ too_long f = f.x.long or f.y.long or f.i.long or f.j.long
 unfoldable pub alone : Fields → Bool
 alone f = cond f.i.given (not f.j.given) f.j.given
 
-unfoldable pub axis_of : Field → Axis
-axis_of f = cond f.given (axis.At f.value) axis.Missing
+unfoldable pub axis_of : Field → Option ℤ
+axis_of f = cond f.given (Some f.value) None
 
 -- I and J, and whether one of them has a sign
-unfoldable pub offset_of : Fields → Offset
-offset_of f = cond f.i.given (offset.By (pt f.i.value f.j.value) (f.i.signed or f.j.signed)) offset.Missing
+unfoldable pub offset_of : Fields → Option Offset
+offset_of f = cond f.i.given (Some (record { offset = pt f.i.value f.j.value; signed = f.i.signed or f.j.signed })) None
 
 -- D01
 unfoldable pub draw : Fields → Written

@@ -5,11 +5,11 @@ ghost use Rattle.std.specs.Prelude.{◌≡◌, ◌≤◌, get_or};
 ghost use Rattle.digits.specs.Sign.{is_sign};
 ghost use Rattle.formats.specs.Format.{exact_places};
 ghost use Rattle.formats.specs.declared.Format.{Format};
-ghost use Rattle.operations.specs.Coordinates.{given, field_at, fields_in};
+ghost use Rattle.operations.specs.Coordinates.{missing, given, field_at, fields_in};
 ghost use Rattle.operations.specs.Operations.{alone, broken, too_long, axis_of, offset_of, draw, move, flash, without_offset, operation_code, operation_in, operates, coded, operation_of};
 
-use command::{Axis, Command, Offset, Operation, Setting};
-use digits::Coordinate;
+use command::{Command, Offset, Operation, Setting};
+use digits::NumberError;
 use formats::Format;
 use points::Point;
 
@@ -50,39 +50,48 @@ pub struct Written {
 }
 
 // A sign stands at a place.
+#[tactic(auto, using(base::proofs::Or::joins))]
 fn sign_at(s: &[u8], at: usize) -> bool
     ensures { result ≡ is_sign (get_or s.now at 0) }
 {
     let b = base::byte_at(s, at);
-    base::either(b == b'+', b == b'-')
+    b == b'+' || b == b'-'
+}
+
+// No coordinate.
+#[tactic(auto, unfolding(crate::specs::Coordinates::missing))]
+fn missing() -> Field
+    ensures { result ≡ missing }
+{
+    Field {
+        given: false,
+        formless: false,
+        long: false,
+        signed: false,
+        value: 0,
+    }
 }
 
 // A coordinate that is there, and whether it has a sign.
-fn as_given(signed: bool, c: Coordinate) -> Field
+#[tactic(auto, unfolding(crate::specs::Coordinates::given, crate::specs::Coordinates::missing))]
+fn as_given(signed: bool, c: Result<i64, NumberError>) -> Field
     ensures { result ≡ given signed c }
 {
+    let there = Field {
+        given: true,
+        signed,
+        ..missing()
+    };
     match c {
-        Coordinate::NotForm => Field {
-            given: true,
+        Err(NumberError::NotForm) => Field {
             formless: true,
-            long: false,
-            signed,
-            value: 0,
+            ..there
         },
-        Coordinate::TooLong => Field {
-            given: true,
-            formless: false,
+        Err(NumberError::TooLong) => Field {
             long: true,
-            signed,
-            value: 0,
+            ..there
         },
-        Coordinate::Value(v) => Field {
-            given: true,
-            formless: false,
-            long: false,
-            signed,
-            value: v,
-        },
+        Ok(value) => Field { value, ..there },
     }
 }
 
@@ -93,20 +102,13 @@ fn field_at(format: Format, letter: u8, s: &[u8], at: usize) -> TakenField
 {
     if base::byte_at(s, at) == letter {
         let taken = formats::coordinate_in(format, s, at + 1);
-        let coordinate = taken.coordinate;
         return TakenField {
-            field: as_given(sign_at(s, at + 1), coordinate),
+            field: as_given(sign_at(s, at + 1), taken.coordinate),
             next: taken.next,
         };
     }
     TakenField {
-        field: Field {
-            given: false,
-            formless: false,
-            long: false,
-            signed: false,
-            value: 0,
-        },
+        field: missing(),
         next: at,
     }
 }
@@ -118,20 +120,13 @@ fn exact_at(limit: usize, letter: u8, s: &[u8], at: usize) -> TakenField
 {
     if base::byte_at(s, at) == letter {
         let taken = digits::coordinate_at(s, at + 1, limit);
-        let coordinate = taken.coordinate;
         return TakenField {
-            field: as_given(sign_at(s, at + 1), coordinate),
+            field: as_given(sign_at(s, at + 1), taken.coordinate),
             next: taken.next,
         };
     }
     TakenField {
-        field: Field {
-            given: false,
-            formless: false,
-            long: false,
-            signed: false,
-            value: 0,
-        },
+        field: missing(),
         next: at,
     }
 }
@@ -145,12 +140,13 @@ fn exact_fields(limit: usize, s: &[u8]) -> Fields
     let y = exact_at(limit, b'Y', s, x.next);
     let i = exact_at(limit, b'I', s, y.next);
     let j = exact_at(limit, b'J', s, i.next);
-    let left = j.next < s.len();
-    let x = x.field;
-    let y = y.field;
-    let i = i.field;
-    let j = j.field;
-    Fields { x, y, i, j, left }
+    Fields {
+        x: x.field,
+        y: y.field,
+        i: i.field,
+        j: j.field,
+        left: j.next < s.len(),
+    }
 }
 
 // X, Y, I and J, in that order, in any format.
@@ -161,12 +157,13 @@ fn raised_fields(format: Format, s: &[u8]) -> Fields
     let y = field_at(format, b'Y', s, x.next);
     let i = field_at(format, b'I', s, y.next);
     let j = field_at(format, b'J', s, i.next);
-    let left = j.next < s.len();
-    let x = x.field;
-    let y = y.field;
-    let i = i.field;
-    let j = j.field;
-    Fields { x, y, i, j, left }
+    Fields {
+        x: x.field,
+        y: y.field,
+        i: i.field,
+        j: j.field,
+        left: j.next < s.len(),
+    }
 }
 
 // X, Y, I and J, in that order; the format is that of FS. Most formats have nothing to raise, and are asked once.
@@ -181,87 +178,85 @@ fn fields_in(format: Format, s: &[u8]) -> Fields
 }
 
 // A coordinate that is none, or bytes left after them.
+#[tactic(auto, using(base::proofs::Or::joins), unfolding(crate::specs::Operations::broken))]
 fn is_broken(f: Fields) -> bool
     ensures { result ≡ broken f }
 {
-    let xy = base::either(base::either(f.left, f.x.formless), f.y.formless);
-    base::either(base::either(xy, f.i.formless), f.j.formless)
+    let xy = f.left || f.x.formless || f.y.formless;
+    xy || f.i.formless || f.j.formless
 }
 
 // A coordinate with too many digits.
+#[tactic(auto, using(base::proofs::Or::joins), unfolding(crate::specs::Operations::too_long))]
 fn is_too_long(f: Fields) -> bool
     ensures { result ≡ too_long f }
 {
-    base::either(
-        base::either(base::either(f.x.long, f.y.long), f.i.long),
-        f.j.long,
-    )
+    f.x.long || f.y.long || f.i.long || f.j.long
 }
 
 // One of I and J without the other.
+#[tactic(auto, unfolding(crate::specs::Operations::alone))]
 fn is_alone(f: Fields) -> bool
     ensures { result ≡ alone f }
 {
-    if f.i.given {
-        return !f.j.given;
-    }
-    f.j.given
+    if f.i.given { !f.j.given } else { f.j.given }
 }
 
 // X or Y as the command has it.
-fn axis_of(f: Field) -> Axis
+#[tactic(auto, unfolding(crate::specs::Operations::axis_of))]
+fn axis_of(f: Field) -> Option<i64>
     ensures { result ≡ axis_of f }
 {
-    if f.given {
-        return Axis::At(f.value);
-    }
-    Axis::Missing
+    if f.given { Some(f.value) } else { None }
 }
 
 // I and J as the command has them.
-fn offset_of(f: Fields) -> Offset
+#[tactic(auto, using(base::proofs::Or::joins), unfolding(crate::specs::Operations::offset_of))]
+fn offset_of(f: Fields) -> Option<Offset>
     ensures { result ≡ offset_of f }
 {
     if f.i.given {
-        return Offset::By {
+        return Some(Offset {
             offset: Point {
                 x: f.i.value,
                 y: f.j.value,
             },
-            signed: base::either(f.i.signed, f.j.signed),
-        };
+            signed: f.i.signed || f.j.signed,
+        });
     }
-    Offset::Missing
+    None
 }
 
 // D01 with these coordinates.
+#[tactic(auto, using(base::proofs::Or::joins), unfolding(crate::specs::Operations::draw))]
 fn drawn(f: Fields) -> Written
     ensures { result ≡ draw f }
 {
-    let x = axis_of(f.x);
-    let y = axis_of(f.y);
-    let centre = offset_of(f);
-    let formless = base::either(is_broken(f), is_alone(f));
     Written {
-        formless,
+        formless: is_broken(f) || is_alone(f),
         long: is_too_long(f),
-        operation: Operation::Draw { x, y, centre },
+        operation: Operation::Draw {
+            x: axis_of(f.x),
+            y: axis_of(f.y),
+            centre: offset_of(f),
+        },
     }
 }
 
 // An operation that has no I and J.
+#[tactic(auto, using(base::proofs::Or::joins), unfolding(crate::specs::Operations::without_offset))]
 fn without_offset(f: Fields, operation: Operation) -> Written
     ensures { result ≡ without_offset f operation }
 {
-    let formless = base::either(base::either(is_broken(f), f.i.given), f.j.given);
     Written {
-        formless,
+        formless: is_broken(f) || f.i.given || f.j.given,
         long: is_too_long(f),
         operation,
     }
 }
 
 // D02 with these coordinates.
+
 fn moved(f: Fields) -> Written
     ensures { result ≡ move f }
 {
@@ -271,6 +266,7 @@ fn moved(f: Fields) -> Written
 }
 
 // D03 with these coordinates.
+#[tactic(auto, unfolding(crate::specs::Operations::flash))]
 fn flashed(f: Fields) -> Written
     ensures { result ≡ flash f }
 {
@@ -294,19 +290,26 @@ pub fn operation_in(number: u64, format: Format, s: &[u8]) -> Written
 }
 
 // An operation with no code before it.
+#[tactic(auto, unfolding(crate::specs::Operations::operates))]
 pub fn operates(w: Written) -> Command
     ensures { result ≡ operates w }
 {
-    let operation = w.operation;
-    command::judged(w.formless, w.long, Command::Operate(operation))
+    command::judged(w.formless, w.long, Command::Operate(w.operation))
 }
 
 // An operation after a G code.
+#[tactic(auto, unfolding(crate::specs::Operations::coded))]
 pub fn coded(code: Setting, w: Written) -> Command
     ensures { result ≡ coded code w }
 {
-    let operation = w.operation;
-    command::judged(w.formless, w.long, Command::Coded { code, operation })
+    command::judged(
+        w.formless,
+        w.long,
+        Command::Coded {
+            code,
+            operation: w.operation,
+        },
+    )
 }
 
 // The number of the operation that a text ends in: 1 for D01, 2 for D02, 3 for D03, and 0 where it ends in none.

@@ -44,36 +44,34 @@ fn to_still() -> Outline
 }
 
 // What a command of the newer edition does, by its text.
+#[tactic(auto, using(base::proofs::Or::joins), unfolding(crate::specs::Outlines::newer_outline))]
 fn newer_outline(t: &[u8]) -> Outline
     ensures { result ≡ newer_outline t.now }
 {
     let said = !text::begins(t, b"G04");
-    let moves = base::both(said, text::ends(t, b"D02"));
-    let draws = base::both(said, text::ends(t, b"D01"));
+    let moves = said && text::ends(t, b"D02");
+    let draws = said && text::ends(t, b"D01");
     to_outline(text::is(t, b"G36"), text::is(t, b"G37"), moves, draws)
 }
 
 // What a command of the old book does, of what it is cut into.
+#[tactic(auto, unfolding(crate::specs::Outlines::word_outline))]
 fn word_outline(w: Word) -> Outline
     ensures { result ≡ word_outline w }
 {
     match w {
-        Word::NotForm => to_still(),
-        Word::Note => to_still(),
-        Word::Halt => to_still(),
-        Word::End => to_still(),
         Word::Code(g) => to_outline(g == 36, g == 37, false, false),
-        Word::Select(at) => to_still(),
         Word::Operate {
             code: g,
             operation,
-            from,
-            to,
+            ..
         } => to_outline(g == 36, g == 37, operation == 2, operation == 1),
+        _ => to_still(),
     }
 }
 
 // What a command with this text does, by a book.
+#[tactic(auto, unfolding(crate::specs::Outlines::outline_of, base::specs::Choose::pick))]
 pub fn outline_of(book: Book, t: &[u8]) -> Outline
     ensures { result ≡ outline_of book t.now }
 {
@@ -84,22 +82,21 @@ pub fn outline_of(book: Book, t: &[u8]) -> Outline
 }
 
 // Where the next command stands, after one that does this.
+#[tactic(auto, using(base::proofs::Or::joins), unfolding(crate::specs::Regions::region_after))]
 pub fn region_after(region: Region, o: Outline) -> Region
     ensures { result ≡ region_after region o }
 {
     Region {
-        inside: base::either(o.opens, base::both(!o.closes, region.inside)),
-        drawn: base::either(
-            o.draws,
-            base::both(!base::either(o.opens, o.moves), region.drawn),
-        ),
+        inside: o.opens || (!o.closes && region.inside),
+        drawn: o.draws || (!(o.opens || o.moves) && region.drawn),
     }
 }
 
 // A command that stands there, and does this, is a contour's first D01.
+#[tactic(auto, using(base::proofs::Or::joins), unfolding(crate::specs::Regions::begins_contour))]
 pub fn begins_contour(region: Region, o: Outline) -> bool
     ensures { result ≡ begins_contour region o }
 {
-    let first = base::both(region.inside, !region.drawn);
-    base::both(o.draws, base::either(o.opens, base::both(!o.closes, first)))
+    let first = region.inside && !region.drawn;
+    o.draws && (o.opens || (!o.closes && first))
 }

@@ -20,162 +20,136 @@ use sheet::Container;
 // One step of the pass that finds the first item at fault of a component layer.
 
 // Whether an item of this role is an outline's.
+#[tactic(auto, unfolding(law_components::specs::Parts::is_outline))]
 fn is_outline(role: Role) -> bool
     ensures { result ≡ is_outline role }
 {
-    match role {
-        Role::Main => false,
-        Role::Pin => false,
-        Role::Outline => true,
-        Role::Other => false,
-    }
-}
-
-fn pick(t: bool, p: Point, q: Point) -> Point
-    ensures { result ≡ cond t p q }
-{
-    if t {
-        return p;
-    }
-    q
+    matches!(role, Role::Outline)
 }
 
 // Whether the item goes on with the outline.
+#[tactic(auto, using(base::proofs::Or::joins), unfolding(law_components::specs::Pass::goes_on))]
 fn goes_on(o: Outline, m: Met) -> bool
     ensures { result ≡ goes_on o m }
 {
-    let role = m.role;
-    let to = o.end;
-    let from = m.start;
-    base::both(
-        o.under,
-        base::both(is_outline(role), points::same_point(to, from)),
-    )
+    o.under && (is_outline(m.role) && points::same_point(o.end, m.start))
 }
 
 // Whether the outline has not come back to where it began.
+#[tactic(auto, using(base::proofs::Or::joins), unfolding(law_components::specs::Pass::is_open))]
 fn is_open(o: Outline) -> bool
     ensures { result ≡ is_open o }
 {
-    let to = o.end;
-    let from = o.start;
-    base::both(o.under, !points::same_point(to, from))
+    o.under && !points::same_point(o.end, o.start)
 }
 
 // The outline after the item.
+#[tactic(auto, unfolding(law_components::specs::Pass::outline_after))]
 fn outline_after(o: Outline, m: Met) -> Outline
     ensures { result ≡ outline_after o m }
 {
-    let role = m.role;
-    let before = o.start;
-    let here = m.start;
-    let end = m.end;
-    let under = is_outline(role);
-    let start = pick(goes_on(o, m), before, here);
+    let start = if goes_on(o, m) { o.start } else { m.start };
     Outline {
-        under: under,
-        start: start,
-        end: end,
+        under: is_outline(m.role),
+        start,
+        end: m.end,
         place: m.place,
     }
 }
 
 // What the pass finds with an item more: an open outline before it, or a fault of its own; number 0 where there is none.
+#[tactic(auto, using(base::proofs::Or::joins), unfolding(law_components::specs::Pass::step_fault))]
 fn step_fault(o: Outline, m: Met, again: bool) -> Fault
     ensures { result ≡ step_fault o m again }
 {
-    if base::both(is_open(o), !goes_on(o, m)) {
-        return Fault {
+    if is_open(o) && !goes_on(o, m) {
+        Fault {
             number: 28,
             place: o.place,
-        };
-    }
-    if m.lacks {
-        return Fault {
+        }
+    } else if m.lacks {
+        Fault {
             number: 26,
             place: m.place,
-        };
-    }
-    if again {
-        return Fault {
+        }
+    } else if again {
+        Fault {
             number: 27,
             place: m.place,
-        };
-    }
-    Fault {
-        number: 0,
-        place: 0,
+        }
+    } else {
+        Fault {
+            number: 0,
+            place: 0,
+        }
     }
 }
 
 // What it finds after the last item.
+#[tactic(auto, unfolding(law_components::specs::Pass::end_fault))]
 fn end_fault(o: Outline) -> Fault
     ensures { result ≡ end_fault o }
 {
     if is_open(o) {
-        return Fault {
+        Fault {
             number: 28,
             place: o.place,
-        };
-    }
-    Fault {
-        number: 0,
-        place: 0,
+        }
+    } else {
+        Fault {
+            number: 0,
+            place: 0,
+        }
     }
 }
 
 // The passes, each over all items.
 
 // Whether an item of a role lacks the attribute that it must have.
+#[tactic(auto, unfolding(crate::specs::Words::lacks_by))]
 fn lacks(role: Role, note: Note) -> bool
     ensures { result ≡ lacks_by role note }
 {
     match role {
-        Role::Main => note.component == 0,
+        Role::Main | Role::Outline => note.component == 0,
         Role::Pin => note.pin == 0,
-        Role::Outline => note.component == 0,
         Role::Other => false,
     }
 }
 
 // What the pass asks of an item.
+#[tactic(auto, unfolding(crate::specs::Words::met_by))]
 fn met(s: Seen) -> Met
     ensures { result ≡ met_by s }
 {
-    let role = s.role;
-    let note = s.note;
-    let start = s.start;
-    let end = s.end;
     Met {
-        role: role,
-        start: start,
-        end: end,
+        role: s.role,
+        start: s.start,
+        end: s.end,
         place: s.place,
-        lacks: lacks(role, note),
+        lacks: lacks(s.role, s.note),
     }
 }
 
 // The designator of a main, as it is noted; 0 of anything else.
+#[tactic(auto, unfolding(crate::specs::Words::main_as))]
 pub fn main_of(role: Role, note: Note) -> u64
     ensures { result ≡ main_as role note }
 {
     match role {
         Role::Main => note.component,
-        Role::Pin => 0,
-        Role::Outline => 0,
-        Role::Other => 0,
+        _ => 0,
     }
 }
 
 // The designator of a pin, likewise.
+#[tactic(auto, unfolding(crate::specs::Words::pin_as))]
 fn pin_of(role: Role, note: Note) -> u64
     ensures { result ≡ pin_as role note }
 {
     match role {
-        Role::Main => 0,
         Role::Pin => note.pin,
-        Role::Outline => 0,
-        Role::Other => 0,
+        _ => 0,
     }
 }
 
@@ -237,20 +211,16 @@ pub fn faults(
         Marked l names.old 0 → Judged l names.new result }
 {
     let mut o = no_outline();
-    let mut k: u64 = 0;
-    while k < top.items {
+    for k in 0..top.items {
         let s = seeing::see(e, a, top, notes, operations, roles, roled, k);
         let m = met(s);
-        let role = s.role;
-        let note = s.note;
-        let d = main_of(role, note);
+        let d = main_of(s.role, s.note);
         let f = step_fault(o, m, word_of(names, d, 2) == 1);
         if f.number != 0 {
             return f;
         }
         set_word(names, d, 2, 1);
         o = outline_after(o, m);
-        k += 1;
     }
     end_fault(o)
 }
@@ -282,14 +252,10 @@ pub fn link_pins(
     ensures { (l : Layer e.now a.now top notes.now operations roles.now roled) →
         Sound l → Marked l names.old (length (parts l)) → Links l names.new pins.new result }
 {
-    let mut k = top.items;
     let mut links: usize = 0;
-    while k > 0 {
-        k -= 1;
+    for k in (0..top.items).rev() {
         let s = seeing::see(e, a, top, notes, operations, roles, roled, k);
-        let role = s.role;
-        let note = s.note;
-        let d = pin_of(role, note);
+        let d = pin_of(s.role, s.note);
         if word_of(names, d, 2) == 1 {
             if links >= pins.len() / 2 {
                 return false;

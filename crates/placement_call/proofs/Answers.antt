@@ -1,5 +1,6 @@
 -- The refusal of a file that is read, by each of the ways out: no component layer, room for the notes that is short, or that of its list.
 -- Assumes nothing.
+use Rattle.std.specs.Prelude.{Result}
 use Prim.Native.Nat.{ℕ, ◌-◌, ◌/◌}
 use mathlib.Core.Path.{◌≡◌, refl, sym, ap, ◌∙◌, subst}
 use mathlib.Core.Bool.{Bool, true, false, cond, not}
@@ -25,11 +26,12 @@ use Rattle.law_reading.specs.State.{State}
 use Rattle.law_reading.specs.Reading as reading
 use Rattle.progress.specs.Lent.{Lent, room_of}
 use Rattle.reader.specs.Reads.{Reads}
-use Rattle.reader.specs.declared.Answer as reader
 use Rattle.placement_list.specs.Lists.{answered, judged_of, Lists}
 use Rattle.placement_list.specs.declared.Answer.{Answer}
 use Rattle.placement_list.proofs.Lists.{refusal_lists}
 use Rattle.placement_call.specs.Placement.{Work, is_tight_for, is_tight, parts_in, refusal_in, refusal_for, list_for, Places}
+use Rattle.reader.specs.declared.Accepted.{Accepted}
+use Rattle.sequence.specs.declared.Refusal.{Refusal}
 
 -- after 34 and the notes' room it is the list's
 judged : (pins room : ℕ) (ps : List Part) → judged_of pins room ps ≡ refusal_of true (is_short false pins ps) room ps
@@ -75,7 +77,7 @@ module _ (book : Book) (file : List ℕ) (w : Work) (room : ℕ) (s : State) {ou
 
 -- ---- the call
 
-module _ (book : Book) (l l' : Lent) (head : List ℕ) (w : Work) (room : ℕ) {out : List ℕ} {r : Answer} (x : reader.Answer)
+module _ (book : Book) (l l' : Lent) (head : List ℕ) (w : Work) (room : ℕ) {out : List ℕ} {r : Answer} (x : Result Accepted Refusal)
     (stores : Reads (rounded_in book l.file) (reading.reading book (room_of l) l.file) l l' head x) where
   pub places_refused : {number place : ℕ} → reading.reading book (room_of l) l.file ≡ reading.refused number place → out ≡ replicate room 0 → r ≡ answered number place 0 →
       Places book l l' head w room out r

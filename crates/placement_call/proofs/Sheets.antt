@@ -1,7 +1,8 @@
 -- What an accepted reading says of the file's commands, and what the reader's answer says of the reading.
 -- Assumes nothing.
+use Rattle.std.specs.Prelude.{Err, Ok, Result}
 use Prim.Native.Nat.{ℕ}
-use mathlib.Core.Path.{◌≡◌, refl, sym, ◌∙◌}
+use mathlib.Core.Path.{◌≡◌, refl, sym, ap, ◌∙◌}
 use mathlib.Core.Bool.{Bool, true, false}
 use mathlib.Core.List.{List, [], ◌∷◌}
 use native.Mathlib.Omega.{arith}
@@ -16,11 +17,10 @@ use Rattle.law_reading.specs.State.{Room, State}
 use Rattle.law_reading.specs.Reading as reading
 use Rattle.law_reading.specs.Reading.{accepted, refused, step_at, read_on}
 use Rattle.progress.specs.Lent.{Lent, room_of}
-use Rattle.reader.specs.Reads.{Reads}
+use Rattle.reader.specs.Reads.{number_of, place_of, Reads}
 use Rattle.reader.specs.Leaves.{Leaves}
-use Rattle.reader.specs.declared.Answer as code
-use Rattle.reader.specs.declared.Answer.TheVariants as answer
 use Rattle.placement_call.specs.Sheeted.{Sheeted}
+use Rattle.reader.specs.declared.Accepted.{Accepted}
 
 sound_on : (room : Room) (file : List ℕ) (cs : List Placed) (f : Refusal) (s s' : State) → read_on room file cs f s ≡ accepted s' → f.number ≡ 0
 unfolding read_on
@@ -49,18 +49,20 @@ module _ (book : Book) (room : Room) (file : List ℕ) (s : State) (e : reading.
       go true q z = refl
       go false q z = let y : ◌≡◌ {A = ℕ} 1 0 = rw q at z in absurd (omega arith)
 
-pub is_refused_lem : (rounded : ℕ) (l l' : Lent) (head : List ℕ) (r : code.Answer) {number place : ℕ} (x : reading.Answer) → Reads rounded x l l' head r → r ≡ answer.Refused number place →
+pub is_refused_lem : (rounded : ℕ) (l l' : Lent) (head : List ℕ) (r : Result Accepted Refusal) {number place : ℕ} (x : reading.Answer) → Reads rounded x l l' head r → r ≡ Err (record { number = number; place = place }) →
     x ≡ refused number place
-unfolding Reads
+unfolding Reads number_of place_of
 is_refused_lem rounded l l' head r (accepted s) (q, long, w) e = let y : ◌≡◌ {A = ℕ} 0 1 = cc in absurd (omega arith)
-is_refused_lem rounded l l' head r {number} {place} (refused n p) (q, w) e = let same : answer.Refused n p ≡ answer.Refused number place = sym q ∙ e in cc
+is_refused_lem rounded l l' head r {number} {place} (refused n p) (q, w) e =
+    let same : ◌≡◌ {A = Result Accepted Refusal} (Err (record { number = n; place = p })) (Err (record { number = number; place = place })) = sym q ∙ e in
+    λ i. refused (ap number_of same i) (ap place_of same i)
 
 pub record IsAccepted (l l' : Lent) (head : List ℕ) (x : reading.Answer) : Type 0 where
   pub state : State
   pub is : x ≡ accepted state
   pub leaves : Leaves l.file head l'.entries l'.apertures l'.macros l'.numbers state
 
-pub is_accepted : (rounded : ℕ) (l l' : Lent) (head : List ℕ) (r : code.Answer) {unit many : ℕ} (x : reading.Answer) → Reads rounded x l l' head r → r ≡ answer.Accepted unit many →
+pub is_accepted : (rounded : ℕ) (l l' : Lent) (head : List ℕ) (r : Result Accepted Refusal) {unit many : ℕ} (x : reading.Answer) → Reads rounded x l l' head r → r ≡ Ok (record { unit = unit; rounded = many }) →
     IsAccepted l l' head x
 unfolding Reads
 is_accepted rounded l l' head r (accepted s) (q, long, w) e = record { state = s; is = refl; leaves = w }

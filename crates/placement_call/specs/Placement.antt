@@ -1,6 +1,6 @@
 -- What the call for a placement list answers, and what it leaves (02, [4]; decisions 580 to 591): over the plain expansion of the file and the
 -- attributes at each item's place, whatever the order in which the code looks.
-use Rattle.std.specs.Prelude.{ℕ, ◌/◌, ◌≡◌, Bool, List, [], ltb, length}
+use Rattle.std.specs.Prelude.{ℕ, ◌/◌, ◌≡◌, Bool, List, [], ltb, length, Result}
 use Rattle.base.specs.Or.{◌or◌}
 use Rattle.book.specs.declared.Book.{Book}
 use Rattle.sequence.specs.Commands.{commands_of}
@@ -22,8 +22,9 @@ use Rattle.law_reading.specs.State.{State}
 use Rattle.law_reading.specs.Reading as reading
 use Rattle.progress.specs.Lent.{Lent, room_of}
 use Rattle.reader.specs.Reads.{Reads}
-use Rattle.reader.specs.declared.Answer as reader
 use Rattle.placement_list.specs.declared.Answer.{Answer}
+use Rattle.reader.specs.declared.Accepted.{Accepted}
+use Rattle.sequence.specs.declared.Refusal.{Refusal}
 
 -- the work room that is lent, in words: for the notes of D01 and D03, for designators, for apertures, and for the pins of mains
 pub record Work : Type 0 where
@@ -72,5 +73,5 @@ pub record Places (book : Book) (l l' : Lent) (head : List ℕ) (w : Work) (room
   -- the whole list, and zeros after: "Each zeroes the output"
   pub output : out ≡ written room (list_for book l.file w room (reading.reading book (room_of l) l.file))
   -- the sheet's words are as a reading leaves them
-  pub answer : reader.Answer
+  pub answer : Result Accepted Refusal
   pub stores : Reads (rounded_in book l.file) (reading.reading book (room_of l) l.file) l l' head answer

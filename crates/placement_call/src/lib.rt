@@ -13,16 +13,13 @@ use noting::Noting;
 use placement_list::Answer;
 
 // Whether the room for the notes is short of what the file's commands need.
+#[tactic(auto, using(base::proofs::Or::joins), unfolding(crate::specs::Placement::is_tight_for))]
 fn is_tight(n: Noting, notes: &[u64], names: &[u64], roles: &[u64]) -> bool
     ensures { result ≡ is_tight_for (length notes.now) (length names.now) (length roles.now) n.operations n.settings n.apertures }
 {
-    base::either(
-        n.operations > notes.len() / notes::NOTE_WORDS,
-        base::either(
-            n.settings > names.len() / index::RECORD_WORDS,
-            n.apertures > roles.len() / index::RECORD_WORDS,
-        ),
-    )
+    n.operations > notes.len() / notes::NOTE_WORDS
+        || (n.settings > names.len() / index::RECORD_WORDS
+            || n.apertures > roles.len() / index::RECORD_WORDS)
 }
 
 // The list of a file that is read, in a room of zeros.
@@ -79,9 +76,7 @@ pub fn placement(
     mending::clear_bytes(out);
     let r = reader::read_as(book, file, head, e, a, m, numbers);
     match r {
-        reader::Answer::Refused { number, place } => placement_list::refused(number, place),
-        reader::Answer::Accepted { .. } => assemble(
-            book, file, head, e, a, notes, names, roles, pins, out,
-        ),
+        Err(sequence::Refusal { number, place }) => placement_list::refused(number, place),
+        Ok(_) => assemble(book, file, head, e, a, notes, names, roles, pins, out),
     }
 }

@@ -1,5 +1,6 @@
 -- The table of apertures as reading knows it: a number is found where the table has it, and with a record more all that stood stays.
 -- Assumes nothing.
+use Rattle.std.specs.Prelude.{Err, Ok, Result, ℕ}
 use Prim.Native.Nat.{ℕ, zero, suc, ◌+◌, ◌≤◌, ◌<◌}
 use mathlib.Core.Path.{◌≡◌, refl, sym, ap, ◌∙◌}
 use mathlib.Core.Bool.{Bool, true, false, cond}
@@ -12,8 +13,6 @@ use lib.ListN.{length}
 use Rattle.base.specs.Or.{◌or◌}
 use Rattle.base.specs.Run.{run}
 use Rattle.base.proofs.Tests.{eqb_agree}
-use Rattle.index.specs.declared.Search.{Search}
-use Rattle.index.specs.declared.Search.TheVariants.{At, Free}
 use Rattle.index.specs.First.{first_of}
 use Rattle.index.specs.Tree.{last_link}
 use Rattle.index.specs.Numbers.{number_of, numbered}
@@ -43,37 +42,37 @@ use Rattle.progress.proofs.Found.{is_found, Picked, first_picked}
 -- ---- found by number
 
 -- the record found is in use
-module _ (a : List ℕ) (used n i : ℕ) (at : numbered a used n ≡ At i) where
-  picked : Picked (λ i. eqb (number_of a i) n) used (At i)
+module _ (a : List ℕ) (used n i : ℕ) (at : numbered a used n ≡ Ok i) where
+  picked : Picked (λ i. eqb (number_of a i) n) used (Ok i)
   unfolding numbered
   picked = rw (zero-add used, at) at (first_picked (λ i. eqb (number_of a i) n) 0 used (last_link a used 0 n))
 
   pub at_below : i < used
   at_below = picked.0
 
-abbrev chosen_by : (ℕ → Aperture) → Search → Selected
-chosen_by f (At i) = selected i (f i)
-chosen_by f (Free l) = no_aperture
+abbrev chosen_by : (ℕ → Aperture) → Result ℕ ℕ → Selected
+chosen_by f (Ok i) = selected i (f i)
+chosen_by f (Err l) = no_aperture
 
 module _ (f : ℕ → Aperture) (is : ℕ → Bool) (n link : ℕ) (same : (i : ℕ) → is i ≡ eqb n (f i).number) where
-  taken_in_lem : (p k : ℕ) → is_taken n (run (λ i. f i ∷ []) p k) ≡ is_found (first_of is p k (Free link))
+  taken_in_lem : (p k : ℕ) → is_taken n (run (λ i. f i ∷ []) p k) ≡ is_found (first_of is p k (Err link))
   unfolding is_taken run first_of ◌or◌
   taken_in_lem p zero = refl
   taken_in_lem p (suc k) = rw (← same p) (go (is p) (taken_in_lem (suc p) k))
     where
-      go : (b : Bool) → is_taken n (run (λ i. f i ∷ []) (suc p) k) ≡ is_found (first_of is (suc p) k (Free link))
-          → (b or is_taken n (run (λ i. f i ∷ []) (suc p) k)) ≡ is_found (elim b [ true ↦ At p | false ↦ first_of is (suc p) k (Free link) ])
+      go : (b : Bool) → is_taken n (run (λ i. f i ∷ []) (suc p) k) ≡ is_found (first_of is (suc p) k (Err link))
+          → (b or is_taken n (run (λ i. f i ∷ []) (suc p) k)) ≡ is_found (elim b [ true ↦ Ok p | false ↦ first_of is (suc p) k (Err link) ])
       go true rest = refl
       go false rest = rest
 
-  chosen_in : (p k : ℕ) → aperture_from p n (run (λ i. f i ∷ []) p k) ≡ chosen_by f (first_of is p k (Free link))
+  chosen_in : (p k : ℕ) → aperture_from p n (run (λ i. f i ∷ []) p k) ≡ chosen_by f (first_of is p k (Err link))
   unfolding aperture_from run first_of
   chosen_in p zero = refl
   chosen_in p (suc k) = rw (← same p) (go (is p) (chosen_in (suc p) k))
     where
-      go : (b : Bool) → aperture_from (suc p) n (run (λ i. f i ∷ []) (suc p) k) ≡ chosen_by f (first_of is (suc p) k (Free link))
+      go : (b : Bool) → aperture_from (suc p) n (run (λ i. f i ∷ []) (suc p) k) ≡ chosen_by f (first_of is (suc p) k (Err link))
           → cond b (selected p (f p)) (aperture_from (suc p) n (run (λ i. f i ∷ []) (suc p) k))
-          ≡ chosen_by f (elim b [ true ↦ At p | false ↦ first_of is (suc p) k (Free link) ])
+          ≡ chosen_by f (elim b [ true ↦ Ok p | false ↦ first_of is (suc p) k (Err link) ])
       go true rest = refl
       go false rest = rest
 
@@ -95,16 +94,16 @@ module _ (a : List ℕ) (used : ℕ) (known : List Aperture) (t : ApertureTable 
   unfolding numbered aperture_with
   chosen_by_lem = ap (aperture_from 0 n) (sym t.records) ∙ chosen_in f (λ i. eqb (number_of a i) n) n _ same 0 used
 
-  pub taken_at_lem : (i : ℕ) → numbered a used n ≡ At i → is_taken n known ≡ true
+  pub taken_at_lem : (i : ℕ) → numbered a used n ≡ Ok i → is_taken n known ≡ true
   taken_at_lem i e = taken_by ∙ ap is_found e
 
-  pub taken_free : (link : ℕ) → numbered a used n ≡ Free link → is_taken n known ≡ false
+  pub taken_free : (link : ℕ) → numbered a used n ≡ Err link → is_taken n known ≡ false
   taken_free link e = taken_by ∙ ap is_found e
 
-  pub with_at : (i : ℕ) → numbered a used n ≡ At i → aperture_with n known ≡ selected i (as_read (aperture_of a i))
+  pub with_at : (i : ℕ) → numbered a used n ≡ Ok i → aperture_with n known ≡ selected i (as_read (aperture_of a i))
   with_at i e = chosen_by_lem ∙ ap (chosen_by f) e
 
-  pub with_free : (link : ℕ) → numbered a used n ≡ Free link → aperture_with n known ≡ no_aperture
+  pub with_free : (link : ℕ) → numbered a used n ≡ Err link → aperture_with n known ≡ no_aperture
   with_free link e = chosen_by_lem ∙ ap (chosen_by f) e
 
 -- as many as are in use
@@ -114,7 +113,7 @@ known_long a used known t = ap length (sym t.records) ∙ records_long (λ i. as
 -- ---- a record more
 
 module _ (a : List ℕ) (used : ℕ) (known : List Aperture) (t : ApertureTable a used known) (link : ℕ) (r : store.Aperture) (room : used < aperture_room a)
-    (free : numbered a used r.number ≡ Free link) where
+    (free : numbered a used r.number ≡ Err link) where
   abbrev a' : List ℕ
   a' = added a used link (aperture_words r)
 

@@ -1,6 +1,8 @@
 -- What the lent words and the progress hold of what reading knows between two commands (crates/law_reading), and the outcome of a step.
-use Rattle.std.specs.Prelude.{◌+◌, ◌^◌, ◌≤◌, ◌≡◌, true}
+use Rattle.std.specs.Prelude.{◌+◌, ◌^◌, ◌≤◌, ◌≡◌, true, Err, Ok, Result, ℕ}
 use Rattle.points.specs.Points.{Within}
+use Rattle.faults.specs.Rule.{number_of_rule}
+use Rattle.faults.specs.declared.Rule.{Rule}
 use Rattle.sheet.specs.Records.{entry_room}
 use Rattle.law_built_store.specs.Shown.{Shows}
 use Rattle.law_reading.specs.State.{Room, State}
@@ -11,8 +13,6 @@ use Rattle.progress.specs.Tables.{ApertureTable, MacroTable, NumberTable, Chosen
 use Rattle.progress.specs.Around.{Around}
 use Rattle.progress.specs.Contour.{Contour}
 use Rattle.progress.specs.declared.Progress.{Progress}
-use Rattle.progress.specs.declared.Stepped.{Stepped}
-use Rattle.progress.specs.declared.Stepped.TheVariants.{Next, Fault}
 use Rattle.progress.specs.declared.Struck.{Struck}
 use Rattle.progress.specs.declared.Struck.TheVariants as struck
 use Rattle.progress.specs.Strokes.{with_stroke}
@@ -40,19 +40,19 @@ pub record Known (lends : Lent → Type 0) (p : Progress) : Type 0 where
   pub is : lends lent
   pub knows : Knows lent p state
 
--- the step's number and what is known after it, or the number of its fault
-unfoldable pub Follows : (Progress → State → Type 0) → Step → Stepped → Type 0
-Follows K t (Next p) = (t.fault ≡ 0) × K p t.next
-Follows K t (Fault n) = (t.fault ≡ n) × (1 ≤ n)
+-- the step breaks no rule, and what is known after it; or the rule of its fault
+unfoldable pub Follows : (Progress → State → Type 0) → Step → Result Progress Rule → Type 0
+Follows K t (Ok p) = (t.fault ≡ 0) × K p t.next
+Follows K t (Err rule) = t.fault ≡ number_of_rule rule
 
 -- from p on, r is the outcome of the step, whatever true of what is lent reading knows; `left` is what is lent after it
-abbrev pub StepsTo : (Room → State → Step) → (Lent → Type 0) → (Lent → Lent) → Progress → Stepped → Type 0
+abbrev pub StepsTo : (Room → State → Step) → (Lent → Type 0) → (Lent → Lent) → Progress → Result Progress Rule → Type 0
 StepsTo step lends left p r = (w : Lent) (s : State) → lends w → Knows w p s → Follows (Knows (left w)) (step (room_of w) s) r
 
--- the same of an operation: the step's number and what is known after its stroke, or the number of its fault
+-- the same of an operation: it breaks no rule, and what is known after its stroke; or the rule of its fault
 unfoldable pub FollowsStroke : (Progress → State → Type 0) → Step → Progress → Struck → Type 0
-FollowsStroke K t p (struck.Next s) = Follows K t (Next (with_stroke s p))
-FollowsStroke K t p (struck.Fault n) = Follows K t (Fault n)
+FollowsStroke K t p (struck.Next s) = Follows K t (Ok (with_stroke s p))
+FollowsStroke K t p (struck.Fault rule) = Follows K t (Err rule)
 FollowsStroke K t p struck.Other = ⊥
 
 abbrev pub StrikesTo : (Room → State → Step) → (Lent → Type 0) → (Lent → Lent) → Progress → Struck → Type 0

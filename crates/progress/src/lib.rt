@@ -7,6 +7,7 @@ ghost use Rattle.progress.specs.Parts.{with_graphics, with_builder, with_contour
 ghost use Rattle.progress.specs.Strokes.{with_stroke};
 
 use build::Builder;
+use faults::Rule;
 use graphics::{Current, Graphics, Level, Region};
 use points::Point;
 
@@ -25,13 +26,6 @@ pub struct Progress {
     pub numbers: usize,
 }
 
-// The outcome of a command: how far reading has come after it, or the number of the first rule that it breaks.
-#[derive(Clone, Copy)]
-pub enum Stepped {
-    Next(Progress),
-    Fault(u64),
-}
-
 // What an operation changes: the current point, the region, how far the entries are built, and where on their stack the open contour
 // stands.
 #[derive(Clone, Copy)]
@@ -42,46 +36,47 @@ pub struct Stroke {
     pub contour: usize,
 }
 
-// The outcome of an operation: what it changes, or the number of the first rule that it breaks. `Other`: the command is no operation.
+// The outcome of an operation: what it changes, or the first rule that it breaks. `Other`: the command is no operation.
 #[derive(Clone, Copy)]
 pub enum Struck {
     Next(Stroke),
-    Fault(u64),
+    Fault(Rule),
     Other,
 }
 
 // What stands open innermost, told by the height of the container that is built.
+#[tactic(auto, unfolding(crate::specs::Levels::level_of, crate::specs::Levels::level_at))]
 pub fn level_of(p: Progress) -> Level
     ensures { result ≡ level_of p }
 {
     let h = p.builder.height;
     if h <= 8 {
-        return Level {
+        Level {
             inside: 1,
             items: p.builder.items,
             height: h,
             depth: p.depth,
             copies: 1,
             sheet: 0,
-        };
-    }
-    if h == 9 {
-        return Level {
+        }
+    } else if h == 9 {
+        Level {
             inside: 2,
             items: p.builder.items,
             height: 0,
             depth: p.depth,
             copies: p.copies,
             sheet: p.sheet,
-        };
-    }
-    Level {
-        inside: 0,
-        items: p.builder.items,
-        height: 0,
-        depth: p.depth,
-        copies: 1,
-        sheet: 0,
+        }
+    } else {
+        Level {
+            inside: 0,
+            items: p.builder.items,
+            height: 0,
+            depth: p.depth,
+            copies: 1,
+            sheet: 0,
+        }
     }
 }
 
@@ -89,166 +84,75 @@ pub fn level_of(p: Progress) -> Level
 pub fn with_graphics(g: Graphics, p: Progress) -> Progress
     ensures { result ≡ with_graphics g p }
 {
-    let builder = p.builder;
-    Progress {
-        graphics: g,
-        builder,
-        contour: p.contour,
-        depth: p.depth,
-        copies: p.copies,
-        sheet: p.sheet,
-        apertures: p.apertures,
-        macros: p.macros,
-        numbers: p.numbers,
-    }
+    Progress { graphics: g, ..p }
 }
 
 // With the entries built further.
 pub fn with_builder(b: Builder, p: Progress) -> Progress
     ensures { result ≡ with_builder b p }
 {
-    let graphics = p.graphics;
-    Progress {
-        graphics,
-        builder: b,
-        contour: p.contour,
-        depth: p.depth,
-        copies: p.copies,
-        sheet: p.sheet,
-        apertures: p.apertures,
-        macros: p.macros,
-        numbers: p.numbers,
-    }
+    Progress { builder: b, ..p }
 }
 
 // With a contour that stands there on the stack.
 pub fn with_contour(contour: usize, p: Progress) -> Progress
     ensures { result ≡ with_contour contour p }
 {
-    let graphics = p.graphics;
-    let builder = p.builder;
-    Progress {
-        graphics,
-        builder,
-        contour,
-        depth: p.depth,
-        copies: p.copies,
-        sheet: p.sheet,
-        apertures: p.apertures,
-        macros: p.macros,
-        numbers: p.numbers,
-    }
+    Progress { contour, ..p }
 }
 
 // With so many blocks open.
 pub fn with_depth(depth: u64, p: Progress) -> Progress
     ensures { result ≡ with_depth depth p }
 {
-    let graphics = p.graphics;
-    let builder = p.builder;
-    Progress {
-        graphics,
-        builder,
-        contour: p.contour,
-        depth,
-        copies: p.copies,
-        sheet: p.sheet,
-        apertures: p.apertures,
-        macros: p.macros,
-        numbers: p.numbers,
-    }
+    Progress { depth, ..p }
 }
 
 // With the copies of an open repeat, and the sheet's items before it.
 pub fn with_repeat(copies: u64, sheet: u64, p: Progress) -> Progress
     ensures { result ≡ with_repeat copies sheet p }
 {
-    let graphics = p.graphics;
-    let builder = p.builder;
-    Progress {
-        graphics,
-        builder,
-        contour: p.contour,
-        depth: p.depth,
-        copies,
-        sheet,
-        apertures: p.apertures,
-        macros: p.macros,
-        numbers: p.numbers,
-    }
+    Progress { copies, sheet, ..p }
 }
 
 // With so many apertures used.
 pub fn with_apertures(apertures: usize, p: Progress) -> Progress
     ensures { result ≡ with_apertures apertures p }
 {
-    let graphics = p.graphics;
-    let builder = p.builder;
-    Progress {
-        graphics,
-        builder,
-        contour: p.contour,
-        depth: p.depth,
-        copies: p.copies,
-        sheet: p.sheet,
-        apertures,
-        macros: p.macros,
-        numbers: p.numbers,
-    }
+    Progress { apertures, ..p }
 }
 
 // With so many macros used.
 pub fn with_macros(macros: usize, p: Progress) -> Progress
     ensures { result ≡ with_macros macros p }
 {
-    let graphics = p.graphics;
-    let builder = p.builder;
-    Progress {
-        graphics,
-        builder,
-        contour: p.contour,
-        depth: p.depth,
-        copies: p.copies,
-        sheet: p.sheet,
-        apertures: p.apertures,
-        macros,
-        numbers: p.numbers,
-    }
+    Progress { macros, ..p }
 }
 
 // With so many numbers used.
 pub fn with_numbers(numbers: usize, p: Progress) -> Progress
     ensures { result ≡ with_numbers numbers p }
 {
-    let graphics = p.graphics;
-    let builder = p.builder;
-    Progress {
-        graphics,
-        builder,
-        contour: p.contour,
-        depth: p.depth,
-        copies: p.copies,
-        sheet: p.sheet,
-        apertures: p.apertures,
-        macros: p.macros,
-        numbers,
-    }
+    Progress { numbers, ..p }
 }
 
 // After a stroke.
+#[tactic(auto, unfolding(graphics::specs::Graphics::with_point, graphics::specs::Graphics::with_region))]
 pub fn with_stroke(s: Stroke, p: Progress) -> Progress
     ensures { result ≡ with_stroke s p }
 {
-    let at = s.at;
-    let region = s.region;
-    let builder = s.builder;
-    let point = Current { set: true, at };
-    let mut g = p.graphics;
-    g.point = point;
-    g.region = region;
-    let mut q = p;
-    q.graphics = g;
-    q.builder = builder;
-    q.contour = s.contour;
-    q
+    let point = Current {
+        set: true,
+        at: s.at,
+    };
+    Progress {
+        graphics: Graphics {
+            point,
+            region: s.region,
+            ..p.graphics
+        },
+        builder: s.builder,
+        contour: s.contour,
+        ..p
+    }
 }

@@ -1,7 +1,7 @@
 -- The centre of an arc in single quadrant mode, where I and J have no signs (02, [9]; decision 480): "Of the distinct centres given by
 -- their signs, those off both ends whose arc in the drawn direction spans above 0 and at most 90 degrees are kept, and the one with the
 -- least difference between the squared start and end radii is taken"; none where no centre remains or two tie.
-use Rattle.std.specs.Prelude.{ℕ, Bool, not, cond, List, [], ◌∷◌, ℤ, pos, neg_ℤ, nat_abs, ◌-ℤ◌}
+use Rattle.std.specs.Prelude.{ℕ, Bool, not, cond, List, [], ◌∷◌, ℤ, pos, neg_ℤ, nat_abs, ◌-ℤ◌, None, Option, Some}
 use Rattle.std.specs.Int.Signed.{lt_z}
 use Rattle.base.specs.And.{◌and◌}
 use Rattle.ints.specs.Ints.{is_neg}
@@ -10,8 +10,6 @@ use Rattle.points.specs.declared.Point.{Point}
 use Rattle.reckon.specs.ArcCentre.{seen_from}
 use Rattle.quadrant.specs.Lists.{those, once, least}
 use Rattle.quadrant.specs.Vectors.{dot, cross}
-use Rattle.quadrant.specs.declared.Choice.{Choice}
-use Rattle.quadrant.specs.declared.Choice.TheVariants.{None, At}
 
 -- start + (±I, ±J)
 unfoldable pub four_centres : Point → ℕ → ℕ → List Point
@@ -39,11 +37,11 @@ unfoldable pub uneven : Point → Point → Point → ℕ
 uneven start end c = nat_abs (dot (seen_from c start) (seen_from c start) -ℤ dot (seen_from c end) (seen_from c end))
 
 -- the one there is
-unfoldable pub the_only : List Point → Choice
+unfoldable pub the_only : List Point → Option Point
 the_only [] = None
-the_only (c ∷ []) = At c
+the_only (c ∷ []) = Some c
 the_only (c ∷ d ∷ l) = None
 
-unfoldable pub chosen_centre : Point → Point → ℕ → ℕ → Bool → Choice
+unfoldable pub chosen_centre : Point → Point → ℕ → ℕ → Bool → Option Point
 chosen_centre start end i j clockwise =
     the_only (least (uneven start end) (those (kept clockwise start end) (once same_point (four_centres start i j))))

@@ -1,5 +1,6 @@
 -- The outcome of the call, by how the commands end.
 -- Assumes nothing.
+use Rattle.std.specs.Prelude.{None, Option, Some, ℕ, Result, Err, Ok}
 use Rattle.running.specs.Units.{unit_in}
 use Prim.Native.Nat.{ℕ, ◌+◌, ◌≤◌}
 use mathlib.Core.Path.{◌≡◌, refl, sym, ap, ◌∙◌, subst}
@@ -18,23 +19,17 @@ use Rattle.law_reading.specs.State.{begun}
 use Rattle.law_reading.specs.Reading.{Answer, refused, read_on, reading}
 use Rattle.progress.specs.Lent.{Lent, room_of, with_entries}
 use Rattle.progress.specs.declared.Progress.{Progress}
-use Rattle.reader.specs.declared.Answer.TheVariants as answer
-use Rattle.running.specs.declared.End.{End}
-use Rattle.running.specs.declared.End.TheVariants.{Sheet, Fault}
-use Rattle.running.specs.declared.Outcome.{Outcome}
-use Rattle.running.specs.declared.Outcome.TheVariants as outcome
-use Rattle.running.specs.declared.Repeat.{Repeat}
-use Rattle.running.specs.declared.Repeat.TheVariants as repeat
 use Rattle.running.specs.Ends.{Empty, walked, AsLong, answer_of, Sheeted, Ends, Comes}
 use Rattle.running.proofs.Runs.{same_room}
 use Rattle.reader.specs.Leaves.{Leaves}
 use Rattle.reader.specs.Reads.{Zeroed, Reads}
 use Rattle.reader.proofs.Sheeting.{leaves}
+use Rattle.running.specs.declared.Finished.{Finished}
 
 -- how often a run may ask yet
-abbrev pub looks_left : Repeat → ℕ
-looks_left repeat.Unknown = 1
-looks_left (repeat.At place) = 0
+abbrev pub looks_left : Option ℕ → ℕ
+looks_left None = 1
+looks_left (Some place) = 0
 
 -- filled with zeros to the length of another
 pub zeros_long : {A : Type 0} (z : A) (l l₀ : List A) → l ≡ replicate (length l₀) z → length l ≡ length l₀
@@ -67,12 +62,12 @@ unfolding answer_of
 same_answer book w₀ w f l = λ i. read_on (same_room w₀ w l i) (f i) (walked book (f i)).commands (walked book (f i)).fault (begun book)
 
 -- a run that ends, and one that asks
-pub came : (book : Book) (w₀ w₁ w₂ : Lent) (look : Repeat) (o : Outcome) {x : End} → w₁.file ≡ w₀.file → AsLong w₀ w₁ → Comes book (answer_of book w₁) w₂ look o → o ≡ outcome.Ends x →
+pub came : (book : Book) (w₀ w₁ w₂ : Lent) (look : Option ℕ) (o : Option (Result Finished Refusal)) {x : Result Finished Refusal} → w₁.file ≡ w₀.file → AsLong w₀ w₁ → Comes book (answer_of book w₁) w₂ look o → o ≡ Some x →
     Ends book (answer_of book w₀) w₂ x
 unfolding Comes
 came book w₀ w₁ w₂ look o {x} f l k q = subst (λ (a : Answer). Ends book a w₂ x) (same_answer book w₀ w₁ f l) (subst (Comes book (answer_of book w₁) w₂ look) q k)
 
-pub asks_first : (book : Book) (answer : Answer) (w : Lent) (look : Repeat) (o : Outcome) → Comes book answer w look o → o ≡ outcome.Asks → look ≡ repeat.Unknown
+pub asks_first : (book : Book) (answer : Answer) (w : Lent) (look : Option ℕ) (o : Option (Result Finished Refusal)) → Comes book answer w look o → o ≡ None → look ≡ None
 unfolding Comes
 asks_first book answer w look o k q = subst (Comes book answer w look) q k
 
@@ -89,17 +84,17 @@ reading_long : (book : Book) (w : Lent) → fits w.file ≡ false → reading bo
 unfolding reading commands_of read_on
 reading_long book w q = rw (q, commands_of)
 
-pub reads_long : (book : Book) (w w' : Lent) (head : List ℕ) → fits w.file ≡ false → Zeroed w w' head → Reads (rounded_in book w.file) (reading book (room_of w) w.file) w w' head (answer.Refused 1 0)
+pub reads_long : (book : Book) (w w' : Lent) (head : List ℕ) → fits w.file ≡ false → Zeroed w w' head → Reads (rounded_in book w.file) (reading book (room_of w) w.file) w w' head (Err (record { number = 1; place = 0 }))
 unfolding Reads
-reads_long book w w' head q z = subst (λ (x : Answer). Reads (rounded_in book w.file) x w w' head (answer.Refused 1 0)) (sym (reading_long book w q)) (refl, z)
+reads_long book w w' head q z = subst (λ (x : Answer). Reads (rounded_in book w.file) x w w' head (Err (record { number = 1; place = 0 }))) (sym (reading_long book w q)) (refl, z)
 
-module _ (book : Book) (w₀ w : Lent) (head : List ℕ) (r : End) (short : fits w₀.file ≡ true) (long : AsLong w₀ w) (ends : Ends book (answer_of book w₀) w r) where
+module _ (book : Book) (w₀ w : Lent) (head : List ℕ) (r : Result Finished Refusal) (short : fits w₀.file ≡ true) (long : AsLong w₀ w) (ends : Ends book (answer_of book w₀) w r) where
   -- a refusal, and every room cleared after it
-  pub reads_refused : {f : Refusal} (w' : Lent) → r ≡ Fault f → Zeroed w w' head → Reads (rounded_in book w₀.file) (reading book (room_of w₀) w₀.file) w₀ w' head (answer.Refused f.number f.place)
+  pub reads_refused : {f : Refusal} (w' : Lent) → r ≡ Err f → Zeroed w w' head → Reads (rounded_in book w₀.file) (reading book (room_of w₀) w₀.file) w₀ w' head (Err (record { number = f.number; place = f.place }))
   unfolding Ends Reads
   reads_refused {f} w' q z =
       let is : answer_of book w₀ ≡ refused f.number f.place = subst (Ends book (answer_of book w₀) w) q ends in
-      subst (λ (x : Answer). Reads (rounded_in book w₀.file) x w₀ w' head (answer.Refused f.number f.place)) (sym is ∙ reading_fits book w₀ short) (
+      subst (λ (x : Answer). Reads (rounded_in book w₀.file) x w₀ w' head (Err (record { number = f.number; place = f.place }))) (sym is ∙ reading_fits book w₀ short) (
         refl,
         record {
           head_is = z.head_is;
@@ -111,7 +106,7 @@ module _ (book : Book) (w₀ w : Lent) (head : List ℕ) (r : End) (short : fits
       )
 
   -- a sheet
-  module _ {p : Progress} {rounded : ℕ} (q : r ≡ Sheet p rounded) where
+  module _ {p : Progress} {rounded : ℕ} (q : r ≡ Ok (record { progress = p; rounded = rounded })) where
     sheeted : Sheeted book (answer_of book w₀) w p rounded
     unfolding Ends
     sheeted = subst (Ends book (answer_of book w₀) w) q ends
@@ -120,13 +115,13 @@ module _ (book : Book) (w₀ w : Lent) (head : List ℕ) (r : End) (short : fits
     sheet_fits = sheeted.knows.shows.fits
 
     pub reads_accepted : (e' : List ℕ) → w.file ≡ w₀.file → head ≡ head_of (unit_in p.graphics.header) p.builder p.apertures p.macros p.numbers →
-        Ended w.entries e' p.builder → Reads (rounded_in book w₀.file) (reading book (room_of w₀) w₀.file) w₀ (with_entries e' w) head (answer.Accepted (unit_in p.graphics.header) rounded)
+        Ended w.entries e' p.builder → Reads (rounded_in book w₀.file) (reading book (room_of w₀) w₀.file) w₀ (with_entries e' w) head (Ok (record { unit = unit_in p.graphics.header; rounded = rounded }))
     unfolding Reads with_entries
     reads_accepted e' file_is h ended =
         let s = sheeted in
         let all : rounded ≡ rounded_in book w₀.file = s.counted ∙ ap (λ (f : List ℕ). rounded_among (walked book f).commands) file_is ∙ rounded_fits book w₀.file short in
-        subst (λ (x : Answer). Reads (rounded_in book w₀.file) x w₀ (with_entries e' w) head (answer.Accepted (unit_in p.graphics.header) rounded)) (sym s.is ∙ reading_fits book w₀ short) (
-          (λ i. answer.Accepted (unit_in (s.knows.graphics i).header) (all i)),
+        subst (λ (x : Answer). Reads (rounded_in book w₀.file) x w₀ (with_entries e' w) head (Ok (record { unit = unit_in p.graphics.header; rounded = rounded }))) (sym s.is ∙ reading_fits book w₀ short) (
+          (λ i. Ok (record { unit = unit_in (s.knows.graphics i).header; rounded = all i })),
           record {
             entries_long = ended.as_long ∙ long.entries_long;
             apertures_long = long.apertures_long;

@@ -15,25 +15,14 @@ ghost use Rattle.reader.specs.Short.{short_of};
 
 use book::{Book, Edition, Letters};
 use progress::Progress;
-use running::{End, Outcome, Repeat};
+use running::Finished;
+use sequence::Refusal;
 
-// What a reading answers: the unit of the sheet, 1 mm or 2 inch, and how many decimals were rounded; or document 01's number and the
-// place.
+// What an accepted reading tells: the unit of the sheet, 1 mm or 2 inch, and how many decimals were rounded.
 #[derive(Clone, Copy)]
-pub enum Answer {
-    Accepted { unit: u64, rounded: usize },
-    Refused { number: u64, place: usize },
-}
-
-// Zeros in every number.
-fn clear_numbers(numbers: &mut [i64])
-    ensures { numbers.new ≡ replicate (length numbers.old) (pos 0) }
-{
-    let mut i: usize = 0;
-    while i < numbers.len() {
-        numbers[i] = 0;
-        i += 1;
-    }
+pub struct Accepted {
+    pub unit: u64,
+    pub rounded: usize,
 }
 
 // Zeros in every room.
@@ -43,10 +32,10 @@ pub fn clear(e: &mut [u64], a: &mut [u64], m: &mut [u64], numbers: &mut [i64])
         × (m.new ≡ replicate (length m.old) 0)
         × (numbers.new ≡ replicate (length numbers.old) (pos 0)) }
 {
-    base::clear(e);
-    base::clear(a);
-    base::clear(m);
-    clear_numbers(numbers);
+    e.fill(0);
+    a.fill(0);
+    m.fill(0);
+    numbers.fill(0);
 }
 
 // The commands of a file in order, over rooms that are cleared first. A reading that asks where a name is set twice is begun anew with
@@ -58,23 +47,23 @@ fn run_over(
     a: &mut [u64],
     m: &mut [u64],
     numbers: &mut [i64],
-) -> End
+) -> Result<Finished, Refusal>
     requires { fits file.now ≡ true }
     ensures { AsLong (lent_of file.now e.old a.old m.old numbers.old)
         (lent_of file.now e.new a.new m.new numbers.new)
         × Ends book (answer_of book (lent_of file.now e.old a.old m.old numbers.old))
         (lent_of file.now e.new a.new m.new numbers.new) result }
 {
-    let mut repeat = Repeat::Unknown;
+    let mut repeat = None;
     loop {
         clear(e, a, m, numbers);
         let r = running::run(book, file, e, a, m, numbers, repeat);
         match r {
-            Outcome::Ends(x) => {
+            Some(x) => {
                 return x;
             }
-            Outcome::Asks => {
-                repeat = Repeat::At(names::first_repeat(book, file, e));
+            None => {
+                repeat = Some(names::first_repeat(book, file, e));
             }
         }
     }
@@ -107,7 +96,7 @@ fn read_file(
     a: &mut [u64],
     m: &mut [u64],
     numbers: &mut [i64],
-) -> Answer
+) -> Result<Accepted, Refusal>
     requires head_value { head.old ≡ replicate 8 0 }
     requires file_value { fits file.now ≡ true }
     ensures { Reads (rounded_in book file.now) (reading book (room_of (lent_of file.now e.old a.old m.old numbers.old)) file.now)
@@ -116,20 +105,17 @@ fn read_file(
 {
     let r = run_over(book, file, e, a, m, numbers);
     match r {
-        End::Fault(f) => {
+        Err(f) => {
             clear(e, a, m, numbers);
-            Answer::Refused {
-                number: f.number,
-                place: f.place,
-            }
+            Err(f)
         }
-        End::Sheet { progress, rounded } => {
+        Ok(Finished { progress, rounded }) => {
             *head = finish(e, progress);
             let h = progress.graphics.header;
-            Answer::Accepted {
+            Ok(Accepted {
                 unit: running::unit_in(h),
                 rounded,
-            }
+            })
         }
     }
 }
@@ -144,7 +130,7 @@ pub fn read_as(
     a: &mut [u64],
     m: &mut [u64],
     numbers: &mut [i64],
-) -> Answer
+) -> Result<Accepted, Refusal>
     ensures { Reads (rounded_in book file.now) (reading book (room_of (lent_of file.now e.old a.old m.old numbers.old)) file.now)
         (lent_of file.now e.old a.old m.old numbers.old)
         (lent_of file.now e.new a.new m.new numbers.new) head.new result }
@@ -154,10 +140,10 @@ pub fn read_as(
         return read_file(book, file, head, e, a, m, numbers);
     }
     clear(e, a, m, numbers);
-    Answer::Refused {
+    Err(Refusal {
         number: 1,
         place: 0,
-    }
+    })
 }
 
 // The book of a reading that names no edition: the old one's.
@@ -166,7 +152,7 @@ pub fn short_of(letters: Letters) -> Book
 {
     Book {
         edition: Edition::Old,
-        letters: letters,
+        letters,
     }
 }
 
@@ -179,7 +165,7 @@ pub fn read(
     a: &mut [u64],
     m: &mut [u64],
     numbers: &mut [i64],
-) -> Answer
+) -> Result<Accepted, Refusal>
     ensures { Reads (rounded_in (short_of letters) file.now) (reading (short_of letters) (room_of (lent_of file.now e.old a.old m.old numbers.old)) file.now)
         (lent_of file.now e.old a.old m.old numbers.old)
         (lent_of file.now e.new a.new m.new numbers.new) head.new result }

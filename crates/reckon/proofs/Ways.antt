@@ -1,14 +1,13 @@
 -- The way from one number to another, by its size and its sign, so that whoever needs it needs no number that holds it.
 -- Assumes nothing.
-use Prim.Native.Nat.{ℕ, zero, suc, ◌+◌, ◌-◌, ◌^◌, ◌≤◌, ◌<◌}
+use Prim.Native.Nat.{ℕ, zero, suc, ◌-◌}
 use mathlib.Core.Path.{◌≡◌, refl, sym, ap, ◌∙◌}
-use mathlib.Core.Bool.{Bool, true, false, not, cond, beq, false≢true}
-use native.Mathlib.Nat.{zero-add, sub-zero}
+use mathlib.Core.Bool.{Bool, true, false, not, cond, beq}
 use native.Mathlib.Omega.{arith}
 use lib.Dec.{ltb, eqb, eqb-suc-zero}
 use lib.IntN.{ℤ, pos, negsuc, neg_ℤ, nat_abs, sub_ℕ, ◌+ℤ◌, ◌-ℤ◌, +ℤ_idr, +ℤ_comm, +ℤ_assoc, neg_ℤ-+ℤ, +ℤ-neg_ℤ_cancel, -ℤ-+ℤ_cancel}
-use lib.Signed.{mag, lt_z}
-use borrow.Author.Tests.{lt-ltb, le-ltb, ltb-true, ltb-false}
+use lib.Signed.{lt_z}
+use borrow.Author.Tests.{lt-ltb, le-ltb}
 use Rattle.base.specs.And.{◌and◌}
 use Rattle.base.specs.Or.{◌or◌}
 use Rattle.base.proofs.And.{and_true, and_false}
@@ -16,52 +15,8 @@ use Rattle.base.proofs.Tests.{ltb_agree}
 use Rattle.ints.specs.Ints.{is_neg}
 use Rattle.points.specs.Points.{pt, shift}
 use Rattle.points.specs.declared.Point.{Point}
+use Rattle.reckon.proofs.Signs.{signs}
 use Rattle.reckon.specs.ArcCentre.{seen_from, between}
-
--- ---- how large it is
-
-size_below : (m n : ℕ) → m ≤ n → nat_abs (sub_ℕ m n) ≡ n - m
-size_below m n h = by_test (ltb m n) refl
-  where
-    by_test : (t : Bool) → ltb m n ≡ t → nat_abs (cond t (negsuc (n - suc m)) (pos (m - n))) ≡ n - m
-    by_test true e = let k = ltb-true m n e in omega arith
-    by_test false e = let k = ltb-false m n e in omega arith
-
-size_above : (m n : ℕ) → n ≤ m → nat_abs (sub_ℕ m n) ≡ m - n
-size_above m n h = rw (le-ltb m n h) refl
-
--- on two sides of zero
-pub apart : (a b : ℤ) → not (beq (is_neg a) (is_neg b)) ≡ true → nat_abs a + nat_abs b ≡ nat_abs (b -ℤ a)
-unfolding is_neg
-apart (pos a) (pos b) e = cc
-apart (pos zero) (negsuc b) e = zero-add (suc b) ∙ sym (size_below 0 (suc b) (omega arith) ∙ sub-zero (suc b))
-apart (pos (suc a)) (negsuc b) e = omega arith
-apart (negsuc a) (pos b) e = omega arith
-apart (negsuc a) (negsuc b) e = cc
-
-pub apart_fits : (a b : ℤ) → not (beq (is_neg a) (is_neg b)) ≡ true → mag a < 2 ^ 63 → mag b < 2 ^ 63 → nat_abs a + nat_abs b < 2 ^ 64
-unfolding is_neg
-apart_fits (pos a) (pos b) e f g = absurd (false≢true e)
-apart_fits (pos a) (negsuc b) e f g = omega arith
-apart_fits (negsuc a) (pos b) e f g = omega arith
-apart_fits (negsuc a) (negsuc b) e f g = absurd (false≢true e)
-
--- on one side
-pub beyond : (a b : ℤ) → not (beq (is_neg a) (is_neg b)) ≡ false → nat_abs a ≤ nat_abs b → nat_abs b - nat_abs a ≡ nat_abs (b -ℤ a)
-unfolding is_neg
-beyond (pos zero) (pos b) e h = omega arith
-beyond (pos (suc a)) (pos b) e h = sym (size_above b (suc a) h)
-beyond (pos a) (negsuc b) e h = cc
-beyond (negsuc a) (pos b) e h = cc
-beyond (negsuc a) (negsuc b) e h = sym (size_below (suc a) (suc b) h)
-
-pub behind : (a b : ℤ) → not (beq (is_neg a) (is_neg b)) ≡ false → nat_abs b ≤ nat_abs a → nat_abs a - nat_abs b ≡ nat_abs (b -ℤ a)
-unfolding is_neg
-behind (pos zero) (pos b) e h = omega arith
-behind (pos (suc a)) (pos b) e h = sym (size_below b (suc a) h)
-behind (pos a) (negsuc b) e h = cc
-behind (negsuc a) (pos b) e h = cc
-behind (negsuc a) (negsuc b) e h = sym (size_above (suc a) (suc b) h)
 
 -- ---- which way it goes
 
@@ -138,6 +93,12 @@ between_ways a b o =
     sym (between_zero (b -ℤ a) o)
     ∙ sym (shifted_between a (pos 0) (b -ℤ a) o)
     ∙ (λ i. between (+ℤ_idr a i) ((+ℤ_comm a (b -ℤ a) ∙ -ℤ-+ℤ_cancel b a) i) (a +ℤ o))
+
+-- the same the other way round
+pub between_is : (a b o : ℤ) → between a b (a +ℤ o) ≡ (not (eqb (nat_abs o) 0) and ltb (nat_abs o) (nat_abs (b -ℤ a)) and beq (is_neg o) (is_neg (b -ℤ a)))
+between_is a b o = sym (between_ways a b o)
+
+pub ruleset ways = (signs, below_way, between_is)
 
 -- ---- of points
 

@@ -1,5 +1,6 @@
 -- Worked examples of document 01's form rules and of the old book's, by computation.
 -- Assumes nothing.
+use Rattle.std.specs.Prelude.{None, Some}
 use Prim.Native.String.{String}
 use mathlib.Core.Path.{◌≡◌, refl}
 use mathlib.Core.Bool.{true, false}
@@ -33,8 +34,6 @@ use Rattle.films.specs.Parameters.{is_refused}
 use Rattle.films.specs.Words as film-words
 use Rattle.command.specs.Numbers.{judged, in_range, sized_as}
 use Rattle.command.specs.Span.{span}
-use Rattle.command.specs.declared.Axis.TheVariants as axis
-use Rattle.command.specs.declared.Offset.TheVariants as offset
 use Rattle.command.specs.declared.Command.{Command}
 use Rattle.command.specs.declared.Command.TheVariants.{Note, End, Set, Operate, Coded, Select, Define, Contain, Attribute}
 use Rattle.command.specs.declared.Setting.TheVariants.{Linear, RegionEnd, Incremental, Halt, Format, Rotation, Scale}
@@ -82,8 +81,8 @@ abbrev known : List (Kind × String × Command)
 known =
     (Word, "G04any, thing", Note)
     ∷ (Word, "D010", Select 10)
-    ∷ (Word, "D01", Operate (Draw axis.Missing axis.Missing offset.Missing))
-    ∷ (Word, "X1Y-2I3J4D01", Operate (Draw (axis.At (pos 1)) (axis.At (negsuc 1)) (offset.By (pt (pos 3) (pos 4)) false)))
+    ∷ (Word, "D01", Operate (Draw None None None))
+    ∷ (Word, "X1Y-2I3J4D01", Operate (Draw (Some (pos 1)) (Some (negsuc 1)) (Some (record { offset = pt (pos 3) (pos 4); signed = false }))))
     ∷ (Word, "X0000000001D01", flaws.too_long)
     ∷ (Extended, "FSLAX36Y36*", Set (Format (newer 3)))
     ∷ (Extended, "LS.5*\r\n", Set (Scale (record { millionths = pos 500000 }) 0))
@@ -110,9 +109,9 @@ films =
     ∷ (Word, "M0", Set Halt)
     ∷ (Word, "M2", End)
     ∷ (Word, "G91", Set Incremental)
-    ∷ (Word, "X1Y-15I+5J0D1", Operate (Draw (axis.At (pos 10000000)) (axis.At (negsuc 14999999)) (offset.By (pt (pos 50000000) (pos 0)) true)))
-    ∷ (Word, "G1X1Y1D2", Coded Linear (Move (axis.At (pos 10000000)) (axis.At (pos 10000000))))
-    ∷ (Word, "G37D01", Coded RegionEnd (Draw axis.Missing axis.Missing offset.Missing))
+    ∷ (Word, "X1Y-15I+5J0D1", Operate (Draw (Some (pos 10000000)) (Some (negsuc 14999999)) (Some (record { offset = pt (pos 50000000) (pos 0); signed = true }))))
+    ∷ (Word, "G1X1Y1D2", Coded Linear (Move (Some (pos 10000000)) (Some (pos 10000000))))
+    ∷ (Word, "G37D01", Coded RegionEnd (Draw None None None))
     ∷ (Word, "G1X100000D2", flaws.too_long)
     ∷ (Word, "G40", flaws.not_form)
     ∷ (Word, "G54", flaws.not_form)

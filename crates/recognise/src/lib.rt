@@ -10,26 +10,23 @@ use formats::Format;
 use scan::Kind;
 
 // The text up to its first `*` is its only data block.
+#[tactic(auto, using(base::proofs::Or::joins), unfolding(crate::specs::Commands::one_block))]
 fn is_one_block(s: &[u8], star: usize) -> bool
     ensures { result ≡ one_block s.now star }
 {
-    if star < s.len() {
-        return s.len() <= text::past_breaks(s, star + 1);
-    }
-    false
+    star < s.len() && s.len() <= text::past_breaks(s, star + 1)
 }
 
 // A data block that the old edition has, and that is not read (30).
+#[tactic(auto, using(base::proofs::Or::joins), unfolding(crate::specs::Commands::is_unread))]
 fn is_unread(book: Book, s: &[u8]) -> bool
     ensures { result ≡ is_unread book s.now }
 {
-    if book::is_old(book) {
-        return films::is_refused(s);
-    }
-    false
+    book::is_old(book) && films::is_refused(s)
 }
 
 // A data block that is read, without its `*`.
+#[tactic(auto, unfolding(base::specs::Choose::pick, crate::specs::Commands::data_of))]
 fn data_of(book: Book, s: &[u8]) -> Command
     ensures { result ≡ data_of book s.now }
 {
@@ -58,6 +55,7 @@ fn data_of(book: Book, s: &[u8]) -> Command
 }
 
 // A data block, without its `*`.
+#[tactic(auto, unfolding(base::specs::Choose::pick, crate::specs::Commands::data_in))]
 fn data_in(book: Book, s: &[u8]) -> Command
     ensures { result ≡ data_in book s.now }
 {
@@ -68,6 +66,7 @@ fn data_in(book: Book, s: &[u8]) -> Command
 }
 
 // An extended command but AM.
+#[tactic(auto, unfolding(base::specs::Choose::pick, crate::specs::Commands::extended_of))]
 fn extended_of(book: Book, s: &[u8]) -> Command
     ensures { result ≡ extended_of book s.now }
 {
@@ -79,6 +78,7 @@ fn extended_of(book: Book, s: &[u8]) -> Command
 }
 
 // The command of this kind with this text, as scan gives them, by the edition of the book; the format is that of FS.
+#[tactic(auto, unfolding(crate::specs::Commands::command_of))]
 pub fn command_of(book: Book, format: Format, kind: Kind, s: &[u8]) -> Command
     ensures { result ≡ command_of book format kind s.now }
 {

@@ -1,12 +1,9 @@
 -- Names kept in two words each (decision 532): in the halves of the first, where a name begins and ends in the file; in those of the second,
 -- the record that the search leads on to, low and high. They stand for records of eight words, in which a search is defined (decision 209).
-use Rattle.std.specs.Prelude.{ℕ, ◌+◌, ◌*◌, ◌/◌, ◌%◌, Bool, true, false, List, [], ◌∷◌, length, get_or}
+use Rattle.std.specs.Prelude.{ℕ, ◌+◌, ◌*◌, ◌/◌, ◌%◌, Bool, true, false, List, [], ◌∷◌, length, get_or, Err, Ok, Result}
 use Rattle.base.specs.Run.{run}
-use Rattle.index.specs.declared.Search.{Search}
-use Rattle.index.specs.declared.Search.TheVariants as search
 use Rattle.index.specs.Tree.{link_word}
-use Rattle.register.specs.declared.Found.{Found}
-use Rattle.register.specs.declared.Found.TheVariants.{At, Free}
+use Rattle.register.specs.declared.Free.{Free}
 
 -- 2^32
 abbrev pub half : ℕ
@@ -36,11 +33,11 @@ relinked true links new = links / half * half + new
 relinked false links new = new * half + links % half
 
 -- the outcome of a search, as `index` tells it
-unfoldable pub search_of : Found → Search
-search_of (At i) = search.At i
-search_of (Free at high) = search.Free (link_word at high)
+unfoldable pub search_of : Result ℕ Free → Result ℕ ℕ
+search_of (Ok i) = Ok i
+search_of (Err l) = Err (link_word l.at l.high)
 
 -- the record that it names
-unfoldable pub record_of : Found → ℕ
-record_of (At i) = i
-record_of (Free at high) = at
+unfoldable pub record_of : Result ℕ Free → ℕ
+record_of (Ok i) = i
+record_of (Err l) = l.at

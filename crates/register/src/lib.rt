@@ -12,11 +12,11 @@ ghost use Rattle.register.specs.Wide.{wide, name_words, relinked, search_of, rec
 // The words of a name.
 const NAME_WORDS: usize = 2;
 
-// The outcome of a search: the record sought, or the record whose link, high or low, is to lead to a new one.
+// The record whose link, high or low, is to lead to a new one.
 #[derive(Clone, Copy)]
-pub enum Found {
-    At(usize),
-    Free { at: usize, high: bool },
+pub struct Free {
+    pub at: usize,
+    pub high: bool,
 }
 
 // The halves of a word.
@@ -58,34 +58,31 @@ fn has_name(file: &[u8], s: &[u64], i: usize, from: usize, to: usize) -> bool
     ensures { result ≡ same_bytes (name_of file.now (wide s.now) i) (slice from to file.now) }
 {
     let name = base::word_at(s, i * NAME_WORDS);
-    base::rest_is(
-        base::part(file, upper(name), lower(name)),
-        0,
-        base::part(file, from, to),
-    )
+    base::part(file, upper(name), lower(name)) == base::part(file, from, to)
 }
 
 // The record, of the first `used`, that has the name file[from..to].
-pub fn find(file: &[u8], s: &[u64], used: usize, from: usize, to: usize) -> Found
+pub fn find(file: &[u8], s: &[u64], used: usize, from: usize, to: usize) -> Result<usize, Free>
     requires { Named file.now (wide s.now) used × (from ≤ to) × (to ≤ length file.now) }
     ensures { (search_of result ≡ named file.now (wide s.now) used (slice from to file.now)) × (record_of result ≤ used) }
 {
     let mut d: usize = 0;
     let mut high = index::name_bit(file, from, to, d);
     if used == 0 {
-        return Found::Free { at: 0, high };
+        return Err(Free { at: 0, high });
     }
     let mut at: usize = 0;
+    // Each record says by a link which comes next: no iterator walks so.
     while !has_name(file, s, at, from, to) {
         let next = led(s, at, high);
         if next == 0 {
-            return Found::Free { at, high };
+            return Err(Free { at, high });
         }
         d += 1;
         at = next;
         high = index::name_bit(file, from, to, d);
     }
-    Found::At(at)
+    Ok(at)
 }
 
 // Has a link of record i lead to record `new`.

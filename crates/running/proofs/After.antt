@@ -1,5 +1,6 @@
 -- What a step leaves of the unit and of the names that TF has set.
 -- Assumes nothing.
+use Rattle.std.specs.Prelude.{None, Option, Some}
 use Rattle.running.specs.Units.{unit_in}
 use Rattle.base.specs.Choose.{pick}
 use lib.Dec.{eqb}
@@ -27,11 +28,10 @@ use Rattle.graphics.specs.declared.Graphics.{Graphics}
 use Rattle.changes.specs.After.{after_setting, after_operation, after, going_to, with_format, with_unit, with_coded}
 use Rattle.command_rules.specs.Rules.{file_attribute_fault}
 use Rattle.names.specs.Sets.{sets_by, sets_of}
-use Rattle.names.specs.declared.Sets.{Sets}
-use Rattle.names.specs.declared.Sets.TheVariants.{Nothing, Name}
 use Rattle.law_reading.specs.State as opened
 use Rattle.law_reading.specs.State.{Room, Opened, State}
 use Rattle.law_reading.specs.Apertures.{is_among}
+use Rattle.command.specs.declared.Span.{Span}
 use Rattle.law_reading.specs.Steps.{
   passed,
   with_graphics,
@@ -121,9 +121,9 @@ unit_set (setting.Rotation a rounded) g h = h
 unit_set (setting.Scale a rounded) g h = h
 
 -- the names after a command with this text that is no fault: TF sets a new one
-unfoldable pub Named : List ℕ → List (List ℕ) → List (List ℕ) → Sets → Type 0
-Named t names names' Nothing = names' ≡ names
-Named t names names' (Name name) = (names' ≡ part t name ∷ names) × (is_among (part t name) names ≡ false)
+unfoldable pub Named : List ℕ → List (List ℕ) → List (List ℕ) → Option Span → Type 0
+Named t names names' None = names' ≡ names
+Named t names names' (Some name) = (names' ≡ part t name ∷ names) × (is_among (part t name) names ≡ false)
 
 module _ (room : Room) (t : List ℕ) (p : ℕ) where
   unit_operated : (o : Operation) (s : State) → UnitGiven s.graphics → UnitGiven (operation_step room p o s).next.graphics

@@ -1,5 +1,9 @@
 -- The reading of a file command by command: what is known at a place leads to the answer of the whole.
 -- Assumes nothing.
+use Rattle.faults.proofs.Rules.{above_none}
+use Rattle.faults.specs.Rule.{number_of_rule}
+use Rattle.faults.specs.declared.Rule.{Rule}
+use Rattle.std.specs.Prelude.{Err, Ok, Result, ℕ, None}
 use Rattle.formats.specs.declared.Format.{Format}
 use Prim.Native.Nat.{ℕ, ◌+◌, ◌≤◌}
 use mathlib.Core.Path.{◌≡◌, refl, sym, ap, ◌∙◌, subst}
@@ -28,12 +32,8 @@ use Rattle.law_reading.specs.Reading.{Answer, accepted, refused, step_at, read_o
 use Rattle.progress.specs.Lent.{Lent}
 use Rattle.progress.specs.Knows.{Knows, Follows}
 use Rattle.progress.specs.declared.Progress.{Progress}
-use Rattle.progress.specs.declared.Stepped.{Stepped}
-use Rattle.progress.specs.declared.Stepped.TheVariants.{Next, Fault}
 use Rattle.steps.specs.Coded.{held_in}
-use Rattle.steps.specs.declared.Held.TheVariants.{Nothing}
 use Rattle.steps.specs.Steps.{Sound, Again}
-use Rattle.running.specs.declared.End.TheVariants as end
 use Rattle.running.specs.Ends.{settled, Ends}
 use Rattle.running.proofs.Turns.{SoundTurn, turn_sound}
 use Rattle.running.proofs.After.{UnitGiven, unit_low, unit_after}
@@ -89,7 +89,7 @@ module _ (book : Book) (file : List ℕ) (room : Room) (answer : Answer) (w : Le
     pub last_sound : Sound file c
     last_sound = last_says.0
 
-    pub last_none : held_in c.command ≡ Nothing
+    pub last_none : held_in c.command ≡ None
     unfolding held_in
     last_none = ap held_in last_says.1
 
@@ -108,15 +108,15 @@ module _ (book : Book) (file : List ℕ) (room : Room) (answer : Answer) (w : Le
     unfolding step_of
     end_fault_lem = ap (λ k. (step_of room (slice c.from c.end file) c.place k s).fault) last_says.1
 
-    pub ends : (w' : Lent) (x : Stepped) → w'.file ≡ file → Follows (Knows w') (step_at room file c s) x → Ends book answer w' (settled x c.place (tail_fault (tail_of file next)) rounded)
+    pub ends : (w' : Lent) (x : Result Progress Rule) → w'.file ≡ file → Follows (Knows w') (step_at room file c s) x → Ends book answer w' (settled x c.place (tail_fault (tail_of file next)) rounded)
     unfolding Follows settled Ends
-    ends w' (Fault k) same (q, l) = read_refuses room file c [] (tail_fault (tail_of file next)) s answer k leads_last q l
-    ends w' (Next p') same (q, k) = go (eqb (tail_fault (tail_of file next)).number 0) refl
+    ends w' (Err rule) same q = read_refuses room file c [] (tail_fault (tail_of file next)) s answer (number_of_rule rule) leads_last q (above_none rule)
+    ends w' (Ok p') same (q, k) = go (eqb (tail_fault (tail_of file next)).number 0) refl
       where
         goes : read_on room file [] (tail_fault (tail_of file next)) s ≡ answer
         goes = rw same_state at (read_goes room file c [] (tail_fault (tail_of file next)) s answer leads_last q)
 
-        go : (t : Bool) → eqb (tail_fault (tail_of file next)).number 0 ≡ t → Ends book answer w' (elim t [ true ↦ end.Sheet p' rounded | false ↦ end.Fault (tail_fault (tail_of file next)) ])
+        go : (t : Bool) → eqb (tail_fault (tail_of file next)).number 0 ≡ t → Ends book answer w' (elim t [ true ↦ Ok (record { progress = p'; rounded = rounded }) | false ↦ Err (tail_fault (tail_of file next)) ])
         go true z = record {
           state = s;
           is = read_accepts room file (tail_fault (tail_of file next)) s answer goes z;
@@ -145,12 +145,12 @@ module _ (book : Book) (file : List ℕ) (room : Room) (answer : Answer) (w : Le
     leads_more : read_on room file (c ∷ (walk book m file next).commands) (walk book m file next).fault s ≡ answer
     leads_more = rw (walk_more book n file at r.within e) at r.leads
 
-    pub refuses : (w' : Lent) (k : ℕ) → Follows (Knows w') (step_at room file c s) (Fault k) → answer ≡ refused k c.place
+    pub refuses : (w' : Lent) (rule : Rule) → Follows (Knows w') (step_at room file c s) (Err rule) → answer ≡ refused (number_of_rule rule) c.place
     unfolding Follows
-    refuses w' k (q, l) = read_refuses room file c (walk book m file next).commands (walk book m file next).fault s answer k leads_more q l
+    refuses w' rule q = read_refuses room file c (walk book m file next).commands (walk book m file next).fault s answer (number_of_rule rule) leads_more q (above_none rule)
 
     pub goes : {more : ℕ} (w' : Lent) (p' : Progress) → ((step_at room file c s).fault ≡ 0 → NamesAt book file next more (step_at room file c s).next.names) →
-        Follows (Knows w') (step_at room file c s) (Next p') → Running book file room answer w' p' m next more (rounded + rounded_of c.command) (step_at room file c s).next
+        Follows (Knows w') (step_at room file c s) (Ok p') → Running book file room answer w' p' m next more (rounded + rounded_of c.command) (step_at room file c s).next
     unfolding Follows
     goes w' p' named (q, k) = record {
       within = (more_onward book n file at r.within e).1;

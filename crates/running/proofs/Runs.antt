@@ -1,5 +1,8 @@
 -- The loop over the commands: what holds at each turn, and where each way out of it leads.
 -- Assumes nothing.
+use Rattle.faults.specs.Rule.{number_of_rule}
+use Rattle.faults.specs.declared.Rule.{Rule}
+use Rattle.std.specs.Prelude.{None, Err, Ok, Result, ℕ, Option, Some}
 use Rattle.formats.specs.Format.{no_format}
 use Rattle.formats.specs.declared.Format.{Format}
 use Prim.Native.Nat.{ℕ, ◌+◌, ◌<◌, ◌≤◌}
@@ -16,7 +19,6 @@ use Rattle.command.specs.Rounded.{rounded_of}
 use Rattle.command.specs.declared.Command.{Command}
 use Rattle.command.specs.declared.Command.TheVariants as command
 use Rattle.names.specs.Sets.{sets_of}
-use Rattle.names.specs.declared.Sets.TheVariants as sets
 use Rattle.sequence.specs.Turns.{turn_of, tail_fault}
 use Rattle.sequence.specs.declared.Placed.{Placed}
 use Rattle.sequence.specs.declared.Refusal.{Refusal}
@@ -32,17 +34,11 @@ use Rattle.progress.specs.declared.Struck.TheVariants as struck
 use Rattle.progress.specs.declared.Struck.TheVariants.{Other}
 use Rattle.progress.specs.Knows.{Knows, Known, Follows}
 use Rattle.progress.specs.declared.Progress.{Progress}
-use Rattle.progress.specs.declared.Stepped.{Stepped}
-use Rattle.progress.specs.declared.Stepped.TheVariants.{Next, Fault}
 use Rattle.steps.specs.Steps.{Sound, Again, Reads, Operates}
 use Rattle.steps.specs.Coded.{held_in, code_fault, behind_code}
-use Rattle.steps.specs.declared.Held.TheVariants.{Nothing}
 use Rattle.steps.proofs.Arms.{known_of, same_entries}
 use Rattle.steps.proofs.Coded.{known_behind}
 use Rattle.steps.proofs.Strokes.{operated_none, operated_some, behind_none, stepped_by, strikes}
-use Rattle.running.specs.declared.Judged.TheVariants.{Told, Asks}
-use Rattle.running.specs.declared.Repeat.{Repeat}
-use Rattle.running.specs.declared.Repeat.TheVariants as repeat
 use Rattle.running.specs.Ends.{start, Empty, AsLong, answer_of, settled, Ends, Looked}
 use Rattle.running.specs.Judged.{judged_as, judged_of}
 use Rattle.running.proofs.Begun.{knows_start}
@@ -96,7 +92,7 @@ module _ (book : Book) (file : List ℕ) (w₀ w : Lent) (p : Progress) (n : For
   runs_stops e = stops book file (room_of w₀) (answer_of book w₀) w p n at set rounded r.state r.running e
 
   -- a step that is right for what is known
-  follows : (w' : Lent) (c : Placed) (again : Bool) (x : Stepped) → Reads w w' p c again x → Again file c again r.state → Follows (Knows w') (step_at (room_of w₀) file c r.state) x
+  follows : (w' : Lent) (c : Placed) (again : Bool) (x : Result Progress Rule) → Reads w w' p c again x → Again file c again r.state → Follows (Knows w') (step_at (room_of w₀) file c r.state) x
   follows w' c again x step told =
       subst (λ (f : List ℕ). Follows (Knows w') (step_at (room_of w₀) f c r.state) x) r.file_is
       (subst (λ (m : Room). Follows (Knows w') (step_at m w.file c r.state) x) (same_room w₀ w r.long)
@@ -106,10 +102,10 @@ module _ (book : Book) (file : List ℕ) (w₀ w : Lent) (p : Progress) (n : For
     pub sound_last : Sound file c
     sound_last = last_sound book file (room_of w₀) (answer_of book w₀) w p n at set rounded r.state r.running e
 
-    pub held_last : held_in c.command ≡ Nothing
+    pub held_last : held_in c.command ≡ None
     held_last = last_none book file (room_of w₀) (answer_of book w₀) w p n at set rounded r.state r.running e
 
-    pub runs_ends : (w' : Lent) (again : Bool) (x : Stepped) → w'.file ≡ file → Reads w w' p c again x → Ends book (answer_of book w₀) w' (settled x c.place (tail_fault (tail_of file next)) rounded)
+    pub runs_ends : (w' : Lent) (again : Bool) (x : Result Progress Rule) → w'.file ≡ file → Reads w w' p c again x → Ends book (answer_of book w₀) w' (settled x c.place (tail_fault (tail_of file next)) rounded)
     runs_ends w' again x same step =
         ends book file (room_of w₀) (answer_of book w₀) w p n at set rounded r.state r.running e w' x same
         (follows w' c again x step (last_again book file (room_of w₀) (answer_of book w₀) w p n at set rounded r.state r.running e again))
@@ -124,11 +120,11 @@ module _ (book : Book) (file : List ℕ) (w₀ w : Lent) (p : Progress) (n : For
     pub runs_few : set < length file
     runs_few = names_few book n file at set r.state.names r.running.within r.running.names e
 
-    module _ (look : Repeat) (l : Looked book file look) where
-      pub runs_asks : judged_of book file c set look ≡ Asks → look ≡ repeat.Unknown
+    module _ (look : Option ℕ) (l : Looked book file look) where
+      pub runs_asks : judged_of book file c set look ≡ None → look ≡ None
       runs_asks j = asks book n file at set r.state.names r.running.within r.running.names e look l j
 
-      module _ {again : Bool} {more : ℕ} (j : judged_of book file c set look ≡ Told again more) (w' : Lent) (x : Stepped) (step : Reads w w' p c again x) where
+      module _ {again : Bool} {more : ℕ} (j : judged_of book file c set look ≡ Some (record { again = again; set = more })) (w' : Lent) (x : Result Progress Rule) (step : Reads w w' p c again x) where
         more_follows : Follows (Knows w') (step_at (room_of w₀) file c r.state) x
         more_follows = follows w' c again x step (told_again book n file at set r.state.names r.running.within r.running.names e look l j r.state refl)
 
@@ -137,11 +133,11 @@ module _ (book : Book) (file : List ℕ) (w₀ w : Lent) (p : Progress) (n : For
             names_on book n file at set r.state.names r.running.within r.running.names e look l j _
             (names_after (room_of w₀) (slice c.from c.end file) c.place c.command r.state q)
 
-        pub runs_refuses : {k : ℕ} → x ≡ Fault k → answer_of book w₀ ≡ refused k c.place
-        runs_refuses {k} q =
-            refuses book file (room_of w₀) (answer_of book w₀) w p n at set rounded r.state r.running e w' k (subst (Follows (Knows w') (step_at (room_of w₀) file c r.state)) q more_follows)
+        pub runs_refuses : {rule : Rule} → x ≡ Err rule → answer_of book w₀ ≡ refused (number_of_rule rule) c.place
+        runs_refuses {rule} q =
+            refuses book file (room_of w₀) (answer_of book w₀) w p n at set rounded r.state r.running e w' rule (subst (Follows (Knows w') (step_at (room_of w₀) file c r.state)) q more_follows)
 
-        pub runs_goes : {p' : Progress} → w'.file ≡ file → AsLong w w' → x ≡ Next p' → Runs book file w₀ w' p' m next more (rounded + rounded_of c.command)
+        pub runs_goes : {p' : Progress} → w'.file ≡ file → AsLong w w' → x ≡ Ok p' → Runs book file w₀ w' p' m next more (rounded + rounded_of c.command)
         runs_goes {p'} same k q = record {
           state = (step_at (room_of w₀) file c r.state).next;
           file_is = same;
@@ -151,7 +147,7 @@ module _ (book : Book) (file : List ℕ) (w₀ w : Lent) (p : Progress) (n : For
         }
 
 -- an operation sets no name, and has no decimal that is rounded
-operation_plain : (c : Command) → (held_in c ≡ Nothing → ⊥) → (sets_of c ≡ sets.Nothing) × (rounded_of c ≡ 0)
+operation_plain : (c : Command) → (held_in c ≡ None → ⊥) → (sets_of c ≡ None) × (rounded_of c ≡ 0)
 unfolding held_in sets_of rounded_of
 operation_plain (command.Operate o) some = (refl, refl)
 operation_plain (command.Coded code o) some = (refl, refl)
@@ -166,14 +162,14 @@ operation_plain (command.Attribute d) some = absurd (some refl)
 
 is_other : Struck → Bool
 is_other (struck.Next s) = false
-is_other (struck.Fault n) = false
+is_other (struck.Fault rule) = false
 is_other Other = true
 
 no_stroke : {s : Stroke} → struck.Next s ≡ Other → ⊥
 unfolding is_other
 no_stroke q = false≢true (ap is_other q)
 
-no_fault : {k : ℕ} → struck.Fault k ≡ Other → ⊥
+no_fault : {rule : Rule} → struck.Fault rule ≡ Other → ⊥
 unfolding is_other
 no_fault q = false≢true (ap is_other q)
 
@@ -189,10 +185,10 @@ module _ (book : Book) (file : List ℕ) (w₀ w : Lent) (p : Progress) (n : For
   module _ {fault place : ℕ} (e' : List ℕ) {q : Progress} {hit : Struck} (fault_is : fault ≡ code_fault p.graphics c.command) (place_is : place ≡ c.place)
       (q-is : q ≡ behind_code c.command p) (op : Operates fault place (held_in c.command) w.entries e' q hit) where
     module _ (some : hit ≡ Other → ⊥) where
-      plain_one : (sets_of c.command ≡ sets.Nothing) × (rounded_of c.command ≡ 0)
+      plain_one : (sets_of c.command ≡ None) × (rounded_of c.command ≡ 0)
       plain_one = operation_plain c.command (operated_some _ _ (held_in c.command) _ e' _ hit op some)
 
-      none_named : judged_of book file c set repeat.Unknown ≡ Told false set
+      none_named : judged_of book file c set None ≡ Some (record { again = false; set = set })
       unfolding judged_of judged_as
       none_named = rw plain_one.0 refl
 
@@ -201,11 +197,11 @@ module _ (book : Book) (file : List ℕ) (w₀ w : Lent) (p : Progress) (n : For
           rw q-is
           (strikes w e' (slice c.from c.end w.file) c.place p s k hit some c.command (rw (fault_is, place_is, q-is) at op))
 
-    pub stroke_refuses : {k : ℕ} → hit ≡ struck.Fault k → answer_of book w₀ ≡ refused k c.place
+    pub stroke_refuses : {rule : Rule} → hit ≡ struck.Fault rule → answer_of book w₀ ≡ refused (number_of_rule rule) c.place
     unfolding stepped_by Looked
     stroke_refuses is =
         let some : hit ≡ Other → ⊥ = λ z. no_fault (sym is ∙ z) in
-        runs_refuses book file w₀ w p n at set rounded r e repeat.Unknown tt (none_named some) (with_entries e' w) _ (reads some) (ap (stepped_by q) is)
+        runs_refuses book file w₀ w p n at set rounded r e None tt (none_named some) (with_entries e' w) _ (reads some) (ap (stepped_by q) is)
 
     pub stroke_goes : {s : Stroke} → hit ≡ struck.Next s → length e' ≡ length w.entries → Runs book file w₀ (with_entries e' w) (with_stroke s q) m next set rounded
     unfolding stepped_by with_entries Looked
@@ -214,11 +210,11 @@ module _ (book : Book) (file : List ℕ) (w₀ w : Lent) (p : Progress) (n : For
         let none = (plain_one some).1 in
         let same : rounded + rounded_of c.command ≡ rounded = omega (arith, none) in
         rw same at
-        (runs_goes book file w₀ w p n at set rounded r e repeat.Unknown tt (none_named some) (with_entries e' w) _ (reads some) r.file_is
+        (runs_goes book file w₀ w p n at set rounded r e None tt (none_named some) (with_entries e' w) _ (reads some) r.file_is
         (record { entries_long = long; apertures_long = refl; macros_long = refl; numbers_long = refl }) (ap (stepped_by q) is))
 
     -- no operation: nothing has changed
-    pub stroke_none : hit ≡ Other → (held_in c.command ≡ Nothing) × Runs book file w₀ (with_entries e' w) q n at set rounded
+    pub stroke_none : hit ≡ Other → (held_in c.command ≡ None) × Runs book file w₀ (with_entries e' w) q n at set rounded
     stroke_none is =
         let none = operated_none _ _ (held_in c.command) _ e' _ (known_entries q-is) (rw is at op) in
         (none.0, rw (q-is, behind_none c.command p none.0, none.1, sym (same_entries w refl)) r)

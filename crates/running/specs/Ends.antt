@@ -1,8 +1,10 @@
 -- How the commands of a file end: with a sheet to be finished, or at a fault; or the reading asks where a name is set twice.
+use Rattle.faults.specs.Rule.{number_of_rule}
+use Rattle.faults.specs.declared.Rule.{Rule}
 use Rattle.running.specs.Units.{unit_in}
 use Rattle.book.specs.Books.{is_old}
 use Rattle.formats.specs.Format.{no_format}
-use Rattle.std.specs.Prelude.{ℕ, suc, ◌≤◌, ◌≡◌, true, false, List, eqb, pos, length, replicate}
+use Rattle.std.specs.Prelude.{ℕ, suc, ◌≤◌, ◌≡◌, true, false, List, eqb, pos, length, replicate, Err, Ok, Result, None, Option, Some}
 use Rattle.book.specs.declared.Book.{Book}
 use Rattle.sequence.specs.Commands.{Sequence, commands_from}
 use Rattle.sequence.specs.Rounded.{rounded_among}
@@ -14,15 +16,8 @@ use Rattle.law_reading.specs.Reading.{Answer, accepted, refused, read_on}
 use Rattle.progress.specs.Lent.{Lent, room_of}
 use Rattle.progress.specs.Knows.{Knows}
 use Rattle.progress.specs.declared.Progress.{Progress}
-use Rattle.progress.specs.declared.Stepped.{Stepped}
-use Rattle.progress.specs.declared.Stepped.TheVariants as stepped
 use Rattle.names.specs.Twice.{twice_at}
-use Rattle.running.specs.declared.End.{End}
-use Rattle.running.specs.declared.End.TheVariants.{Sheet, Fault}
-use Rattle.running.specs.declared.Repeat.{Repeat}
-use Rattle.running.specs.declared.Repeat.TheVariants as repeat
-use Rattle.running.specs.declared.Outcome.{Outcome}
-use Rattle.running.specs.declared.Outcome.TheVariants as outcome
+use Rattle.running.specs.declared.Finished.{Finished}
 
 -- nothing is read yet
 unfoldable pub start : Book → Progress
@@ -61,9 +56,9 @@ unfoldable pub answer_of : Book → Lent → Answer
 answer_of book w = read_on (room_of w) w.file (walked book w.file).commands (walked book w.file).fault (begun book)
 
 -- at M02: its outcome, then what follows it; so many decimals were rounded
-unfoldable pub settled : Stepped → ℕ → Refusal → ℕ → End
-settled (stepped.Fault n) place f rounded = Fault (record { number = n; place = place })
-settled (stepped.Next p) place f rounded = elim (eqb f.number 0) [ true ↦ Sheet p rounded | false ↦ Fault f ]
+unfoldable pub settled : Result Progress Rule → ℕ → Refusal → ℕ → Result Finished Refusal
+settled (Err rule) place f rounded = Err (record { number = number_of_rule rule; place = place })
+settled (Ok p) place f rounded = elim (eqb f.number 0) [ true ↦ Ok (record { progress = p; rounded = rounded }) | false ↦ Err f ]
 
 -- the answer is a sheet, of which all is known; M02's rules are kept, the unit is 1 or 2, and so many decimals were rounded
 pub record Sheeted (book : Book) (answer : Answer) (w : Lent) (p : Progress) (rounded : ℕ) : Type 0 where
@@ -74,16 +69,16 @@ pub record Sheeted (book : Book) (answer : Answer) (w : Lent) (p : Progress) (ro
   pub unit : unit_in state.graphics.header ≤ 2
   pub counted : rounded ≡ rounded_among (walked book w.file).commands
 
-unfoldable pub Ends : Book → Answer → Lent → End → Type 0
-Ends book answer w (Sheet p rounded) = Sheeted book answer w p rounded
-Ends book answer w (Fault f) = answer ≡ refused f.number f.place
+unfoldable pub Ends : Book → Answer → Lent → Result Finished Refusal → Type 0
+Ends book answer w (Ok x) = Sheeted book answer w x.progress x.rounded
+Ends book answer w (Err f) = answer ≡ refused f.number f.place
 
 -- the place, where it was looked for
-unfoldable pub Looked : Book → List ℕ → Repeat → Type 0
-Looked book file repeat.Unknown = Unit
-Looked book file (repeat.At place) = place ≡ twice_at book file
+unfoldable pub Looked : Book → List ℕ → Option ℕ → Type 0
+Looked book file None = Unit
+Looked book file (Some place) = place ≡ twice_at book file
 
 -- a run over the commands ends as they do, or asks for that place where it was not looked for
-unfoldable pub Comes : Book → Answer → Lent → Repeat → Outcome → Type 0
-Comes book answer w r (outcome.Ends x) = Ends book answer w x
-Comes book answer w r outcome.Asks = r ≡ repeat.Unknown
+unfoldable pub Comes : Book → Answer → Lent → Option ℕ → Option (Result Finished Refusal) → Type 0
+Comes book answer w r (Some x) = Ends book answer w x
+Comes book answer w r None = r ≡ None

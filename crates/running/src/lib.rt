@@ -10,37 +10,23 @@ ghost use Rattle.running.specs.Judged.{judged_name, judged_of};
 
 use book::Book;
 use build::Builder;
+use faults::Rule;
 use graphics::Header;
-use names::Sets;
-use progress::{Progress, Stepped, Struck};
+use progress::{Progress, Struck};
 use sequence::{Placed, Refusal, Turn};
 
-// Where a name of TF is set twice first, the length of the file where none is, once that was looked for.
+// Whether a command sets a name again, and how many names are set with it.
 #[derive(Clone, Copy)]
-pub enum Repeat {
-    Unknown,
-    At(usize),
+pub struct Told {
+    pub again: bool,
+    pub set: usize,
 }
 
-// Whether a command sets a name again, and how many names are set with it; or that has to be looked for.
+// How the commands of a file end where all rules are kept: at M02, and so many decimals were rounded.
 #[derive(Clone, Copy)]
-pub enum Judged {
-    Told { again: bool, set: usize },
-    Asks,
-}
-
-// How the commands of a file end: at M02 with all rules kept, and so many decimals rounded, or at a fault.
-#[derive(Clone, Copy)]
-pub enum End {
-    Sheet { progress: Progress, rounded: usize },
-    Fault(Refusal),
-}
-
-// The outcome of a run over the commands: their end, or it asks where a name is set twice.
-#[derive(Clone, Copy)]
-pub enum Outcome {
-    Ends(End),
-    Asks,
+pub struct Finished {
+    pub progress: Progress,
+    pub rounded: usize,
 }
 
 // Nothing is read yet, by a book.
@@ -74,42 +60,42 @@ fn judge_name(
     place: usize,
     name: &[u8],
     set: usize,
-    repeat: Repeat,
-) -> Judged
+    repeat: Option<usize>,
+) -> Option<Told>
     requires { set < length file.now }
     ensures { result ≡ judged_name book file.now place name.now set repeat }
 {
     if set == 0 {
-        return Judged::Told {
+        return Some(Told {
             again: false,
             set: 1,
-        };
+        });
     }
     if base::either(set < 16, place < 4096) {
-        return Judged::Told {
+        return Some(Told {
             again: names::first_at(book, file, name) != place,
             set: set + 1,
-        };
+        });
     }
     match repeat {
-        Repeat::Unknown => Judged::Asks,
-        Repeat::At(twice) => Judged::Told {
+        None => None,
+        Some(twice) => Some(Told {
             again: place == twice,
             set: set + 1,
-        },
+        }),
     }
 }
 
 // The same of any command: one that is no TF sets no name.
-fn judge(book: Book, file: &[u8], c: Placed, set: usize, repeat: Repeat) -> Judged
+fn judge(book: Book, file: &[u8], c: Placed, set: usize, repeat: Option<usize>) -> Option<Told>
     requires { set < length file.now }
     ensures { result ≡ judged_of book file.now c set repeat }
 {
     let command = c.command;
     let sets = names::sets_of(command);
     match sets {
-        Sets::Nothing => Judged::Told { again: false, set },
-        Sets::Name(n) => {
+        None => Some(Told { again: false, set }),
+        Some(n) => {
             let text = base::part(file, c.from, c.end);
             judge_name(
                 book,
@@ -124,19 +110,27 @@ fn judge(book: Book, file: &[u8], c: Placed, set: usize, repeat: Repeat) -> Judg
 }
 
 // How the commands end at M02, its outcome being r and the fault of what follows it f.
-fn settled(r: Stepped, place: usize, f: Refusal, rounded: usize) -> End
+fn settled(
+    r: Result<Progress, Rule>,
+    place: usize,
+    f: Refusal,
+    rounded: usize,
+) -> Result<Finished, Refusal>
     ensures { result ≡ settled r place f rounded }
 {
     match r {
-        Stepped::Fault(number) => End::Fault(Refusal { number, place }),
-        Stepped::Next(p) => {
+        Err(rule) => Err(Refusal {
+            number: u64::from(rule),
+            place,
+        }),
+        Ok(p) => {
             if f.number == 0 {
-                return End::Sheet {
+                return Ok(Finished {
                     progress: p,
                     rounded,
-                };
+                });
             }
-            End::Fault(f)
+            Err(f)
         }
     }
 }
@@ -149,8 +143,8 @@ pub fn run(
     a: &mut [u64],
     m: &mut [u64],
     numbers: &mut [i64],
-    repeat: Repeat,
-) -> Outcome
+    repeat: Option<usize>,
+) -> Option<Result<Finished, Refusal>>
     requires empty { Empty (lent_of file.now e.old a.old m.old numbers.old) }
     requires looked { Looked book file.now repeat }
     ensures { AsLong (lent_of file.now e.old a.old m.old numbers.old)
@@ -167,12 +161,12 @@ pub fn run(
         let t = sequence::turn_at(book, format, file, at);
         match t {
             Turn::Fault(f) => {
-                return Outcome::Ends(End::Fault(f));
+                return Some(Err(f));
             }
             Turn::Last { command, next } => {
                 let place = command.place;
                 let r = steps::step(file, e, a, m, numbers, p, command, false);
-                return Outcome::Ends(settled(r, place, sequence::tail_fault(file, next), rounded));
+                return Some(settled(r, place, sequence::tail_fault(file, next), rounded));
             }
             Turn::More {
                 command,
@@ -186,8 +180,11 @@ pub fn run(
                 p = steps::behind_code(said, p);
                 let struck = steps::operation(e, p, fault, place as u64, said);
                 match struck {
-                    Struck::Fault(number) => {
-                        return Outcome::Ends(End::Fault(Refusal { number, place }));
+                    Struck::Fault(rule) => {
+                        return Some(Err(Refusal {
+                            number: u64::from(rule),
+                            place,
+                        }));
                     }
                     Struck::Next(stroke) => {
                         p = progress::with_stroke(stroke, p);
@@ -197,15 +194,18 @@ pub fn run(
                     Struck::Other => {
                         let counted = rounded + command::rounded_of(said);
                         let j = judge(book, file, command, set, repeat);
-                        let Judged::Told { again, set: more } = j else {
-                            return Outcome::Asks;
+                        let Some(Told { again, set: more }) = j else {
+                            return None;
                         };
                         let r = steps::step(file, e, a, m, numbers, p, command, again);
                         match r {
-                            Stepped::Fault(number) => {
-                                return Outcome::Ends(End::Fault(Refusal { number, place }));
+                            Err(rule) => {
+                                return Some(Err(Refusal {
+                                    number: u64::from(rule),
+                                    place,
+                                }));
                             }
-                            Stepped::Next(q) => {
+                            Ok(q) => {
                                 p = q;
                                 format = carried;
                                 at = next;

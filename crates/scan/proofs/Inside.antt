@@ -9,7 +9,6 @@ use lib.Dec.{leb, eqb}
 use lib.ListN.{length}
 use borrow.Author.Tests.{eqb-true, lt-leb, eq-eqb, ne_eqb}
 use Rattle.base.specs.And.{◌and◌}
-use Rattle.base.specs.Or.{◌or◌}
 use Rattle.text.specs.First.{first_in}
 use Rattle.text.proofs.First.{in_from}
 use Rattle.fields.specs.Parts.{is_field, part_after}

@@ -1,8 +1,8 @@
 -- A command whose bytes are all from 32 to 126 is cut at its end, under either rule of letters.
 -- Assumes nothing.
 use Prim.Native.Nat.{ℕ, suc, ◌+◌, ◌-◌, ◌^◌, ◌<◌, ◌≤◌}
-use mathlib.Core.Path.{◌≡◌, refl, ap, sym, ◌∙◌}
-use mathlib.Core.Bool.{Bool, true, false, not}
+use mathlib.Core.Path.{◌≡◌, refl, sym, ◌∙◌}
+use mathlib.Core.Bool.{Bool, true, false}
 use mathlib.Core.List.{List, [], ◌∷◌}
 use native.Mathlib.Omega.{arith}
 use lib.Dec.{leb, ltb, eqb}
@@ -19,7 +19,7 @@ use Rattle.fields.proofs.Ahead.{first_here, first_later}
 use Rattle.scan.specs.Fields.{in_field}
 use Rattle.scan.specs.Permitted.{printable, permitted, bad_in}
 use Rattle.scan.specs.Printable.{inner, stops, printable_to}
-use Rattle.scan.specs.Scan.{kind_of, text_from, end_of, ends, cut_by, command_in, next_command}
+use Rattle.scan.specs.Scan.{kind_of, text_from, end_of, ends, command_in, next_command}
 use Rattle.scan.specs.declared.Kind.{Kind}
 use Rattle.scan.specs.declared.Kind.TheVariants.{Word, Extended, Macro}
 use Rattle.book.specs.declared.Book.{Book}

@@ -8,7 +8,6 @@ ghost use Rattle.noting.specs.Holds.{role_number};
 ghost use Rattle.seeing.specs.Roles.{role_by};
 ghost use Rattle.seeing.specs.Layer.{Layer, SeenIs};
 
-use index::Search;
 use law_components::Role;
 use notes::Note;
 use points::Point;
@@ -31,32 +30,30 @@ fn function_of(roles: &[u64], used: usize, number: u64) -> u64
 {
     let found = index::search_number(roles, used, number);
     match found {
-        Search::At(i) => base::word_at(roles, i * index::RECORD_WORDS + 1),
-        Search::Free(_) => 0,
+        Ok(i) => base::word_at(roles, i * index::RECORD_WORDS + 1),
+        Err(_) => 0,
     }
 }
 
 // A line or an arc.
+#[tactic(auto, using(base::proofs::Or::joins), unfolding(law_components::specs::Parts::is_drawn))]
 fn is_drawn(kind: u64) -> bool
     ensures { result ≡ is_drawn kind }
 {
-    base::either(base::either(kind == 1, kind == 2), kind == 3)
+    matches!(kind, 1..=3)
 }
 
 // The role of an item of a kind, whose aperture is for this.
+#[tactic(auto, using(base::proofs::Or::joins), unfolding(crate::specs::Roles::role_by))]
 fn role_by(kind: u64, function: u64) -> Role
     ensures { result ≡ role_by kind function }
 {
-    if base::both(kind == 4, function == 1) {
-        return Role::Main;
+    match (kind, function) {
+        (4, 1) => Role::Main,
+        (4, 2) => Role::Pin,
+        (_, 3) if is_drawn(kind) => Role::Outline,
+        _ => Role::Other,
     }
-    if base::both(kind == 4, function == 2) {
-        return Role::Pin;
-    }
-    if base::both(is_drawn(kind), function == 3) {
-        return Role::Outline;
-    }
-    Role::Other
 }
 
 // Item k.
@@ -74,15 +71,13 @@ pub fn see(
     ensures { (l : Layer e.now a.now top notes.now operations roles.now roled) → SeenIs l k result }
 {
     let t = descend::item_at(e, a, 10, top, k);
-    let start = t.start;
-    let end = t.end;
     let role = role_by(t.kind, function_of(roles, roled, t.aperture));
     let note = notes::note_at(notes, notes::find(notes, operations, t.place));
     Seen {
-        role: role,
-        start: start,
-        end: end,
+        role,
+        start: t.start,
+        end: t.end,
         place: t.place,
-        note: note,
+        note,
     }
 }

@@ -1,5 +1,6 @@
 -- Worked examples, by computation: small films of the old book as sequences of commands, on either side of 4 and 30 (02, [9]).
 -- Assumes nothing.
+use Rattle.std.specs.Prelude.{Some}
 use Prim.Native.Nat.{ℕ}
 use Prim.Native.String.{String}
 use mathlib.Core.Path.{◌≡◌, refl}
@@ -34,8 +35,6 @@ use Rattle.scan.specs.Fields.{in_field}
 use Rattle.letters.specs.Table as letters-Table
 use Rattle.command.specs.Flaws.{flaw_number}
 use Rattle.command.specs.Numbers.{judged, in_range}
-use Rattle.command.specs.declared.Axis.TheVariants.{At}
-use Rattle.command.specs.declared.Offset.TheVariants.{By}
 use Rattle.command.specs.declared.Command.{Command}
 use Rattle.command.specs.declared.Command.TheVariants.{Note, End, Set, Operate, Coded, Select}
 use Rattle.command.specs.declared.Setting.TheVariants.{Linear, Counterclockwise, Halt, Format}
@@ -64,8 +63,8 @@ abbrev drawn : List Placed
 drawn =
     at 0 1 12 (Set (Format trailing))
     ∷ at 13 13 19 (Select 10)
-    ∷ at 20 20 27 (Operate (Move (At (pos 10000000)) (At (pos 5000000))))
-    ∷ at 29 29 43 (Coded Counterclockwise (Draw (At (pos 12000000)) (At (pos 0)) (By (pt (pos 1000000) (pos 0)) false)))
+    ∷ at 20 20 27 (Operate (Move (Some (pos 10000000)) (Some (pos 5000000))))
+    ∷ at 29 29 43 (Coded Counterclockwise (Draw (Some (pos 12000000)) (Some (pos 0)) (Some (record { offset = pt (pos 1000000) (pos 0); signed = false }))))
     ∷ at 44 44 46 (Set Halt)
     ∷ at 47 47 50 Note
     ∷ at 51 51 53 End

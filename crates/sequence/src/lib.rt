@@ -53,6 +53,7 @@ pub enum Turn {
 }
 
 // How a command that cannot be read leads on.
+#[tactic(auto, unfolding(crate::specs::Leads::lead_of_flaw, command::specs::Flaws::flaw_number))]
 fn lead_of_flaw(f: Flaw) -> Lead
     ensures { result ≡ lead_of_flaw f }
 {
@@ -64,34 +65,18 @@ fn lead_of_flaw(f: Flaw) -> Lead
 }
 
 // How a setting leads on.
+#[tactic(auto, unfolding(crate::specs::Leads::lead_of_setting))]
 fn lead_of_setting(s: Setting) -> Lead
     ensures { result ≡ lead_of_setting s }
 {
     match s {
         Setting::Format(format) => Lead::Format(format),
-        Setting::Linear => Lead::Other,
-        Setting::Clockwise => Lead::Other,
-        Setting::Counterclockwise => Lead::Other,
-        Setting::SingleQuadrant => Lead::Other,
-        Setting::MultiQuadrant => Lead::Other,
-        Setting::RegionStart => Lead::Other,
-        Setting::RegionEnd => Lead::Other,
-        Setting::Absolute => Lead::Other,
-        Setting::Incremental => Lead::Other,
-        Setting::Millimetres => Lead::Other,
-        Setting::Inches => Lead::Other,
-        Setting::CodedMillimetres => Lead::Other,
-        Setting::CodedInches => Lead::Other,
-        Setting::Halt => Lead::Other,
-        Setting::Dark => Lead::Other,
-        Setting::Clear => Lead::Other,
-        Setting::Mirror { .. } => Lead::Other,
-        Setting::Rotation { .. } => Lead::Other,
-        Setting::Scale { .. } => Lead::Other,
+        _ => Lead::Other,
     }
 }
 
 // How a command leads on.
+#[tactic(auto, unfolding(crate::specs::Leads::lead_of))]
 fn lead_of(c: Command) -> Lead
     ensures { result ≡ lead_of c }
 {
@@ -99,17 +84,12 @@ fn lead_of(c: Command) -> Lead
         Command::Broken(f) => lead_of_flaw(f),
         Command::End => Lead::Last,
         Command::Set(s) => lead_of_setting(s),
-        Command::Note => Lead::Other,
-        Command::Operate(_) => Lead::Other,
-        Command::Coded { .. } => Lead::Other,
-        Command::Select(_) => Lead::Other,
-        Command::Define(_) => Lead::Other,
-        Command::Contain(_) => Lead::Other,
-        Command::Attribute(_) => Lead::Other,
+        _ => Lead::Other,
     }
 }
 
 // A command that leads on so, the format being that before it.
+#[tactic(auto, unfolding(crate::specs::Turns::led))]
 fn led(format: Format, c: Placed, lead: Lead, next: usize) -> Turn
     ensures { result ≡ led format c lead next }
 {
@@ -133,11 +113,11 @@ fn led(format: Format, c: Placed, lead: Lead, next: usize) -> Turn
 }
 
 // What stands next from a place on, by a book; the format is that of FS, none before it.
+#[tactic(auto, unfolding(crate::specs::Turns::turn_of, crate::specs::Turns::turned))]
 pub fn turn_at(book: Book, format: Format, file: &[u8], at: usize) -> Turn
     ensures { result ≡ turn_of book format file.now at }
 {
-    let s = scan::next_command(book, file, at);
-    match s {
+    match scan::next_command(book, file, at) {
         Scan::Command {
             kind,
             place,
@@ -165,11 +145,11 @@ pub fn turn_at(book: Book, format: Format, file: &[u8], at: usize) -> Turn
 }
 
 // The fault of what follows M02, from the place past it on.
+#[tactic(auto, unfolding(crate::specs::Turns::tail_fault))]
 pub fn tail_fault(file: &[u8], next: usize) -> Refusal
     ensures { result ≡ tail_fault (tail_of file.now next) }
 {
-    let t = scan::tail_from(file, next);
-    match t {
+    match scan::tail_from(file, next) {
         Tail::Clean => Refusal {
             number: 0,
             place: 0,

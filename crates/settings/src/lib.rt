@@ -8,20 +8,22 @@ ghost use Rattle.settings.specs.Repeats.{repeats, repeat_start, repeat_of};
 
 use book::Book;
 use command::{Bracket, Command, Flaw, Number, Setting, Size};
-use formats::Said;
+use formats::{Format, FormatError};
 
 // What FS says, as a command.
-fn formatted(said: Said) -> Command
+#[tactic(auto, unfolding(crate::specs::Header::formatted))]
+fn formatted(said: Result<Format, FormatError>) -> Command
     ensures { result ≡ formatted said }
 {
     match said {
-        Said::NotForm => Command::Broken(Flaw::NotForm),
-        Said::SevenPlaces => Command::Broken(Flaw::Unread),
-        Said::Is(format) => Command::Set(Setting::Format(format)),
+        Err(FormatError::NotForm) => Command::Broken(Flaw::NotForm),
+        Err(FormatError::SevenPlaces) => Command::Broken(Flaw::Unread),
+        Ok(format) => Command::Set(Setting::Format(format)),
     }
 }
 
 // FS, by the edition of the book.
+#[tactic(auto, unfolding(base::specs::Choose::pick, crate::specs::Header::format_of))]
 pub fn format_of(book: Book, s: &[u8]) -> Command
     ensures { result ≡ format_of book s.now }
 {
@@ -32,6 +34,7 @@ pub fn format_of(book: Book, s: &[u8]) -> Command
 }
 
 // MO.
+#[tactic(auto, unfolding(base::specs::Choose::pick, crate::specs::Header::unit_of))]
 pub fn unit_of(s: &[u8]) -> Command
     ensures { result ≡ unit_of s.now }
 {
@@ -45,6 +48,7 @@ pub fn unit_of(s: &[u8]) -> Command
 }
 
 // LR.
+#[tactic(auto, unfolding(crate::specs::Transformations::rotation_of))]
 fn rotation_of(s: &[u8]) -> Command
     ensures { result ≡ rotation_of s.now }
 {
@@ -59,6 +63,7 @@ fn rotation_of(s: &[u8]) -> Command
 }
 
 // LS.
+#[tactic(auto, unfolding(crate::specs::Transformations::scale_of))]
 fn scale_of(s: &[u8]) -> Command
     ensures { result ≡ scale_of s.now }
 {
@@ -73,6 +78,7 @@ fn scale_of(s: &[u8]) -> Command
 }
 
 // LM.
+#[tactic(auto, unfolding(base::specs::Choose::pick, crate::specs::Transformations::mirror_of))]
 fn mirror_of(s: &[u8]) -> Command
     ensures { result ≡ mirror_of s.now }
 {
@@ -103,6 +109,7 @@ fn mirror_of(s: &[u8]) -> Command
 }
 
 // LP, LM, LR and LS.
+#[tactic(auto, unfolding(base::specs::Choose::pick, crate::specs::Transformations::transformation_of))]
 pub fn transformation_of(s: &[u8]) -> Command
     ensures { result ≡ transformation_of s.now }
 {
@@ -149,6 +156,7 @@ fn repeated(nx: Number, ny: Number, dx: Size, dy: Size) -> Command
 }
 
 // What follows `SRX`.
+#[tactic(auto, unfolding(crate::specs::Repeats::repeat_start))]
 fn repeat_start(x: &[u8]) -> Command
     ensures { result ≡ repeat_start x.now }
 {
@@ -163,6 +171,7 @@ fn repeat_start(x: &[u8]) -> Command
 }
 
 // SR.
+#[tactic(auto, unfolding(base::specs::Choose::pick, crate::specs::Repeats::repeat_of))]
 pub fn repeat_of(s: &[u8]) -> Command
     ensures { result ≡ repeat_of s.now }
 {

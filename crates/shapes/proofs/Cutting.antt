@@ -6,13 +6,12 @@ use mathlib.Core.Bool.{Bool, true, false}
 use mathlib.Core.List.{List, []}
 use native.Mathlib.Omega.{arith}
 use lib.Dec.{ltb}
+use Rattle.std.specs.Prelude.{Option, Some, None}
 use lib.IntN.{ℤ}
 use lib.ListN.{length}
 use borrow.Author.Tests.{lt-ltb, le-ltb, leb-true}
 use Rattle.base.proofs.And.{and_l, and_r}
 use Rattle.shapes.specs.Primitives.{primitive_at, behind, stands, Cut, onto, cut_from, primitives_in, counted_by, counted_as}
-use Rattle.shapes.specs.declared.Counted.{Counted}
-use Rattle.shapes.specs.declared.Counted.TheVariants as counted
 
 pub first_is : (n : List ℤ) (at : ℕ) → (primitive_at n at).first ≡ at + 1
 unfolding primitive_at
@@ -83,7 +82,7 @@ module _ (n : List ℤ) (end : ℕ) where
   stands_within at e = leb-true (behind n at) end (and_r _ _ (and_l _ _ e))
 
 -- so many are counted already
-unfoldable pub counted_on : ℕ → Cut → Counted
+unfoldable pub counted_on : ℕ → Cut → Option ℕ
 counted_on k c = counted_by c.whole (k + length c.list)
 
 pub count_starts : (c : Cut) → counted_on 0 c ≡ counted_as c
@@ -98,10 +97,10 @@ module _ (n : List ℤ) (end k at : ℕ) where
       let q : k + suc (length c.list) ≡ k + 1 + length c.list = omega arith in
       rw (in_on n end at h e, q)
 
-  pub count_broken : at < end → stands n at end ≡ false → counted_on k (primitives_in n at end) ≡ counted.Broken
+  pub count_broken : at < end → stands n at end ≡ false → counted_on k (primitives_in n at end) ≡ None
   unfolding counted_on counted_by
   count_broken h e = rw (in_broken n end at h e)
 
-  pub count_ends : end ≤ at → counted_on k (primitives_in n at end) ≡ counted.Is k
+  pub count_ends : end ≤ at → counted_on k (primitives_in n at end) ≡ Some k
   unfolding counted_on counted_by
-  count_ends h = let q : k + 0 ≡ k = omega arith in rw (in_end n end at h) (ap counted.Is q)
+  count_ends h = let q : k + 0 ≡ k = omega arith in rw (in_end n end at h) (ap Some q)

@@ -1,5 +1,6 @@
 -- The primitives of an aperture that is found are whole, and as many as it says.
 -- Assumes nothing.
+use Rattle.std.specs.Prelude.{Err, Ok, Result, ℕ}
 use Prim.Native.Nat.{ℕ, ◌+◌, ◌≤◌, ◌<◌}
 use mathlib.Core.Path.{◌≡◌, refl}
 use mathlib.Core.Bool.{Bool, true, false}
@@ -17,16 +18,15 @@ use Rattle.shapes.specs.Links.{led}
 use Rattle.shapes.specs.Primitives.{Cut, primitives_in, counted_by, counted_as}
 use Rattle.shapes.specs.Shapes.{numbers_used, ok_store, template_fits, judged_macro, judged_template, judged, found_by, lookup_of}
 use Rattle.shapes.specs.declared.Shape.{Shape}
-use Rattle.shapes.specs.declared.Led.{Led}
-use Rattle.shapes.specs.declared.Led.TheVariants as l
-use Rattle.shapes.specs.declared.Lookup.TheVariants.{Is, Unknown, NotSheet}
 use Rattle.shapes.proofs.Stores.{numbers_there}
 use Rattle.shapes.specs.Runs.{Whole, primitives_by}
+use Rattle.shapes.specs.declared.LookupError.TheVariants as lookup_error
+use Rattle.shapes.specs.declared.LookupError.{LookupError}
 
 pub record Sound (n : List ℤ) (s : Shape) : Type 0 where
-  pub count : s.primitives ≡ length (primitives_by n (Is s))
+  pub count : s.primitives ≡ length (primitives_by n (Ok s))
   pub whole : 0 < s.primitives → Whole n s.first (s.first + s.count)
-  pub list : 0 < s.primitives → primitives_by n (Is s) ≡ (primitives_in n s.first (s.first + s.count)).list
+  pub list : 0 < s.primitives → primitives_by n (Ok s) ≡ (primitives_in n s.first (s.first + s.count)).list
 
 -- without primitives
 none : (n : List ℤ) (s : Shape) → s.primitives ≡ 0 → eqb s.kind 5 ≡ false → Sound n s
@@ -38,7 +38,7 @@ none n s e f = record {
 }
 
 macro_sound : (n : List ℤ) (r : Aperture) (c : Cut) (s : Shape) → c ≡ primitives_in n r.first (r.first + r.len) → r.first + r.len ≤ length n → eqb r.kind 5 ≡ true →
-    (b : Bool) → c.whole ≡ b → judged_macro r (counted_by b (length c.list)) ≡ Is s → Sound n s
+    (b : Bool) → c.whole ≡ b → judged_macro r (counted_by b (length c.list)) ≡ Ok s → Sound n s
 unfolding judged_macro counted_by primitives_by
 macro_sound n r c s is h k true w e =
     let q : s ≡ record { number = r.number; kind = r.kind; first = r.first; count = r.len; primitives = length c.list } = cc in
@@ -52,11 +52,11 @@ macro_sound n r c s is h k false w e = absurd (let z : ◌≡◌ {A = ℕ} 0 1 =
 
 module _ (used : ℕ) (n : List ℤ) (r : Aperture) (s : Shape) (there : used ≤ length n) where
   rows : (six zero five fits : Bool) (o : Bool) → eqb r.kind 6 ≡ six → eqb r.kind 5 ≡ five → ltb used (r.first + r.len) ≡ o →
-      pick six (Is (record { number = r.number; kind = r.kind; first = 0; count = 0; primitives = 0 }))
-      (pick zero Unknown
-      (pick o NotSheet
+      pick six (Ok (record { number = r.number; kind = r.kind; first = 0; count = 0; primitives = 0 }))
+      (pick zero (Err lookup_error.Unknown)
+      (pick o (Err lookup_error.NotSheet)
       (pick five (judged_macro r (counted_as (primitives_in n r.first (r.first + r.len))))
-      (pick fits (Is (record { number = r.number; kind = r.kind; first = r.first; count = r.len; primitives = 0 })) NotSheet)))) ≡ Is s →
+      (pick fits (Ok (record { number = r.number; kind = r.kind; first = r.first; count = r.len; primitives = 0 })) (Err lookup_error.NotSheet))))) ≡ Ok s →
       Sound n s
   unfolding pick counted_as
   rows true zero five fits o p q t e =
@@ -73,16 +73,16 @@ module _ (used : ℕ) (n : List ℤ) (r : Aperture) (s : Shape) (there : used �
       rw x (none n _ refl q)
   rows false false false false false p q t e = absurd (let z : ◌≡◌ {A = ℕ} 0 1 = cc in omega arith)
 
-  judged_sound : judged used n r ≡ Is s → Sound n s
+  judged_sound : judged used n r ≡ Ok s → Sound n s
   unfolding judged judged_template
   judged_sound e = rows (eqb r.kind 6) (eqb r.kind 0) (eqb r.kind 5) (template_fits r.kind r.len) (ltb used (r.first + r.len)) refl refl refl e
 
-pub lookup_sound : (head a : List ℕ) (n : List ℤ) (number : ℕ) (s : Shape) → lookup_of head a n number ≡ Is s → Sound n s
+pub lookup_sound : (head a : List ℕ) (n : List ℤ) (number : ℕ) (s : Shape) → lookup_of head a n number ≡ Ok s → Sound n s
 unfolding lookup_of pick found_by
 lookup_sound head a n number s e = go (ok_store head a n) refl (led a (apertures_used head) number) e
   where
-    go : (t : Bool) → ok_store head a n ≡ t → (x : Led) → pick t (found_by head a n x) NotSheet ≡ Is s → Sound n s
-    go true ok (l.At i) e = judged_sound (numbers_used head) n (aperture_of a i) s (numbers_there head a n ok) e
-    go true ok l.Nobody e = absurd (let z : ◌≡◌ {A = ℕ} 0 1 = cc in omega arith)
-    go true ok l.Astray e = absurd (let z : ◌≡◌ {A = ℕ} 0 1 = cc in omega arith)
+    go : (t : Bool) → ok_store head a n ≡ t → (x : Result ℕ LookupError) → pick t (found_by head a n x) (Err lookup_error.NotSheet) ≡ Ok s → Sound n s
+    go true ok (Ok i) e = judged_sound (numbers_used head) n (aperture_of a i) s (numbers_there head a n ok) e
+    go true ok (Err lookup_error.Unknown) e = absurd (let z : ◌≡◌ {A = ℕ} 0 1 = cc in omega arith)
+    go true ok (Err lookup_error.NotSheet) e = absurd (let z : ◌≡◌ {A = ℕ} 0 1 = cc in omega arith)
     go false ok x e = absurd (let z : ◌≡◌ {A = ℕ} 0 1 = cc in omega arith)

@@ -1,13 +1,11 @@
 -- The numbers of a macro's aperture: primitives one after the other, each a number with its code and count and then its parameters (decision 562).
-use Rattle.std.specs.Prelude.{ℕ, zero, suc, ◌+◌, ◌-◌, ◌*◌, ◌/◌, Bool, true, false, not, List, [], ◌∷◌, eqb, leb, ltb, ℤ, pos, nat_abs, length, get_or}
+use Rattle.std.specs.Prelude.{ℕ, zero, suc, ◌+◌, ◌-◌, ◌*◌, ◌/◌, Bool, true, false, not, List, [], ◌∷◌, eqb, leb, ltb, ℤ, pos, nat_abs, length, get_or, Option, Some, None}
 use Rattle.base.specs.And.{◌and◌}
 use Rattle.base.specs.Or.{◌or◌}
 use Rattle.base.specs.Choose.{choose}
 use Rattle.ints.specs.Ints.{is_neg}
 use Rattle.primitives.specs.Heading.{code_in, count_in}
 use Rattle.shapes.specs.declared.Primitive.{Primitive}
-use Rattle.shapes.specs.declared.Counted.{Counted}
-use Rattle.shapes.specs.declared.Counted.TheVariants as counted
 
 abbrev pub number_at : List ℤ → ℕ → ℤ
 number_at n i = get_or n i (pos 0)
@@ -62,9 +60,9 @@ cut_from n (suc steps) at end =
 unfoldable pub primitives_in : List ℤ → ℕ → ℕ → Cut
 primitives_in n first end = cut_from n (end - first) first end
 
-unfoldable pub counted_by : Bool → ℕ → Counted
-counted_by true k = counted.Is k
-counted_by false k = counted.Broken
+unfoldable pub counted_by : Bool → ℕ → Option ℕ
+counted_by true k = Some k
+counted_by false k = None
 
-unfoldable pub counted_as : Cut → Counted
+unfoldable pub counted_as : Cut → Option ℕ
 counted_as c = counted_by c.whole (length c.list)

@@ -10,10 +10,7 @@ ghost use Rattle.shapes.specs.Primitives.{number_at, primitive_at, count_fits, s
 ghost use Rattle.shapes.specs.Shapes.{template_fits, ok_store, judged_macro, judged_template, judged, lookup_of, record_of};
 ghost use Rattle.shapes.specs.Runs.{Whole, primitive_words, slots, fetch_of, fetched};
 
-use sheet::Aperture;
-
-// The words of an aperture record.
-const APERTURE_WORDS: usize = 8;
+use sheet::{APERTURE_WORDS, Aperture};
 
 const MARK: u64 = 5716828633109713478;
 
@@ -36,25 +33,9 @@ pub struct Primitive {
     pub count: usize,
 }
 
-// The outcome of a search: a record; none with the number; or links that no reading leaves.
+// Why there is no aperture: none has the number, 8; or the store is not a sheet, 21, for its links are none that a reading leaves.
 #[derive(Clone, Copy)]
-pub enum Led {
-    At(usize),
-    Nobody,
-    Astray,
-}
-
-// How many primitives numbers are; or that they are not whole primitives.
-#[derive(Clone, Copy)]
-pub enum Counted {
-    Is(usize),
-    Broken,
-}
-
-// The outcome of a lookup: the aperture; none with the number, 8; or a store that is not a sheet, 21.
-#[derive(Clone, Copy)]
-pub enum Lookup {
-    Is(Shape),
+pub enum LookupError {
     Unknown,
     NotSheet,
 }
@@ -71,32 +52,30 @@ fn link_of(a: &[u64], i: usize, key: u64) -> usize
 }
 
 // The record, of the first `used`, that the links lead to for a number: a number has 31 bits, so that a search looks at 32 records at most.
-fn search(a: &[u64], used: usize, number: u64) -> Led
+fn search(a: &[u64], used: usize, number: u64) -> Result<usize, LookupError>
     requires { used ≤ aperture_room a.now }
     ensures { result ≡ led a.now used number }
 {
     if used == 0 {
-        return Led::Nobody;
+        return Err(LookupError::Unknown);
     }
-    let mut steps: u64 = 32;
     let mut at: usize = 0;
     let mut key = number;
-    while steps > 0 {
+    for step in 0..32u64 {
         if at >= used {
-            return Led::Astray;
+            return Err(LookupError::NotSheet);
         }
         if base::word_at(a, at * APERTURE_WORDS) == number {
-            return Led::At(at);
+            return Ok(at);
         }
         let to = link_of(a, at, key);
         if to == 0 {
-            return Led::Nobody;
+            return Err(LookupError::Unknown);
         }
         at = to;
-        key = key / 2;
-        steps -= 1;
+        key /= 2;
     }
-    Led::Astray
+    Err(LookupError::NotSheet)
 }
 
 // The size of number i, 0 past the last.
@@ -104,19 +83,22 @@ pub fn size_at(numbers: &[i64], i: usize) -> u64
     ensures { result ≡ nat_abs (number_at numbers.now i) }
 {
     if i < numbers.len() {
-        return ints::size(numbers[i]);
+        numbers[i].unsigned_abs()
+    } else {
+        0
     }
-    0
 }
 
 // Whether number i is below 0.
+#[tactic(auto, unfolding(ints::specs::Ints::is_neg))]
 fn negative_at(numbers: &[i64], i: usize) -> bool
     ensures { result ≡ is_neg (number_at numbers.now i) }
 {
     if i < numbers.len() {
-        return ints::negative(numbers[i]);
+        numbers[i] < 0
+    } else {
+        false
     }
-    false
 }
 
 // The primitive that stands at a place of the numbers.
@@ -133,121 +115,102 @@ fn primitive_at(numbers: &[i64], at: usize) -> Primitive
 }
 
 // Whether a code has so many parameters; n is the second of them, in millionths.
+#[tactic(auto, using(base::proofs::Or::ors), unfolding(crate::specs::Primitives::count_fits, base::specs::Choose::pick))]
 fn count_fits(code: u64, count: usize, n: u64) -> bool
     ensures { result ≡ count_fits code count n }
 {
-    if code == 1 {
-        return base::either(count == 4, count == 5);
+    match code {
+        1 => count == 4 || count == 5,
+        4 => count as u64 == 5 + 2 * (n / 1000000),
+        5 | 7 | 21 => count == 6,
+        20 => count == 7,
+        _ => false,
     }
-    if code == 4 {
-        return count as u64 == 5 + 2 * (n / 1000000);
-    }
-    if code == 5 {
-        return count == 6;
-    }
-    if code == 7 {
-        return count == 6;
-    }
-    if code == 20 {
-        return count == 7;
-    }
-    if code == 21 {
-        return count == 6;
-    }
-    false
 }
 
 // Whether a whole primitive stands at a place, before the end.
+#[tactic(auto, using(base::proofs::And::ands), unfolding(crate::specs::Primitives::stands, crate::specs::Primitives::primitive_at))]
 fn stands(numbers: &[i64], at: usize, end: usize) -> bool
     requires { (at < end) × (end ≤ length numbers.now) }
     ensures { result ≡ stands numbers.now at end }
 {
     let p = primitive_at(numbers, at);
-    let inside = base::both(!negative_at(numbers, at), p.first + p.count <= end);
-    base::both(
-        inside,
-        count_fits(p.code, p.count, size_at(numbers, at + 2)),
-    )
+    let behind = p.first + p.count;
+    !negative_at(numbers, at)
+        && behind <= end
+        && count_fits(p.code, p.count, size_at(numbers, at + 2))
 }
 
-// How many primitives the numbers from `first` up to `end` are.
-fn count_of(numbers: &[i64], first: usize, end: usize) -> Counted
+// How many primitives the numbers from `first` up to `end` are; nothing where they are not whole primitives.
+fn count_of(numbers: &[i64], first: usize, end: usize) -> Option<usize>
     requires { (first ≤ end) × (end ≤ length numbers.now) }
     ensures { result ≡ counted_as (primitives_in numbers.now first end) }
 {
     let mut at = first;
     let mut k: usize = 0;
+    // Each primitive says by its count where the next one stands: no iterator steps so.
     while at < end {
-        if stands(numbers, at, end) {
-            let p = primitive_at(numbers, at);
-            at = p.first + p.count;
-            k += 1;
-        } else {
-            return Counted::Broken;
+        if !stands(numbers, at, end) {
+            return None;
         }
+        let p = primitive_at(numbers, at);
+        at = p.first + p.count;
+        k += 1;
     }
-    Counted::Is(k)
+    Some(k)
 }
 
 // Whether a standard template has so many parameters.
+#[tactic(auto, using(base::proofs::And::ands), unfolding(crate::specs::Shapes::template_fits, base::specs::Choose::pick))]
 fn template_fits(kind: u64, len: u64) -> bool
     ensures { result ≡ template_fits kind len }
 {
-    if kind == 1 {
-        return base::both(1 <= len, len <= 2);
+    match kind {
+        1 => matches!(len, 1..=2),
+        2 | 3 => matches!(len, 2..=3),
+        4 => matches!(len, 2..=4),
+        _ => false,
     }
-    if kind == 2 {
-        return base::both(2 <= len, len <= 3);
-    }
-    if kind == 3 {
-        return base::both(2 <= len, len <= 3);
-    }
-    if kind == 4 {
-        return base::both(2 <= len, len <= 4);
-    }
-    false
 }
 
 // The head's words, and that the apertures and numbers used are there.
+#[tactic(auto, using(base::proofs::And::ands), unfolding(crate::specs::Shapes::ok_store))]
 fn store_ok(head: &[u64; 8], a: &[u64], numbers: &[i64]) -> bool
     ensures { result ≡ ok_store head.now a.now numbers.now }
 {
-    let room = base::both(
-        sheet::index(head[3]) <= a.len() / APERTURE_WORDS,
-        sheet::index(head[5]) <= numbers.len(),
-    );
-    base::both(
-        base::both(head[0] == MARK, base::both(1 <= head[1], head[1] <= 2)),
-        room,
-    )
+    let apertures = sheet::index(head[3]);
+    let used = sheet::index(head[5]);
+    head[0] == MARK
+        && matches!(head[1], 1..=2)
+        && apertures <= a.len() / APERTURE_WORDS
+        && used <= numbers.len()
 }
 
 // A macro's aperture: what its numbers are.
-fn judged_macro(numbers: &[i64], r: Aperture) -> Lookup
+fn judged_macro(numbers: &[i64], r: Aperture) -> Result<Shape, LookupError>
     requires { r.first + r.len ≤ length numbers.now }
     ensures { result ≡ judged_macro r (counted_as (primitives_in numbers.now r.first (r.first + r.len))) }
 {
     let first = sheet::index(r.first);
     let count = sheet::index(r.len);
-    let k = count_of(numbers, first, first + count);
-    match k {
-        Counted::Is(primitives) => Lookup::Is(Shape {
+    match count_of(numbers, first, first + count) {
+        Some(primitives) => Ok(Shape {
             number: r.number,
             kind: r.kind,
             first,
             count,
             primitives,
         }),
-        Counted::Broken => Lookup::NotSheet,
+        None => Err(LookupError::NotSheet),
     }
 }
 
 // A standard template's aperture.
-fn judged_template(r: Aperture) -> Lookup
+fn judged_template(r: Aperture) -> Result<Shape, LookupError>
     ensures { result ≡ judged_template r }
 {
     if template_fits(r.kind, r.len) {
-        return Lookup::Is(Shape {
+        return Ok(Shape {
             number: r.number,
             kind: r.kind,
             first: sheet::index(r.first),
@@ -255,71 +218,64 @@ fn judged_template(r: Aperture) -> Lookup
             primitives: 0,
         });
     }
-    Lookup::NotSheet
+    Err(LookupError::NotSheet)
 }
 
 // Whether so many numbers from a place on are more than those used.
 fn over(used: u64, first: u64, len: u64) -> bool
     ensures { result ≡ ltb used (first + len) }
 {
-    if first > used {
-        return true;
-    }
-    len > used - first
+    first > used || len > used - first
 }
 
 // An aperture by its record, where so many numbers are used.
-fn judged(used: u64, numbers: &[i64], r: Aperture) -> Lookup
+#[tactic(auto, unfolding(crate::specs::Shapes::judged, base::specs::Choose::pick))]
+fn judged(used: u64, numbers: &[i64], r: Aperture) -> Result<Shape, LookupError>
     requires { used ≤ length numbers.now }
     ensures { result ≡ judged used numbers.now r }
 {
-    if r.kind == 6 {
-        return Lookup::Is(Shape {
+    match r.kind {
+        6 => Ok(Shape {
             number: r.number,
             kind: r.kind,
             first: 0,
             count: 0,
             primitives: 0,
-        });
+        }),
+        0 => Err(LookupError::Unknown),
+        _ if over(used, r.first, r.len) => Err(LookupError::NotSheet),
+        5 => judged_macro(numbers, r),
+        _ => judged_template(r),
     }
-    if r.kind == 0 {
-        return Lookup::Unknown;
-    }
-    if over(used, r.first, r.len) {
-        return Lookup::NotSheet;
-    }
-    if r.kind == 5 {
-        return judged_macro(numbers, r);
-    }
-    judged_template(r)
 }
 
 // The aperture with a number.
-pub fn shape_of(head: &[u64; 8], a: &[u64], numbers: &[i64], number: u64) -> Lookup
+pub fn shape_of(
+    head: &[u64; 8],
+    a: &[u64],
+    numbers: &[i64],
+    number: u64,
+) -> Result<Shape, LookupError>
     ensures { result ≡ lookup_of head.now a.now numbers.now number }
 {
-    if store_ok(head, a, numbers) {
-        let l = search(a, sheet::index(head[3]), number);
-        return match l {
-            Led::At(i) => judged(head[5], numbers, sheet::aperture_at(a, i)),
-            Led::Nobody => Lookup::Unknown,
-            Led::Astray => Lookup::NotSheet,
-        };
+    if !store_ok(head, a, numbers) {
+        return Err(LookupError::NotSheet);
     }
-    Lookup::NotSheet
+    let i = search(a, sheet::index(head[3]), number)?;
+    judged(head[5], numbers, sheet::aperture_at(a, i))
 }
 
 // The aperture of record b, in the order in which the file defines them.
-pub fn shape_at(head: &[u64; 8], a: &[u64], numbers: &[i64], b: u64) -> Lookup
+pub fn shape_at(head: &[u64; 8], a: &[u64], numbers: &[i64], b: u64) -> Result<Shape, LookupError>
     ensures { result ≡ record_of head.now a.now numbers.now b }
 {
-    if store_ok(head, a, numbers) {
-        if b < head[3] {
-            return judged(head[5], numbers, sheet::aperture_at(a, sheet::index(b)));
-        }
-        return Lookup::Unknown;
+    if !store_ok(head, a, numbers) {
+        return Err(LookupError::NotSheet);
     }
-    Lookup::NotSheet
+    if b >= head[3] {
+        return Err(LookupError::Unknown);
+    }
+    judged(head[5], numbers, sheet::aperture_at(a, sheet::index(b)))
 }
 
 // The primitives of a macro's aperture, in runs.
@@ -327,10 +283,9 @@ pub fn shape_at(head: &[u64; 8], a: &[u64], numbers: &[i64], b: u64) -> Lookup
 // The words of a primitive in a run.
 pub const PRIMITIVE_WORDS: usize = 3;
 
-// The outcome of a call for a run: done; 20, past the last primitive; 8, no aperture with the number; 21, not a sheet.
+// Why there is no run: 20, past the last primitive; 8, no aperture with the number; 21, not a sheet.
 #[derive(Clone, Copy)]
-pub enum Fetch {
-    Done,
+pub enum FetchError {
     Past,
     Unknown,
     NotSheet,
@@ -342,19 +297,18 @@ fn skip(numbers: &[i64], from: usize, end: usize, i: usize) -> usize
     ensures { Whole numbers.now result end × ((primitives_in numbers.now result end).list ≡ drop i (primitives_in numbers.now from end).list) }
 {
     let mut at = from;
-    let mut left = i;
-    while left > 0 {
+    for j in 0..i {
         if at >= end {
-            return at;
+            break;
         }
         let p = primitive_at(numbers, at);
         at = p.first + p.count;
-        left -= 1;
     }
     at
 }
 
 // Stores the words of a primitive.
+#[tactic(auto, unfolding(crate::specs::Runs::primitive_words))]
 fn put(out: &mut [u64], at: usize, p: Primitive)
     requires { at + 3 ≤ length out.old }
     ensures { out.new ≡ stored out.old at (primitive_words p) }
@@ -370,15 +324,13 @@ fn fill(numbers: &[i64], from: usize, end: usize, out: &mut [u64])
 {
     let room = out.len() / PRIMITIVE_WORDS;
     let mut at = from;
-    let mut j: usize = 0;
-    while j < room {
+    for j in 0..room {
         if at >= end {
             return;
         }
         let p = primitive_at(numbers, at);
         put(out, j * PRIMITIVE_WORDS, p);
         at = p.first + p.count;
-        j += 1;
     }
 }
 
@@ -390,24 +342,24 @@ pub fn primitives_of(
     number: u64,
     i: usize,
     out: &mut [u64],
-) -> Fetch
+) -> Result<(), FetchError>
     ensures { (result ≡ fetch_of head.now a.now numbers.now number i)
         × (out.new ≡ fetched head.now a.now numbers.now number i (length out.old)) }
 {
     base::clear(out);
     let l = shape_of(head, a, numbers, number);
     match l {
-        Lookup::Is(s) => {
+        Ok(s) => {
             if i < s.primitives {
                 let first = s.first;
                 let end = s.first + s.count;
                 let from = skip(numbers, first, end, i);
                 fill(numbers, from, end, out);
-                return Fetch::Done;
+                return Ok(());
             }
-            Fetch::Past
+            Err(FetchError::Past)
         }
-        Lookup::Unknown => Fetch::Unknown,
-        Lookup::NotSheet => Fetch::NotSheet,
+        Err(LookupError::Unknown) => Err(FetchError::Unknown),
+        Err(LookupError::NotSheet) => Err(FetchError::NotSheet),
     }
 }

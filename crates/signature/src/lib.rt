@@ -29,19 +29,17 @@ pub struct Held {
 }
 
 // The bytes are a signature.
+#[tactic(auto, using(base::proofs::Or::joins), unfolding(crate::specs::Form::is_signature, crate::specs::Form::digits_of))]
 fn is_signature(s: &[u8]) -> bool
     ensures { result ≡ is_signature s.now }
 {
-    base::both(
-        base::both(
-            text::begins(s, b"%TF.MD5,"),
-            hexadecimal::are_digits(base::part(s, 8, 40)),
-        ),
-        text::is(base::from_on(s, 40), b"*%"),
-    )
+    text::begins(s, b"%TF.MD5,")
+        && hexadecimal::are_digits(base::part(s, 8, 40))
+        && text::is(base::from_on(s, 40), b"*%")
 }
 
 // Nothing of a command yet.
+#[tactic(auto, unfolding(crate::specs::Held::nothing))]
 pub fn none() -> Held
     ensures { result ≡ nothing }
 {
@@ -52,6 +50,7 @@ pub fn none() -> Held
 }
 
 // A byte more of a command.
+#[tactic(auto, unfolding(crate::specs::Held::noted))]
 fn note(h: Held, b: u8) -> Held
     ensures { result ≡ noted h b }
 {
@@ -60,7 +59,7 @@ fn note(h: Held, b: u8) -> Held
         let mut bytes = h.bytes;
         bytes[n] = b;
         return Held {
-            bytes: bytes,
+            bytes,
             count: n + 1,
         };
     }
@@ -72,34 +71,34 @@ pub fn hold(h: Held, t: &[u8]) -> Held
     ensures { result ≡ noted_all h (unbroken t.now) }
 {
     let mut g = h;
-    let mut i: usize = 0;
-    while i < t.len() {
-        let b = t[i];
-        i += 1;
-        if base::is_break(b) {} else {
-            g = note(g, b);
+    for &b in t {
+        if base::is_break(b) {
+            continue;
         }
+        g = note(g, b);
     }
     g
 }
 
 // What is held is M02, as a book writes it.
+#[tactic(auto, using(base::proofs::Or::joins), unfolding(crate::specs::Form::is_end, crate::specs::Held::text_of))]
 pub fn holds_end(book: Book, h: Held) -> bool
     ensures { result ≡ is_end book (text_of h) }
 {
     let bytes = h.bytes;
     let t = base::up_to(&bytes, h.count);
-    let short = base::both(book::is_old(book), text::is(t, b"M2*"));
-    base::either(text::is(t, b"M02*"), short)
+    let short = book::is_old(book) && text::is(t, b"M2*");
+    text::is(t, b"M02*") || short
 }
 
 // A refusal.
+#[tactic(auto, unfolding(crate::specs::Signature::refused))]
 pub fn refuse(number: u64, place: usize) -> Answer
     ensures { result ≡ refused number place }
 {
     Answer {
-        number: number,
-        place: place,
+        number,
+        place,
         digest: [0; 16],
     }
 }
@@ -158,16 +157,11 @@ pub fn check(book: Book, file: &[u8]) -> Answer
 {
     let mut from: usize = 0;
     let mut at: usize = 0;
+    // The file's next command is known only once this one is cut: no iterator walks so.
     loop {
         let s = scan::next_command(book, file, at);
         match s {
-            Scan::Command {
-                kind,
-                place,
-                from: text,
-                end,
-                next,
-            } => {
+            Scan::Command { place, next, .. } => {
                 if is_last(book, file, place, next) {
                     return at_end(file, from, at, place, next);
                 }

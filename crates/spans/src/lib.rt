@@ -24,13 +24,13 @@ pub struct Rect {
 pub fn lesser(a: i64, b: i64) -> i64
     ensures { result ≡ least a b }
 {
-    if a < b { a } else { b }
+    a.min(b)
 }
 
 pub fn greater(a: i64, b: i64) -> i64
     ensures { result ≡ greatest a b }
 {
-    if a < b { b } else { a }
+    a.max(b)
 }
 
 pub fn join_span(s: Span, t: Span) -> Span
@@ -47,8 +47,8 @@ pub fn neg_span(s: Span) -> Span
     ensures { result ≡ neg_span s }
 {
     Span {
-        low: 0 - s.high,
-        high: 0 - s.low,
+        low: -s.high,
+        high: -s.low,
     }
 }
 
@@ -67,52 +67,50 @@ pub fn stretch_span(s: Span, n: u64) -> Span
     ensures { result ≡ stretch_span s n }
 {
     Span {
-        low: s.low,
-        high: s.high + (n as i64),
+        high: s.high + n as i64,
+        ..s
     }
 }
 
 pub fn rect_at(p: Point) -> Rect
     ensures { result ≡ rect_at p }
 {
-    let across = Span {
-        low: p.x,
-        high: p.x,
-    };
-    let up = Span {
-        low: p.y,
-        high: p.y,
-    };
-    Rect { across, up }
+    Rect {
+        across: Span {
+            low: p.x,
+            high: p.x,
+        },
+        up: Span {
+            low: p.y,
+            high: p.y,
+        },
+    }
 }
 
+#[tactic(auto, unfolding(crate::specs::Spans::join_rect))]
 pub fn join_rect(b: Rect, c: Rect) -> Rect
     ensures { result ≡ join_rect b c }
 {
-    let x = b.across;
-    let y = b.up;
-    let other_x = c.across;
-    let other_y = c.up;
     Rect {
-        across: join_span(x, other_x),
-        up: join_span(y, other_y),
+        across: join_span(b.across, c.across),
+        up: join_span(b.up, c.up),
     }
 }
 
 // The rectangle with its x flipped, if f.
+#[tactic(auto, unfolding(crate::specs::Spans::flip_rect))]
 pub fn flip_rect(f: bool, b: Rect) -> Rect
     requires { RectWithin (10 ^ 17) b }
     ensures { result ≡ flip_rect f b }
 {
-    let x = b.across;
-    let y = b.up;
     if f {
-        return Rect {
-            across: neg_span(x),
-            up: y,
-        };
+        Rect {
+            across: neg_span(b.across),
+            ..b
+        }
+    } else {
+        b
     }
-    b
 }
 
 // The rectangle turned n quarters counterclockwise about (0, 0).
@@ -120,21 +118,19 @@ pub fn turn_rect(n: u64, b: Rect) -> Rect
     requires { RectWithin (10 ^ 17) b × (n < 4) }
     ensures { result ≡ turn_rect n b }
 {
-    let x = b.across;
-    let y = b.up;
     match n {
         0 => b,
         1 => Rect {
-            across: neg_span(y),
-            up: x,
+            across: neg_span(b.up),
+            up: b.across,
         },
         2 => Rect {
-            across: neg_span(x),
-            up: neg_span(y),
+            across: neg_span(b.across),
+            up: neg_span(b.up),
         },
         _ => Rect {
-            across: y,
-            up: neg_span(x),
+            across: b.up,
+            up: neg_span(b.across),
         },
     }
 }
@@ -143,22 +139,19 @@ pub fn shift_rect(b: Rect, p: Point) -> Rect
     requires { RectWithin (10 ^ 17) b × Within (10 ^ 16) p }
     ensures { result ≡ shift_rect b p }
 {
-    let x = b.across;
-    let y = b.up;
     Rect {
-        across: shift_span(x, p.x),
-        up: shift_span(y, p.y),
+        across: shift_span(b.across, p.x),
+        up: shift_span(b.up, p.y),
     }
 }
 
+#[tactic(auto, unfolding(crate::specs::Spans::stretch_rect))]
 pub fn stretch_rect(b: Rect, w: u64, h: u64) -> Rect
     requires { RectWithin (10 ^ 17) b × (w ≤ 10 ^ 16) × (h ≤ 10 ^ 16) }
     ensures { result ≡ stretch_rect b w h }
 {
-    let x = b.across;
-    let y = b.up;
     Rect {
-        across: stretch_span(x, w),
-        up: stretch_span(y, h),
+        across: stretch_span(b.across, w),
+        up: stretch_span(b.up, h),
     }
 }

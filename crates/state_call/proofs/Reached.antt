@@ -1,6 +1,6 @@
 -- A command that breaks no rule goes to a point within 10^12, by the tables of D01, D02 and D03.
 -- Assumes nothing.
-use Prim.Native.Nat.{ℕ, ◌^◌}
+use Prim.Native.Nat.{◌^◌}
 use mathlib.Core.Path.{◌≡◌}
 use Rattle.points.specs.Points.{Within}
 use Rattle.command.specs.declared.Setting.{Setting}

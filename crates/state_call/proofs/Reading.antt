@@ -2,10 +2,8 @@
 -- graphics state after it.
 -- Assumes nothing.
 use Prim.Native.Nat.{ℕ}
-use mathlib.Core.Path.{◌≡◌, refl, sym, ap, ◌∙◌}
-use mathlib.Core.Bool.{Bool}
+use mathlib.Core.Path.{◌≡◌, refl, ap, ◌∙◌}
 use mathlib.Core.List.{List, [], ◌∷◌}
-use lib.Dec.{eqb}
 use borrow.Author.Tests.{eq-eqb}
 use Rattle.base.specs.Or.{◌or◌}
 use Rattle.command.specs.declared.Setting.{Setting}
@@ -19,7 +17,6 @@ use Rattle.command.specs.declared.Deed.{Deed}
 use Rattle.command.specs.declared.Deed.TheVariants as deed
 use Rattle.command.specs.declared.Command.{Command}
 use Rattle.command.specs.declared.Command.TheVariants.{Broken, Note, End, Set, Operate, Coded, Select, Define, Contain, Attribute}
-use Rattle.graphics.specs.declared.Graphics.{Graphics}
 use Rattle.changes.specs.After.{after}
 use Rattle.command_rules.specs.Rules.{aperture_fault}
 use Rattle.law_reading.specs.State as opened

@@ -1,6 +1,6 @@
 -- "One command changes one graphics state" (01, State): its number, and the state after it (decision 273). Every rule is judged here, by
 -- the graphics state, what stands open, the command, and what only the stores know of it (decision 470).
-use Rattle.std.specs.Prelude.{ℕ, cond, eqb}
+use Rattle.std.specs.Prelude.{ℕ, cond, eqb, Err, Ok, Result, ⊤}
 use Rattle.base.specs.Or.{◌or◌}
 use Rattle.command.specs.Flaws.{flaw_number}
 use Rattle.command.specs.declared.Setting.{Setting}
@@ -34,16 +34,16 @@ use Rattle.command_rules.specs.Rules.{
   end_fault,
 }
 use Rattle.faults.specs.Order.{sooner}
-use Rattle.state_call.specs.declared.Worked.{Worked}
-use Rattle.state_call.specs.declared.Worked.TheVariants.{Fine, Undefined, Unruly}
 use Rattle.state_call.specs.declared.Known.{Known}
 use Rattle.state_call.specs.declared.Stepped.{Stepped}
+use Rattle.state_call.specs.declared.ParameterError.TheVariants as parameter_error
+use Rattle.state_call.specs.declared.ParameterError.{ParameterError}
 
 -- "9: macro expression", "10: parameter outside its rule"
-unfoldable pub worked_number : Worked → ℕ
-worked_number Fine = 0
-worked_number Undefined = 9
-worked_number Unruly = 10
+unfoldable pub worked_number : Result ⊤ ParameterError → ℕ
+worked_number (Ok _) = 0
+worked_number (Err parameter_error.Undefined) = 9
+worked_number (Err parameter_error.Unruly) = 10
 
 -- the lowest rule that a command breaks, 0 for none, by the tables of crates/operation_rules and crates/command_rules
 unfoldable pub operation_fault : Graphics → Level → Operation → Known → ℕ

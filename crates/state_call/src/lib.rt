@@ -4,15 +4,16 @@
 
 ghost use Rattle.std.specs.Prelude.{◌≡◌};
 ghost use Rattle.changes.specs.After.{Reached};
+ghost use Rattle.faults.specs.Rule.{number_told};
 ghost use Rattle.state_call.specs.Stepped.{worked_number, operation_fault, coded_fault, definition_fault, bracket_fault, deed_fault, fault_of, behind, stepped_of};
 
 use command::{Bracket, Command, Deed, Definition, Operation, Setting};
+use faults::Rule;
 use graphics::{Graphics, Level, Selected};
 
-// The outcome of the parameters of an AD.
+// Why the parameters of an AD are refused.
 #[derive(Clone, Copy)]
-pub enum Worked {
-    Fine,
+pub enum ParameterError {
     // 9: an expression of its macro has no value, or one too large
     Undefined,
     // 10: a parameter is outside its rule
@@ -31,7 +32,7 @@ pub struct Known {
     // AD: it names a macro that did not come before
     pub unknown: bool,
     // AD
-    pub worked: Worked,
+    pub worked: Result<(), ParameterError>,
     // AD, AM and AB: there is no room for the aperture and its numbers, or for the macro
     pub full: bool,
 }
@@ -43,20 +44,21 @@ pub struct Stepped {
     pub graphics: Graphics,
 }
 
-// The number of an AD's outcome.
-fn worked_number(w: Worked) -> u64
-    ensures { result ≡ worked_number w }
+// The rule that the parameters of an AD break, if one is.
+#[tactic(auto, unfolding(crate::specs::Stepped::worked_number, faults::specs::Rule::number_told, faults::specs::Rule::number_of_rule))]
+fn rule_of(w: Result<(), ParameterError>) -> Result<(), Rule>
+    ensures { number_told result ≡ worked_number w }
 {
     match w {
-        Worked::Fine => 0,
-        Worked::Undefined => 9,
-        Worked::Unruly => 10,
+        Ok(()) => Ok(()),
+        Err(ParameterError::Undefined) => Err(Rule::Undefined),
+        Err(ParameterError::Unruly) => Err(Rule::Parameter),
     }
 }
 
-// D01, D02 and D03: the number of the first rule that is broken, 0 where all are kept.
-fn operation_fault(g: Graphics, l: Level, o: Operation, k: Known) -> u64
-    ensures { result ≡ operation_fault g l o k }
+// D01, D02 and D03: the first rule that is broken, if one is.
+fn operation_fault(g: Graphics, l: Level, o: Operation, k: Known) -> Result<(), Rule>
+    ensures { number_told result ≡ operation_fault g l o k }
 {
     match o {
         Operation::Draw { x, y, centre } => operation_rules::draw_fault(
@@ -68,8 +70,8 @@ fn operation_fault(g: Graphics, l: Level, o: Operation, k: Known) -> u64
 }
 
 // An operation after a G code, which takes effect first: of the rules that the two break, the one tested first.
-fn coded_fault(g: Graphics, l: Level, code: Setting, o: Operation, k: Known) -> u64
-    ensures { result ≡ coded_fault g l code o k }
+fn coded_fault(g: Graphics, l: Level, code: Setting, o: Operation, k: Known) -> Result<(), Rule>
+    ensures { number_told result ≡ coded_fault g l code o k }
 {
     faults::sooner(
         command_rules::setting_fault(g, code),
@@ -78,26 +80,21 @@ fn coded_fault(g: Graphics, l: Level, code: Setting, o: Operation, k: Known) -> 
 }
 
 // AD and AM, likewise.
-fn definition_fault(g: Graphics, d: Definition, k: Known) -> u64
-    ensures { result ≡ definition_fault g d k }
+fn definition_fault(g: Graphics, d: Definition, k: Known) -> Result<(), Rule>
+    ensures { number_told result ≡ definition_fault g d k }
 {
     match d {
         Definition::Aperture { .. } => {
             let w = k.worked;
-            command_rules::aperture_fault(
-                g,
-                base::either(k.taken, k.unknown),
-                worked_number(w),
-                k.full,
-            )
+            command_rules::aperture_fault(g, base::either(k.taken, k.unknown), rule_of(w), k.full)
         }
         Definition::Macro { deep, .. } => command_rules::macro_fault(g, k.taken, deep, k.full),
     }
 }
 
 // AB and SR.
-fn bracket_fault(g: Graphics, l: Level, b: Bracket, k: Known) -> u64
-    ensures { result ≡ bracket_fault g l b k }
+fn bracket_fault(g: Graphics, l: Level, b: Bracket, k: Known) -> Result<(), Rule>
+    ensures { number_told result ≡ bracket_fault g l b k }
 {
     match b {
         Bracket::BlockStart(_) => command_rules::block_start_fault(
@@ -120,8 +117,8 @@ fn bracket_fault(g: Graphics, l: Level, b: Bracket, k: Known) -> u64
 }
 
 // TF, TA, TO and TD.
-fn deed_fault(g: Graphics, d: Deed, k: Known) -> u64
-    ensures { result ≡ deed_fault g d k }
+fn deed_fault(g: Graphics, d: Deed, k: Known) -> Result<(), Rule>
+    ensures { number_told result ≡ deed_fault g d k }
 {
     match d {
         Deed::SetFile { .. } => command_rules::file_attribute_fault(g, k.taken),
@@ -133,12 +130,13 @@ fn deed_fault(g: Graphics, d: Deed, k: Known) -> u64
 }
 
 // Any command.
-fn fault_of(g: Graphics, l: Level, c: Command, k: Known) -> u64
-    ensures { result ≡ fault_of g l c k }
+#[tactic(auto, unfolding(crate::specs::Stepped::fault_of, faults::specs::Rule::number_told))]
+fn fault_of(g: Graphics, l: Level, c: Command, k: Known) -> Result<(), Rule>
+    ensures { number_told result ≡ fault_of g l c k }
 {
     match c {
-        Command::Broken(f) => command::flaw_number(f),
-        Command::Note => 0,
+        Command::Broken(flaw) => Err(command::rule_of(flaw)),
+        Command::Note => Ok(()),
         Command::End => command_rules::end_fault(g, l),
         Command::Set(s) => command_rules::setting_fault(g, s),
         Command::Operate(o) => operation_fault(g, l, o, k),
@@ -176,10 +174,9 @@ fn behind(g: Graphics, c: Command, k: Known) -> Graphics
 pub fn next(g: Graphics, l: Level, c: Command, k: Known) -> Stepped
     ensures { result ≡ stepped_of g l c k }
 {
-    let fault = fault_of(g, l, c, k);
-    if fault != 0 {
+    if let Err(rule) = fault_of(g, l, c, k) {
         return Stepped {
-            number: fault,
+            number: u64::from(rule),
             graphics: g,
         };
     }

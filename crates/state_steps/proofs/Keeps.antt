@@ -1,11 +1,11 @@
 -- What is known stays known where the graphics state changes and nothing else does.
 -- Assumes nothing.
+use Rattle.std.specs.Prelude.{Option, ℤ}
 use Prim.Native.Nat.{ℕ, ◌^◌, ◌≤◌}
 use mathlib.Core.Path.{◌≡◌, refl, sym, ◌∙◌}
 use mathlib.Core.Bool.{Bool, true, false, false≢true}
 use native.Mathlib.Omega.{arith}
 use Rattle.points.specs.Points.{Within}
-use Rattle.command.specs.declared.Axis.{Axis}
 use Rattle.command.specs.declared.Setting.{Setting}
 use Rattle.command.specs.declared.Setting.TheVariants as setting
 use Rattle.command.specs.declared.Command.{Command}
@@ -95,7 +95,7 @@ module _ (g : Graphics) (k : Keeps g g) where
     contour = λ e. absurd (false≢true (sym none ∙ e));
   }
 
-  pub move_keeps : (x y : Axis) → move_fault g x y ≡ 0 → Keeps g (going_to (target g x y) (with_region (ended g.region) g))
+  pub move_keeps : (x y : Option ℤ) → move_fault g x y ≡ 0 → Keeps g (going_to (target g x y) (with_region (ended g.region) g))
   unfolding going_to with_point with_region ended
   move_keeps x y l = record {
     point = move_reached g x y l;

@@ -1,12 +1,13 @@
 -- The outcome of a command that keeps the rooms, whatever is known.
 -- Assumes nothing.
+use Rattle.std.specs.Prelude.{Option, ℤ, Err, Ok}
 use Prim.Native.Nat.{ℕ}
 use mathlib.Core.Path.{◌≡◌, sym, ap, subst, ◌∙◌}
 use mathlib.Core.Bool.{Bool, true}
 use mathlib.Core.List.{List}
-use native.Mathlib.Omega.{arith}
 use Rattle.points.specs.declared.Point.{Point}
-use Rattle.command.specs.declared.Axis.{Axis}
+use Rattle.faults.specs.Rule.{number_of_rule}
+use Rattle.faults.specs.declared.Rule.{Rule}
 use Rattle.command.specs.declared.Command.{Command}
 use Rattle.graphics.specs.declared.Graphics.{Graphics}
 use Rattle.graphics.specs.declared.Level.{Level}
@@ -23,7 +24,6 @@ use Rattle.progress.specs.Lent.{Lent, room_of}
 use Rattle.progress.specs.Levels.{level_of}
 use Rattle.progress.specs.Knows.{Knows, Follows, FollowsStroke, StepsTo, StrikesTo}
 use Rattle.progress.specs.declared.Progress.{Progress}
-use Rattle.progress.specs.declared.Stepped.TheVariants.{Next, Fault}
 use Rattle.progress.specs.declared.Struck.TheVariants as struck
 use Rattle.state_steps.specs.KeepsRooms.{keeps_rooms, fault_of}
 use Rattle.state_steps.proofs.Keeps.{Keeps, keeps_itself, still_known, move_keeps, after_keeps}
@@ -37,10 +37,11 @@ module _ (p : Progress) (c : Command) (text : List ℕ) (place : ℕ) (q : keeps
   pub set_refuses :
       (n : ℕ)
       → n ≡ fault_of p.graphics l c
-      → (n ≡ 0 → ⊥)
-      → StepsTo (λ room s. step_of room text place c s) (λ w. Unit) (λ w. w) p (Fault n)
+      → (rule : Rule)
+      → number_of_rule rule ≡ n
+      → StepsTo (λ room s. step_of room text place c s) (λ w. Unit) (λ w. w) p (Err rule)
   unfolding Follows
-  set_refuses n e some w s u k = (fault_is w s k ∙ sym e, omega (arith, some))
+  set_refuses n e rule is w s u k = fault_is w s k ∙ sym e ∙ sym is
 
   pub set_goes_on :
       (g : Graphics)
@@ -48,7 +49,7 @@ module _ (p : Progress) (c : Command) (text : List ℕ) (place : ℕ) (q : keeps
       → fault_of p.graphics l c ≡ 0
       → (r : Progress)
       → r ≡ with_graphics g p
-      → StepsTo (λ room s. step_of room text place c s) (λ w. Unit) (λ w. w) p (Next r)
+      → StepsTo (λ room s. step_of room text place c s) (λ w. Unit) (λ w. w) p (Ok r)
   unfolding Follows
   set_goes_on g a e r r-is w s u k =
       let now : Keeps s.graphics (after c s.graphics) = after_keeps s.graphics (keeps_itself w p s k) c q l (sym (λ i. fault_of (k.graphics i) l c) ∙ e) in
@@ -60,14 +61,14 @@ module _ (p : Progress) (c : Command) (text : List ℕ) (place : ℕ) (q : keeps
       )
 
 -- D02
-module _ (p : Progress) (x y : Axis) where
+module _ (p : Progress) (x y : Option ℤ) where
   move_fault_lem : (w : Lent) (s : State) → Knows w p s → (move_step x y s).fault ≡ move_fault p.graphics x y
   unfolding move_step
   move_fault_lem w s k = λ i. move_fault (sym k.graphics i) x y
 
-  pub move_refuses : (n : ℕ) → n ≡ move_fault p.graphics x y → (n ≡ 0 → ⊥) → StrikesTo (λ room s. move_step x y s) (λ w. Unit) (λ w. w) p (struck.Fault n)
+  pub move_refuses : (n : ℕ) → n ≡ move_fault p.graphics x y → (rule : Rule) → number_of_rule rule ≡ n → StrikesTo (λ room s. move_step x y s) (λ w. Unit) (λ w. w) p (struck.Fault rule)
   unfolding FollowsStroke Follows
-  move_refuses n e some w s u k = (move_fault_lem w s k ∙ sym e, omega (arith, some))
+  move_refuses n e rule is w s u k = move_fault_lem w s k ∙ sym e ∙ sym is
 
   pub move_goes_on :
       (at : Point) (region : Region)
@@ -86,11 +87,11 @@ module _ (p : Progress) (name : List ℕ) (again : Bool) (w : Lent) (s : State) 
   unfolding file_attribute_step
   name_fault = λ i. file_attribute_fault (sym k.graphics i) (sym e i)
 
-  pub name_refuses : (n : ℕ) → n ≡ file_attribute_fault p.graphics again → (n ≡ 0 → ⊥) → Follows (Knows w) (file_attribute_step name s) (Fault n)
+  pub name_refuses : (n : ℕ) → n ≡ file_attribute_fault p.graphics again → (rule : Rule) → number_of_rule rule ≡ n → Follows (Knows w) (file_attribute_step name s) (Err rule)
   unfolding Follows
-  name_refuses n f some = (name_fault ∙ sym f, omega (arith, some))
+  name_refuses n f rule is = name_fault ∙ sym f ∙ sym is
 
-  pub name_goes_on : file_attribute_fault p.graphics again ≡ 0 → Follows (Knows w) (file_attribute_step name s) (Next p)
+  pub name_goes_on : file_attribute_fault p.graphics again ≡ 0 → Follows (Knows w) (file_attribute_step name s) (Ok p)
   unfolding Follows file_attribute_step state.with_names
   name_goes_on f = (
     name_fault ∙ f,

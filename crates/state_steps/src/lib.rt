@@ -2,6 +2,7 @@
 #![tactic(auto)]
 
 ghost use Rattle.std.specs.Prelude.{ℕ, ◌≡◌, true, List};
+ghost use Rattle.faults.specs.Rule.{number_told};
 ghost use Rattle.law_reading.specs.State.{State};
 ghost use Rattle.law_reading.specs.Apertures.{is_among};
 ghost use Rattle.law_reading.specs.Steps.{file_attribute_step, move_step, step_of};
@@ -9,16 +10,18 @@ ghost use Rattle.progress.specs.Lent.{Lent};
 ghost use Rattle.progress.specs.Knows.{Knows, Follows, StepsTo, StrikesTo};
 ghost use Rattle.state_steps.specs.KeepsRooms.{keeps_rooms, deed_fault, fault_of};
 
-use command::{Axis, Command, Deed};
+use command::{Command, Deed};
+use faults::Rule;
 use graphics::{Graphics, Level};
-use progress::{Progress, Stepped, Stroke, Struck};
+use progress::{Progress, Stroke, Struck};
 
-// The number of the first rule that a TA, TO or TD breaks, 0 where it keeps all.
-fn deed_fault(g: Graphics, d: Deed) -> u64
-    ensures { result ≡ deed_fault g d }
+// The first rule that a TA, TO or TD breaks, if one is.
+#[tactic(auto, unfolding(crate::specs::KeepsRooms::deed_fault, faults::specs::Rule::number_told))]
+fn deed_fault(g: Graphics, d: Deed) -> Result<(), Rule>
+    ensures { number_told result ≡ deed_fault g d }
 {
     match d {
-        Deed::SetFile { .. } => 0,
+        Deed::SetFile { .. } => Ok(()),
         Deed::SetAperture { .. } => command_rules::region_fault(g),
         Deed::SetObject { .. } => command_rules::region_fault(g),
         Deed::Delete { .. } => command_rules::region_fault(g),
@@ -26,57 +29,51 @@ fn deed_fault(g: Graphics, d: Deed) -> u64
     }
 }
 
-// The number of the first rule that a command that keeps the rooms breaks, 0 where it keeps all.
-pub fn fault_of(g: Graphics, l: Level, c: Command) -> u64
-    ensures { result ≡ fault_of g l c }
+// The first rule that a command that keeps the rooms breaks, if one is.
+#[tactic(auto, unfolding(crate::specs::KeepsRooms::fault_of, faults::specs::Rule::number_told))]
+pub fn fault_of(g: Graphics, l: Level, c: Command) -> Result<(), Rule>
+    ensures { number_told result ≡ fault_of g l c }
 {
     match c {
-        Command::Broken(f) => command::flaw_number(f),
-        Command::Note => 0,
+        Command::Broken(flaw) => Err(command::rule_of(flaw)),
+        Command::Note => Ok(()),
         Command::End => command_rules::end_fault(g, l),
         Command::Set(s) => command_rules::setting_fault(g, s),
-        Command::Operate(_) => 0,
-        Command::Coded { .. } => 0,
+        Command::Operate(_) => Ok(()),
+        Command::Coded { .. } => Ok(()),
         Command::Attribute(d) => deed_fault(g, d),
-        Command::Select(_) => 0,
-        Command::Define(_) => 0,
-        Command::Contain(_) => 0,
+        Command::Select(_) => Ok(()),
+        Command::Define(_) => Ok(()),
+        Command::Contain(_) => Ok(()),
     }
 }
 
 // A command that keeps the rooms: its fault, or the graphics state after it.
-pub fn set(p: Progress, c: Command) -> Stepped
+pub fn set(p: Progress, c: Command) -> Result<Progress, Rule>
     requires { keeps_rooms c ≡ true }
     ensures { (text : List ℕ) (place : ℕ) → StepsTo (λ room s. step_of room text place c s) (λ w. Unit) (λ w. w) p result }
 {
     let g = p.graphics;
-    let fault = fault_of(g, progress::level_of(p), c);
-    if fault != 0 {
-        return Stepped::Fault(fault);
-    }
-    Stepped::Next(progress::with_graphics(changes::after(c, g), p))
+    fault_of(g, progress::level_of(p), c)?;
+    Ok(progress::with_graphics(changes::after(c, g), p))
 }
 
 // TF, whose name is set already or not.
-pub fn set_name(p: Progress, again: bool) -> Stepped
+pub fn set_name(p: Progress, again: bool) -> Result<Progress, Rule>
     ensures { (name : List ℕ) (w : Lent) (s : State) → again ≡ is_among name s.names → Knows w p s → Follows (Knows w) (file_attribute_step name s) result }
 {
     let g = p.graphics;
-    let fault = command_rules::file_attribute_fault(g, again);
-    if fault != 0 {
-        return Stepped::Fault(fault);
-    }
-    Stepped::Next(p)
+    command_rules::file_attribute_fault(g, again)?;
+    Ok(p)
 }
 
 // D02.
-pub fn go(p: Progress, x: Axis, y: Axis) -> Struck
+pub fn go(p: Progress, x: Option<i64>, y: Option<i64>) -> Struck
     ensures { StrikesTo (λ room s. move_step x y s) (λ w. Unit) (λ w. w) p result }
 {
     let g = p.graphics;
-    let fault = operation_rules::move_fault(g, x, y);
-    if fault != 0 {
-        return Struck::Fault(fault);
+    if let Err(rule) = operation_rules::move_fault(g, x, y) {
+        return Struck::Fault(rule);
     }
     let region = g.region;
     let builder = p.builder;

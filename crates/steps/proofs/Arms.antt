@@ -1,5 +1,7 @@
 -- Parts of what is lent that stay as they are, and what is known of the rest.
 -- Assumes nothing.
+use Rattle.faults.specs.declared.Rule.{Rule}
+use Rattle.std.specs.Prelude.{Result, ℕ}
 use Prim.Native.Nat.{ℕ}
 use mathlib.Core.Path.{◌≡◌, ◌∙◌, ap, subst}
 use mathlib.Core.List.{List}
@@ -7,7 +9,6 @@ use lib.IntN.{ℤ}
 use Rattle.progress.specs.Lent.{Lent, with_entries, with_apertures, with_macros, with_numbers}
 use Rattle.law_reading.specs.Steps.{Step}
 use Rattle.progress.specs.Knows.{Knows, Known, Follows}
-use Rattle.progress.specs.declared.Stepped.{Stepped}
 use Rattle.progress.specs.declared.Progress.{Progress}
 
 -- what is known of all that is lent is known of a part of it
@@ -32,7 +33,7 @@ unfolding with_numbers
 same_numbers w q i = record { file = w.file; entries = w.entries; apertures = w.apertures; macros = w.macros; numbers = q i }
 
 -- so that a step which leaves a part alone may be said to put it back
-module _ (w : Lent) (t : Step) (r : Stepped) where
+module _ (w : Lent) (t : Step) (r : Result Progress Rule) where
   pub keeps_apertures : (e a : List ℕ) → w.apertures ≡ a → Follows (Knows (with_entries e w)) t r → Follows (Knows (with_apertures a (with_entries e w))) t r
   unfolding with_entries
   keeps_apertures e a q h = subst (λ (v : Lent). Follows (Knows v) t r) (same_apertures (with_entries e w) q) h

@@ -1,11 +1,12 @@
 -- An operation after a G code steps as reading says: the state after the code is known as the one before it is.
 -- Assumes nothing.
-use Prim.Native.Nat.{ℕ, zero, suc, ◌≤◌}
-use mathlib.Core.Path.{◌≡◌, refl, sym, ap, subst, ◌∙◌}
-use mathlib.Core.Bool.{Bool, true, false, cond, false≢true}
+use Rattle.std.specs.Prelude.{None, Option, Some, Result, Ok, Err, ⊤}
+use Prim.Native.Nat.{ℕ, ◌≤◌}
+use mathlib.Core.Path.{◌≡◌, refl, sym, ap, ◌∙◌}
+use mathlib.Core.Bool.{Bool, true, false, false≢true}
 use native.Mathlib.Omega.{arith}
 use lib.Dec.{eqb}
-use borrow.Author.Tests.{eqb-true, eqb-false, eq-eqb}
+use borrow.Author.Tests.{eqb-true}
 use Rattle.base.specs.Choose.{pick}
 use Rattle.command.specs.declared.Setting.{Setting}
 use Rattle.command.specs.declared.Setting.TheVariants as setting
@@ -16,7 +17,9 @@ use Rattle.graphics.specs.declared.Graphics.{Graphics}
 use Rattle.graphics.specs.Graphics.{with_mode}
 use Rattle.changes.specs.After.{after_setting, mode_of}
 use Rattle.faults.specs.Order.{sooner}
-use Rattle.faults.proofs.Laws.{sooner_first}
+use Rattle.faults.specs.Rule.{number_of_rule, number_told}
+use Rattle.faults.specs.declared.Rule.{Rule}
+use Rattle.faults.proofs.Rules.{first_told}
 use Rattle.law_reading.specs.State.{State}
 use Rattle.law_reading.specs.Steps.{Step, setting_step}
 use Rattle.progress.specs.Parts.{with_graphics}
@@ -26,18 +29,9 @@ use Rattle.progress.specs.declared.Progress.{Progress}
 use Rattle.progress.specs.declared.Struck.{Struck}
 use Rattle.progress.specs.declared.Struck.TheVariants.{Next, Fault, Other}
 use Rattle.state_steps.proofs.Keeps.{keeps_itself, still_known, setting_keeps}
-use Rattle.steps.specs.Coded.{behind_code, joined}
+use Rattle.steps.specs.Coded.{behind_code, joined, stroke_after}
 use Rattle.steps.specs.Steps.{behind_fault}
-use Rattle.steps.specs.declared.Held.{Held}
-use Rattle.steps.specs.declared.Held.TheVariants.{Operation, Nothing}
-
--- a number that is some stays some beside another
-pub sooner_some : (a b : ℕ) → 1 ≤ b → 1 ≤ sooner a b
-sooner_some a b l = go (sooner a b) (λ z. ((sooner_first a b).none z).1)
-  where
-    go : (r : ℕ) → (r ≡ 0 → b ≡ 0) → 1 ≤ r
-    go zero f = let z = f refl in omega arith
-    go (suc r) f = omega arith
+use Rattle.command.specs.declared.Operation.{Operation}
 
 -- no fault of the operation leaves that of the code
 pub sooner_none : (a : ℕ) → sooner a 0 ≡ a
@@ -80,27 +74,22 @@ mode_set setting.RegionEnd g l = absurd (omega (arith, l))
 mode_set setting.Halt g l = absurd (omega (arith, l))
 
 -- an operation is held, or none is
-is_some : Held → Bool
-is_some (Operation o) = true
-is_some Nothing = false
+is_some : Option Operation → Bool
+is_some (Some o) = true
+is_some None = false
 
-pub none_held : {o : operation.Operation} → Operation o ≡ Nothing → ⊥
+pub none_held : {o : operation.Operation} → Some o ≡ None → ⊥
 unfolding is_some
 none_held e = false≢true (sym (ap is_some e))
 
 -- an operation, and the fault of the code before it
-pub joined_strikes : (K : Progress → State → Type 0) (t : Step) (p : Progress) (fault : ℕ) (r : Struck) → FollowsStroke K t p r → FollowsStroke K (behind_fault fault t) p (joined fault r)
-unfolding FollowsStroke Follows joined
-joined_strikes K t p fault (Fault n) f = (rw f.0 refl, sooner_some fault n f.1)
+pub joined_strikes : (K : Progress → State → Type 0) (t : Step) (p : Progress) (fault : Result ⊤ Rule) (r : Struck) → FollowsStroke K t p r →
+    FollowsStroke K (behind_fault (number_told fault) t) p (joined fault r)
+unfolding FollowsStroke Follows joined stroke_after number_told
+joined_strikes K t p fault (Fault rule) f = ap (sooner (number_told fault)) f ∙ sym (first_told fault rule)
 joined_strikes K t p fault Other f = f
-joined_strikes K t p fault (Next q) f = go (eqb fault 0) refl
-  where
-    go : (z : Bool) → eqb fault 0 ≡ z → FollowsStroke K (behind_fault fault t) p (cond z (Next q) (Fault fault))
-    go true z = let none = eqb-true fault 0 z in (rw (f.0, sooner_none fault) none, f.1)
-    go false z = (rw f.0 (sooner_none fault), some fault (eqb-false fault 0 z))
-      where
-        some : (n : ℕ) → (n ≡ 0 → ⊥) → 1 ≤ n
-        some n ne = omega arith
+joined_strikes K t p (Ok _) (Next q) f = (rw f.0 (sooner_none 0), f.1)
+joined_strikes K t p (Err rule) (Next q) f = rw f.0 (sooner_none (number_of_rule rule))
 
 -- what is known before a command is known after its code
 pub known_behind : (c : Command) (lends : Lent → Type 0) (p : Progress) → Known lends p → Known lends (behind_code c p)

@@ -1,7 +1,9 @@
 -- What the call for an operation promises is a step of reading; a command that is none goes on as it was.
 -- Assumes nothing.
+use Rattle.faults.specs.declared.Rule.{Rule}
+use Rattle.std.specs.Prelude.{Err, Ok, Result, ℕ, None, Option, Some}
 use Prim.Native.Nat.{ℕ}
-use mathlib.Core.Path.{◌≡◌, refl, sym, ◌∙◌, subst}
+use mathlib.Core.Path.{◌≡◌, refl, subst}
 use mathlib.Core.List.{List}
 use Rattle.base.specs.Choose.{pick}
 use Rattle.command.specs.declared.Command.{Command}
@@ -15,29 +17,26 @@ use Rattle.progress.specs.Lent.{Lent, room_of, with_entries}
 use Rattle.progress.specs.Strokes.{with_stroke}
 use Rattle.progress.specs.Knows.{Knows, Known, Follows, FollowsStroke}
 use Rattle.progress.specs.declared.Progress.{Progress}
-use Rattle.progress.specs.declared.Stepped.{Stepped}
-use Rattle.progress.specs.declared.Stepped.TheVariants as stepped
 use Rattle.progress.specs.declared.Struck.{Struck}
 use Rattle.progress.specs.declared.Struck.TheVariants.{Next, Fault, Other}
 use Rattle.steps.specs.Coded.{held_in, code_fault, behind_code}
 use Rattle.steps.specs.Steps.{behind_fault, Operates}
-use Rattle.steps.specs.declared.Held.{Held}
-use Rattle.steps.specs.declared.Held.TheVariants.{Operation, Nothing}
 use Rattle.steps.proofs.Coded.{behind_is, none_held}
+use Rattle.command.specs.declared.Operation.{Operation}
 
 -- a command that has no operation leaves the entries, and has no code
-pub operated_none : (fault place : ℕ) (h : Held) (e e' : List ℕ) (p : Progress) → Known (λ w. w.entries ≡ e) p → Operates fault place h e e' p Other →
-    (h ≡ Nothing) × (e' ≡ e)
+pub operated_none : (fault place : ℕ) (h : Option Operation) (e e' : List ℕ) (p : Progress) → Known (λ w. w.entries ≡ e) p → Operates fault place h e e' p Other →
+    (h ≡ None) × (e' ≡ e)
 unfolding Operates FollowsStroke
-operated_none fault place (Operation o) e e' p k f = absurd (f k.lent k.state k.is k.knows)
-operated_none fault place Nothing e e' p k f = (refl, f.1)
+operated_none fault place (Some o) e e' p k f = absurd (f k.lent k.state k.is k.knows)
+operated_none fault place None e e' p k f = (refl, f.1)
 
-pub operated_some : (fault place : ℕ) (h : Held) (e e' : List ℕ) (p : Progress) (r : Struck) → Operates fault place h e e' p r → (r ≡ Other → ⊥) → h ≡ Nothing → ⊥
+pub operated_some : (fault place : ℕ) (h : Option Operation) (e e' : List ℕ) (p : Progress) (r : Struck) → Operates fault place h e e' p r → (r ≡ Other → ⊥) → h ≡ None → ⊥
 unfolding Operates
-operated_some fault place (Operation o) e e' p r f some q = none_held q
-operated_some fault place Nothing e e' p r f some q = some f.0
+operated_some fault place (Some o) e e' p r f some q = none_held q
+operated_some fault place None e e' p r f some q = some f.0
 
-pub behind_none : (c : Command) (p : Progress) → held_in c ≡ Nothing → behind_code c p ≡ p
+pub behind_none : (c : Command) (p : Progress) → held_in c ≡ None → behind_code c p ≡ p
 unfolding held_in behind_code
 behind_none (command.Coded code o) p q = absurd (none_held q)
 behind_none (command.Operate o) p q = refl
@@ -51,10 +50,10 @@ behind_none (command.Contain b) p q = refl
 behind_none (command.Attribute d) p q = refl
 
 -- how far reading has come after a stroke from p on
-unfoldable pub stepped_by : Progress → Struck → Stepped
-stepped_by p (Next s) = stepped.Next (with_stroke s p)
-stepped_by p (Fault n) = stepped.Fault n
-stepped_by p Other = stepped.Next p
+unfoldable pub stepped_by : Progress → Struck → Result Progress Rule
+stepped_by p (Next s) = Ok (with_stroke s p)
+stepped_by p (Fault n) = Err n
+stepped_by p Other = Ok p
 
 follows_stroke : (K : Progress → State → Type 0) (t : Step) (p : Progress) (r : Struck) → FollowsStroke K t p r → Follows K t (stepped_by p r)
 unfolding FollowsStroke stepped_by

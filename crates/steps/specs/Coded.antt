@@ -1,30 +1,31 @@
 -- The operation of a command, alone or after a G code: "of the faults of the code and of the operation .. the one tested first decides"
 -- (decision 516).
-use Rattle.std.specs.Prelude.{ℕ, cond, eqb}
+use Rattle.std.specs.Prelude.{ℕ, None, Option, Some, Result, Ok, Err, ⊤}
 use Rattle.command.specs.declared.Command.{Command}
 use Rattle.command.specs.declared.Command.TheVariants as command
 use Rattle.graphics.specs.declared.Graphics.{Graphics}
 use Rattle.changes.specs.After.{after_setting}
 use Rattle.command_rules.specs.Settings.{setting_fault}
-use Rattle.faults.specs.Order.{sooner}
+use Rattle.faults.specs.Rule.{first_of}
+use Rattle.faults.specs.declared.Rule.{Rule}
 use Rattle.progress.specs.Parts.{with_graphics}
 use Rattle.progress.specs.declared.Progress.{Progress}
+use Rattle.progress.specs.declared.Stroke.{Stroke}
 use Rattle.progress.specs.declared.Struck.{Struck}
 use Rattle.progress.specs.declared.Struck.TheVariants.{Next, Fault, Other}
-use Rattle.steps.specs.declared.Held.{Held}
-use Rattle.steps.specs.declared.Held.TheVariants.{Operation, Nothing}
+use Rattle.command.specs.declared.Operation.{Operation}
 
-unfoldable pub held_in : Command → Held
-held_in (command.Operate o) = Operation o
-held_in (command.Coded code o) = Operation o
-held_in (command.Broken flaw) = Nothing
-held_in command.Note = Nothing
-held_in command.End = Nothing
-held_in (command.Set s) = Nothing
-held_in (command.Select n) = Nothing
-held_in (command.Define d) = Nothing
-held_in (command.Contain b) = Nothing
-held_in (command.Attribute d) = Nothing
+unfoldable pub held_in : Command → Option Operation
+held_in (command.Operate o) = Some o
+held_in (command.Coded code o) = Some o
+held_in (command.Broken flaw) = None
+held_in command.Note = None
+held_in command.End = None
+held_in (command.Set s) = None
+held_in (command.Select n) = None
+held_in (command.Define d) = None
+held_in (command.Contain b) = None
+held_in (command.Attribute d) = None
 
 -- the fault of the code before it, 0 for none
 unfoldable pub code_fault : Graphics → Command → ℕ
@@ -52,8 +53,13 @@ behind_code (command.Define d) p = p
 behind_code (command.Contain b) p = p
 behind_code (command.Attribute d) p = p
 
--- the code's fault, 0 for none, and the outcome of the operation in the state after the code
-unfoldable pub joined : ℕ → Struck → Struck
-joined fault (Fault n) = Fault (sooner fault n)
-joined fault (Next s) = cond (eqb fault 0) (Next s) (Fault fault)
+-- a stroke after a code with this fault, if it has one
+unfoldable pub stroke_after : Result ⊤ Rule → Stroke → Struck
+stroke_after (Ok _) s = Next s
+stroke_after (Err rule) s = Fault rule
+
+-- the code's fault, if it has one, and the outcome of the operation in the state after the code
+unfoldable pub joined : Result ⊤ Rule → Struck → Struck
+joined fault (Fault rule) = Fault (first_of fault rule)
+joined fault (Next s) = stroke_after fault s
 joined fault Other = Other

@@ -3,6 +3,7 @@
 
 ghost use Rattle.std.specs.Prelude.{ℕ, ◌≤◌, ◌≡◌, List, length};
 ghost use Rattle.std.proofs.Math.Seq.{slice};
+ghost use Rattle.faults.specs.Rule.{number_told};
 ghost use Rattle.law_bounds.specs.Bounded.{DefinitionBounded, BracketBounded};
 ghost use Rattle.law_reading.specs.State.{State};
 ghost use Rattle.law_reading.specs.Steps.{operation_step, definition_step, bracket_step, deed_step};
@@ -13,19 +14,12 @@ ghost use Rattle.steps.specs.Steps.{Sound, AgainBy, Reads, Operates};
 ghost use Rattle.changes.specs.After.{after_setting};
 ghost use Rattle.progress.specs.Parts.{with_graphics};
 ghost use Rattle.steps.specs.Coded.{held_in, code_fault, behind_code, joined};
-ghost use Rattle.steps.specs.declared.Held.TheVariants.{Nothing};
 
 use command::{Bracket, Command, Deed, Definition, Operation, Setting};
+use faults::Rule;
 use graphics::Graphics;
-use progress::{Progress, Stepped, Struck};
+use progress::{Progress, Struck};
 use sequence::Placed;
-
-// The operation that a command has, alone or after a G code; or it is none.
-#[derive(Clone, Copy)]
-pub enum Held {
-    Operation(Operation),
-    Nothing,
-}
 
 // D01, D02 and D03.
 fn operate(e: &mut [u64], p: Progress, place: u64, o: Operation) -> Struck
@@ -40,18 +34,17 @@ fn operate(e: &mut [u64], p: Progress, place: u64, o: Operation) -> Struck
     }
 }
 
-// The outcome of a code with this fault, 0 for none, and of the operation after it: the fault tested first, or what is after both.
-fn joined(fault: u64, r: Struck) -> Struck
+// The outcome of a code with this fault, if it has one, and of the operation after it: the fault tested first, or what is after both.
+#[tactic(auto, unfolding(crate::specs::Coded::joined, crate::specs::Coded::stroke_after))]
+fn joined(fault: Result<(), Rule>, r: Struck) -> Struck
     ensures { result ≡ joined fault r }
 {
     match r {
-        Struck::Fault(n) => Struck::Fault(faults::sooner(fault, n)),
-        Struck::Next(stroke) => {
-            if fault == 0 {
-                return Struck::Next(stroke);
-            }
-            Struck::Fault(fault)
-        }
+        Struck::Fault(rule) => Struck::Fault(faults::first_of(fault, rule)),
+        Struck::Next(stroke) => match fault {
+            Ok(()) => Struck::Next(stroke),
+            Err(rule) => Struck::Fault(rule),
+        },
         Struck::Other => Struck::Other,
     }
 }
@@ -66,7 +59,7 @@ fn define(
     from: usize,
     end: usize,
     d: Definition,
-) -> Stepped
+) -> Result<Progress, Rule>
     requires { Known (Lends file.now a.old m.old numbers.old) p × (from ≤ end) × (end ≤ length file.now) × DefinitionBounded (slice from end file.now) d }
     ensures { (length a.new ≡ length a.old)
         × (length m.new ≡ length m.old)
@@ -91,7 +84,13 @@ fn define(
 }
 
 // AB and SR.
-fn contain(e: &mut [u64], a: &mut [u64], p: Progress, place: u64, b: Bracket) -> Stepped
+fn contain(
+    e: &mut [u64],
+    a: &mut [u64],
+    p: Progress,
+    place: u64,
+    b: Bracket,
+) -> Result<Progress, Rule>
     requires known { Known (λ w. (w.entries ≡ e.old) × (w.apertures ≡ a.old)) p }
     requires bracket_bounded { BracketBounded b }
     ensures { (length e.new ≡ length e.old)
@@ -110,7 +109,7 @@ fn contain(e: &mut [u64], a: &mut [u64], p: Progress, place: u64, b: Bracket) ->
 }
 
 // TF, TA, TO and TD; `again` says of a TF whether its name was set before.
-fn attribute(p: Progress, d: Deed, again: bool) -> Stepped
+fn attribute(p: Progress, d: Deed, again: bool) -> Result<Progress, Rule>
     ensures { (text : List ℕ) (w : Lent) (s : State) → AgainBy text d again s → Knows w p s → Follows (Knows w) (deed_step text d s) result }
 {
     match d {
@@ -122,21 +121,22 @@ fn attribute(p: Progress, d: Deed, again: bool) -> Stepped
     }
 }
 
-// The number of the first rule that the G code before an operation breaks, 0 where it keeps all or there is none.
-pub fn code_fault(g: Graphics, c: Command) -> u64
-    ensures { result ≡ code_fault g c }
+// The first rule that the G code before an operation breaks, if one is.
+#[tactic(auto, unfolding(crate::specs::Coded::code_fault, faults::specs::Rule::number_told))]
+pub fn code_fault(g: Graphics, c: Command) -> Result<(), Rule>
+    ensures { number_told result ≡ code_fault g c }
 {
     match c {
         Command::Coded { code, .. } => command_rules::setting_fault(g, code),
-        Command::Broken(_) => 0,
-        Command::Note => 0,
-        Command::End => 0,
-        Command::Set(_) => 0,
-        Command::Operate(_) => 0,
-        Command::Select(_) => 0,
-        Command::Define(_) => 0,
-        Command::Contain(_) => 0,
-        Command::Attribute(_) => 0,
+        Command::Broken(_) => Ok(()),
+        Command::Note => Ok(()),
+        Command::End => Ok(()),
+        Command::Set(_) => Ok(()),
+        Command::Operate(_) => Ok(()),
+        Command::Select(_) => Ok(()),
+        Command::Define(_) => Ok(()),
+        Command::Contain(_) => Ok(()),
+        Command::Attribute(_) => Ok(()),
     }
 }
 
@@ -172,33 +172,39 @@ pub fn behind_code(c: Command, p: Progress) -> Progress
 }
 
 // The operation of a command, if it has one.
-fn held_in(c: Command) -> Held
+fn held_in(c: Command) -> Option<Operation>
     ensures { result ≡ held_in c }
 {
     match c {
-        Command::Operate(o) => Held::Operation(o),
-        Command::Coded { operation, .. } => Held::Operation(operation),
-        Command::Broken(_) => Held::Nothing,
-        Command::Note => Held::Nothing,
-        Command::End => Held::Nothing,
-        Command::Set(_) => Held::Nothing,
-        Command::Select(_) => Held::Nothing,
-        Command::Define(_) => Held::Nothing,
-        Command::Contain(_) => Held::Nothing,
-        Command::Attribute(_) => Held::Nothing,
+        Command::Operate(o) => Some(o),
+        Command::Coded { operation, .. } => Some(operation),
+        Command::Broken(_) => None,
+        Command::Note => None,
+        Command::End => None,
+        Command::Set(_) => None,
+        Command::Select(_) => None,
+        Command::Define(_) => None,
+        Command::Contain(_) => None,
+        Command::Attribute(_) => None,
     }
 }
 
-// The operation of a command, after a code with this fault, 0 for none.
-pub fn operation(e: &mut [u64], p: Progress, fault: u64, place: u64, c: Command) -> Struck
+// The operation of a command, after a code with this fault, if it has one.
+pub fn operation(
+    e: &mut [u64],
+    p: Progress,
+    fault: Result<(), Rule>,
+    place: u64,
+    c: Command,
+) -> Struck
     requires { Known (λ w. w.entries ≡ e.old) p }
     ensures { (length e.new ≡ length e.old)
-        × Operates fault place (held_in c) e.old e.new p result }
+        × Operates (number_told fault) place (held_in c) e.old e.new p result }
 {
     let held = held_in(c);
     match held {
-        Held::Operation(o) => joined(fault, operate(e, p, place, o)),
-        Held::Nothing => Struck::Other,
+        Some(o) => joined(fault, operate(e, p, place, o)),
+        None => Struck::Other,
     }
 }
 
@@ -212,10 +218,10 @@ pub fn step(
     p: Progress,
     c: Placed,
     again: bool,
-) -> Stepped
+) -> Result<Progress, Rule>
     requires known { Known (λ w. w ≡ lent_of file.now e.old a.old m.old numbers.old) p }
     requires sound { Sound file.now c }
-    requires command_value { held_in c.command ≡ Nothing }
+    requires command_value { held_in c.command ≡ None }
     ensures { (length e.new ≡ length e.old)
         × (length a.new ≡ length a.old)
         × (length m.new ≡ length m.old)
@@ -236,7 +242,7 @@ pub fn step(
         Command::Note => state_steps::set(p, command),
         Command::End => state_steps::set(p, command),
         Command::Set(_) => state_steps::set(p, command),
-        Command::Operate(_) => Stepped::Next(p),
-        Command::Coded { .. } => Stepped::Next(p),
+        Command::Operate(_) => Ok(p),
+        Command::Coded { .. } => Ok(p),
     }
 }

@@ -1,5 +1,8 @@
 -- What is known after a D01 that breaks no rule: outside a region, at the first of a contour, and at the others.
 -- Assumes nothing.
+use Rattle.faults.specs.Rule.{number_of_rule}
+use Rattle.faults.specs.declared.Rule.{Rule}
+use Rattle.std.specs.Prelude.{Option, ℤ}
 use Prim.Native.Nat.{ℕ, suc, ◌+◌, ◌-◌, ◌≤◌, ◌<◌, ◌^◌}
 use mathlib.Core.Path.{◌≡◌, refl, sym, ◌∙◌}
 use mathlib.Core.Bool.{Bool, true, false, cond, not, false≢true}
@@ -21,8 +24,6 @@ use Rattle.build.specs.Builder.{grown}
 use Rattle.build.specs.Entries.{item_entry}
 use Rattle.build.specs.Counted.{edged}
 use Rattle.law_built_store.proofs.Entries.{pushed_is}
-use Rattle.command.specs.declared.Axis.{Axis}
-use Rattle.command.specs.declared.Offset.{Offset}
 use Rattle.command.specs.declared.Command.TheVariants as command
 use Rattle.command.specs.declared.Operation.TheVariants as operation
 use Rattle.graphics.specs.Graphics.{with_point, with_region}
@@ -57,8 +58,9 @@ use Rattle.stroke_steps.proofs.Operations.{draw_moves}
 use Rattle.stroke_steps.proofs.Items.{below_pushed, item_grows}
 use Rattle.stroke_steps.proofs.Contours.{contour_shows, edged_room, contour_grows, contour_low, contour_few, contour_start, below_edged, contour_begun}
 use Rattle.stroke_steps.proofs.Known.{known_fits, known_copies, known_items, draw_faults, refused, goes}
+use Rattle.command.specs.declared.Offset.{Offset}
 
-module _ (w : Lent) (p : Progress) (s : State) (k : Knows w p s) (place : ℕ) (x y : Axis) (o : Offset)
+module _ (w : Lent) (p : Progress) (s : State) (k : Knows w p s) (place : ℕ) (x y : Option ℤ) (o : Option Offset)
     (none : draw_fault p.graphics (level_of p) (left_of w.entries p.builder) x y o ≡ 0) where
   none_there : draw_fault s.graphics s.level (entry_room w.entries - s.entries) x y o ≡ 0
   unfolding draw_step room_of
@@ -227,7 +229,7 @@ module _ (w : Lent) (p : Progress) (s : State) (k : Knows w p s) (place : ℕ) (
         }))
 
 -- as the code has it: by the progress, and the entries at the call
-module _ (e : List ℕ) (p : Progress) (place : ℕ) (x y : Axis) (o : Offset) (may : MayDraw e p x y o) where
+module _ (e : List ℕ) (p : Progress) (place : ℕ) (x y : Option ℤ) (o : Option Offset) (may : MayDraw e p x y o) where
   left_here : p.builder.closed + p.builder.high + draw_items p.graphics ≤ entry_room e
   left_here =
       let l = draw_room _ _ _ _ _ _ may.none in
@@ -318,7 +320,7 @@ module _ (e : List ℕ) (p : Progress) (place : ℕ) (x y : Axis) (o : Offset) (
     contour_drawn first u-is begun t-is put = rw (put.0, put.1, begun.0, begun.1, u-is, t-is, end_is, region-is) (contour_leads first)
 
 -- the number that the code has is that of the step's fault
-module _ (e : List ℕ) (p : Progress) (place : ℕ) (x y : Axis) (o : Offset) {n room : ℕ} {l : Level} (level_is : l ≡ level_of p) (room_is : room ≡ left_of e p.builder)
+module _ (e : List ℕ) (p : Progress) (place : ℕ) (x y : Option ℤ) (o : Option Offset) {n room : ℕ} {l : Level} (level_is : l ≡ level_of p) (room_is : room ≡ left_of e p.builder)
     (fault_is : n ≡ draw_fault p.graphics l room x y o) where
   same_fault : draw_fault p.graphics (level_of p) (left_of e p.builder) x y o ≡ n
   same_fault = sym (fault_is ∙ (λ i. draw_fault p.graphics (level_is i) (room_is i) x y o))
@@ -329,7 +331,7 @@ module _ (e : List ℕ) (p : Progress) (place : ℕ) (x y : Axis) (o : Offset) {
   pub may_draw : Known (λ w. w.entries ≡ e) p → n ≡ 0 → MayDraw e p x y o
   may_draw known zero = record { known = known; none = same_fault ∙ zero }
 
-  pub draw_refused : (e' : List ℕ) → (n ≡ 0 → ⊥) → StrikesTo (λ room s. draw_step room place x y o s) (λ w. w.entries ≡ e) (with_entries e') p (Fault n)
+  pub draw_refused : (e' : List ℕ) (rule : Rule) → number_of_rule rule ≡ n → StrikesTo (λ room s. draw_step room place x y o s) (λ w. w.entries ≡ e) (with_entries e') p (Fault rule)
   draw_refused = refused (λ room s. draw_step room place x y o s) e p draw_says
 
   pub draw_goes : (e' : List ℕ) (r : Stroke) → n ≡ 0 → Leads (λ room s. draw_step room place x y o s) (λ w. w.entries ≡ e) (with_entries e') p (with_stroke r p) →

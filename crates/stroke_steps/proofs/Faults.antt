@@ -1,5 +1,6 @@
 -- Where no rule is broken, no test of its table holds.
 -- Assumes nothing.
+use Rattle.std.specs.Prelude.{Option, ℤ}
 use Prim.Native.Nat.{ℕ, ◌≤◌}
 use mathlib.Core.Path.{◌≡◌}
 use mathlib.Core.Bool.{Bool, true, false}
@@ -7,8 +8,6 @@ use native.Mathlib.Omega.{arith}
 use lib.Dec.{ltb, lit≤}
 use borrow.Author.Tests.{ltb-false, eqb-false, leb-true, not-false}
 use Rattle.base.specs.And.{◌and◌}
-use Rattle.command.specs.declared.Axis.{Axis}
-use Rattle.command.specs.declared.Offset.{Offset}
 use Rattle.graphics.specs.declared.Graphics.{Graphics}
 use Rattle.operation_tests.specs.Fits.{draw_misfits, flash_misfits, askew, too_tall}
 use Rattle.graphics.specs.declared.Level.{Level}
@@ -16,6 +15,7 @@ use Rattle.operation_rules.specs.Counts.{most, counted, too_many}
 use Rattle.base.proofs.Faults.{unbroken}
 use Rattle.law_bounds.proofs.Tables.{neither}
 use Rattle.operation_rules.specs.Faults.{draw_items, draw_fault, flash_items, flash_fault}
+use Rattle.command.specs.declared.Offset.{Offset}
 
 -- both do not hold, and the first does
 pub and_rest : (a b : Bool) → a ≡ true → (a and b) ≡ false → b ≡ false
@@ -28,7 +28,7 @@ unfolding too_many
 few l n q = leb-true _ _ (not-false _ q)
 
 -- D01
-module _ (g : Graphics) (l : Level) (room : ℕ) (x y : Axis) (o : Offset) (none : draw_fault g l room x y o ≡ 0) where
+module _ (g : Graphics) (l : Level) (room : ℕ) (x y : Option ℤ) (o : Option Offset) (none : draw_fault g l room x y o ≡ 0) where
   draw_passes : (draw_misfits g o ≡ false) × (too_many l (draw_items g) ≡ false) × (ltb room (draw_items g) ≡ false)
   unfolding draw_fault
   draw_passes =
@@ -58,7 +58,7 @@ module _ (g : Graphics) (l : Level) (room : ℕ) (x y : Axis) (o : Offset) (none
   draw_room = ltb-false _ _ draw_passes.2
 
 -- D03
-module _ (g : Graphics) (l : Level) (room : ℕ) (x y : Axis) (none : flash_fault g l room x y ≡ 0) where
+module _ (g : Graphics) (l : Level) (room : ℕ) (x y : Option ℤ) (none : flash_fault g l room x y ≡ 0) where
   flash_passes : (g.region.on ≡ false) × (flash_misfits g x y ≡ false) × (askew g ≡ false) × (too_tall g l ≡ false) × (too_many l (flash_items g) ≡ false) × (ltb room 1 ≡ false)
   unfolding flash_fault
   flash_passes =

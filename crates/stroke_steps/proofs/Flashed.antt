@@ -1,5 +1,8 @@
 -- What is known after a D03 that breaks no rule: with a block, and with another aperture.
 -- Assumes nothing.
+use Rattle.faults.specs.Rule.{number_of_rule}
+use Rattle.faults.specs.declared.Rule.{Rule}
+use Rattle.std.specs.Prelude.{Option, ℤ}
 use Prim.Native.Nat.{ℕ, ◌+◌, ◌-◌, ◌%◌, ◌≤◌, ◌<◌, ◌^◌}
 use mathlib.Core.Path.{◌≡◌, refl, sym, ap, ◌∙◌}
 use mathlib.Core.Bool.{true, false}
@@ -21,7 +24,6 @@ use Rattle.build.specs.Builder.{raised, grown}
 use Rattle.build.specs.Entries.{item_entry, use_entry}
 use Rattle.law_built_store.proofs.Entries.{pushed_is}
 use Rattle.law_built_store.proofs.Marks.{one_more, raised_rises, puts_flash}
-use Rattle.command.specs.declared.Axis.{Axis}
 use Rattle.command.specs.declared.Command.TheVariants as command
 use Rattle.command.specs.declared.Operation.TheVariants as operation
 use Rattle.graphics.specs.Graphics.{with_point, with_region}
@@ -56,7 +58,7 @@ use Rattle.stroke_steps.proofs.Items.{below_pushed, item_grows}
 use Rattle.stroke_steps.proofs.Selected.{IsBlock, selected_block}
 use Rattle.stroke_steps.proofs.Known.{known_fits, known_items, known_few, flash_faults, refused, goes}
 
-module _ (w : Lent) (p : Progress) (s : State) (k : Knows w p s) (place : ℕ) (x y : Axis)
+module _ (w : Lent) (p : Progress) (s : State) (k : Knows w p s) (place : ℕ) (x y : Option ℤ)
     (none : flash_fault p.graphics (level_of p) (left_of w.entries p.builder) x y ≡ 0) where
   none_there : flash_fault s.graphics s.level (entry_room w.entries - s.entries) x y ≡ 0
   unfolding flash_step room_of
@@ -165,7 +167,7 @@ module _ (w : Lent) (p : Progress) (s : State) (k : Knows w p s) (place : ℕ) (
         }))
 
 -- as the code has it: by the progress, and the entries at the call
-module _ (e : List ℕ) (p : Progress) (place : ℕ) (x y : Axis) (may : MayFlash e p x y) where
+module _ (e : List ℕ) (p : Progress) (place : ℕ) (x y : Option ℤ) (may : MayFlash e p x y) where
   pub flash_has_room : p.builder.closed + p.builder.high < entry_room e
   flash_has_room =
       let l = flash_room _ _ _ _ _ may.none in
@@ -219,7 +221,7 @@ module _ (e : List ℕ) (p : Progress) (place : ℕ) (x y : Axis) (may : MayFlas
     block_flashed is_Block m-is put = rw (put.0, put.1, m-is, end_is) (block_leads is_Block)
 
 -- the number that the code has is that of the step's fault
-module _ (e : List ℕ) (p : Progress) (place : ℕ) (x y : Axis) {n room : ℕ} {l : Level} (level_is : l ≡ level_of p) (room_is : room ≡ left_of e p.builder)
+module _ (e : List ℕ) (p : Progress) (place : ℕ) (x y : Option ℤ) {n room : ℕ} {l : Level} (level_is : l ≡ level_of p) (room_is : room ≡ left_of e p.builder)
     (fault_is : n ≡ flash_fault p.graphics l room x y) where
   same_fault : flash_fault p.graphics (level_of p) (left_of e p.builder) x y ≡ n
   same_fault = sym (fault_is ∙ (λ i. flash_fault p.graphics (level_is i) (room_is i) x y))
@@ -230,7 +232,7 @@ module _ (e : List ℕ) (p : Progress) (place : ℕ) (x y : Axis) {n room : ℕ}
   pub may_flash : Known (λ w. w.entries ≡ e) p → n ≡ 0 → MayFlash e p x y
   may_flash known zero = record { known = known; none = same_fault ∙ zero }
 
-  pub flash_refused : (e' : List ℕ) → (n ≡ 0 → ⊥) → StrikesTo (λ room s. flash_step room place x y s) (λ w. w.entries ≡ e) (with_entries e') p (Fault n)
+  pub flash_refused : (e' : List ℕ) (rule : Rule) → number_of_rule rule ≡ n → StrikesTo (λ room s. flash_step room place x y s) (λ w. w.entries ≡ e) (with_entries e') p (Fault rule)
   flash_refused = refused (λ room s. flash_step room place x y s) e p flash_says
 
   pub flash_goes : (e' : List ℕ) (r : Stroke) → n ≡ 0 → Leads (λ room s. flash_step room place x y s) (λ w. w.entries ≡ e) (with_entries e') p (with_stroke r p) →

@@ -1,5 +1,6 @@
 -- What D01 and D03 draw is near, its angle is below a full turn, and its kind is that of an item.
 -- Assumes nothing.
+use Rattle.std.specs.Prelude.{Option}
 use Prim.Native.Nat.{ℕ, ◌<◌, ◌≤◌, ◌^◌}
 use mathlib.Core.Bool.{Bool, true, false, cond}
 use native.Mathlib.Nat.{mod-lt}
@@ -8,7 +9,6 @@ use Rattle.points.specs.declared.Point.{Point}
 use Rattle.points.specs.Points.{Within}
 use Rattle.place.specs.Placing.{full_turn, PoseWithin, ItemWithin}
 use Rattle.sheet.specs.Valid.{far}
-use Rattle.command.specs.declared.Offset.{Offset}
 use Rattle.graphics.specs.Graphics.{origin}
 use Rattle.graphics.specs.Orientation.{angle_after, orientation}
 use Rattle.graphics.specs.declared.Graphics.{Graphics}
@@ -18,6 +18,7 @@ use Rattle.arcs.specs.Near.{Near}
 use Rattle.arcs.proofs.Draws.{centre_within}
 use Rattle.place.specs.Kind as kind
 use Rattle.marks.specs.Items.{drawn, edge, contour, flashed, pose}
+use Rattle.command.specs.declared.Offset.{Offset}
 
 -- what a file can write is nearer than what a sheet can hold
 near : (p : Point) → Within (10 ^ 12) p → Within far p
@@ -31,7 +32,7 @@ angle_below : (t : Transform) → (orientation t).angle < full_turn
 unfolding orientation angle_after
 angle_below t = mod-lt _ (omega arith)
 
-module _ (g : Graphics) (end : Point) (o : Offset) (n : Near g end o) (place : ℕ) where
+module _ (g : Graphics) (end : Point) (o : Option Offset) (n : Near g end o) (place : ℕ) where
   centre_near : Within far (arc_centre g end o)
   centre_near = let c = centre_within g end o n in record { across = omega (arith, c.across); up = omega (arith, c.up) }
 

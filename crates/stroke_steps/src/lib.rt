@@ -11,7 +11,7 @@ ghost use Rattle.progress.specs.Knows.{Known, StrikesTo};
 ghost use Rattle.stroke_steps.specs.Draws.{left_of, Leads, MayDraw, MayFlash};
 
 use build::Builder;
-use command::{Axis, Offset};
+use command::Offset;
 use progress::{Progress, Stroke, Struck};
 use sheet::Container;
 
@@ -24,7 +24,14 @@ fn entries_left(e: &[u64], b: Builder) -> u64
 }
 
 // A D01 outside a region.
-fn draw_item(e: &mut [u64], p: Progress, place: u64, x: Axis, y: Axis, o: Offset) -> Stroke
+fn draw_item(
+    e: &mut [u64],
+    p: Progress,
+    place: u64,
+    x: Option<i64>,
+    y: Option<i64>,
+    o: Option<Offset>,
+) -> Stroke
     requires may_draw { MayDraw e.old p x y o }
     requires on_value { p.graphics.region.on ≡ false }
     ensures { Leads (λ room s. draw_step room place x y o s) (λ w. w.entries ≡ e.old) (with_entries e.new) p (with_stroke result p) }
@@ -44,7 +51,14 @@ fn draw_item(e: &mut [u64], p: Progress, place: u64, x: Axis, y: Axis, o: Offset
 }
 
 // A D01 in a region where a contour is open.
-fn draw_edge(e: &mut [u64], p: Progress, place: u64, x: Axis, y: Axis, o: Offset) -> Stroke
+fn draw_edge(
+    e: &mut [u64],
+    p: Progress,
+    place: u64,
+    x: Option<i64>,
+    y: Option<i64>,
+    o: Option<Offset>,
+) -> Stroke
     requires may_draw { MayDraw e.old p x y o }
     requires on_value { (p.graphics.region.on ≡ true) × (starts_contour p.graphics.region ≡ false) }
     ensures { Leads (λ room s. draw_step room place x y o s) (λ w. w.entries ≡ e.old) (with_entries e.new) p (with_stroke result p) }
@@ -64,7 +78,14 @@ fn draw_edge(e: &mut [u64], p: Progress, place: u64, x: Axis, y: Axis, o: Offset
 }
 
 // A D01 in a region where none is: the contour, and its first edge.
-fn draw_contour(e: &mut [u64], p: Progress, place: u64, x: Axis, y: Axis, o: Offset) -> Stroke
+fn draw_contour(
+    e: &mut [u64],
+    p: Progress,
+    place: u64,
+    x: Option<i64>,
+    y: Option<i64>,
+    o: Option<Offset>,
+) -> Stroke
     requires may_draw { MayDraw e.old p x y o }
     requires region_value { starts_contour p.graphics.region ≡ true }
     ensures { Leads (λ room s. draw_step room place x y o s) (λ w. w.entries ≡ e.old) (with_entries e.new) p (with_stroke result p) }
@@ -85,7 +106,14 @@ fn draw_contour(e: &mut [u64], p: Progress, place: u64, x: Axis, y: Axis, o: Off
 }
 
 // D01.
-pub fn draw(e: &mut [u64], p: Progress, place: u64, x: Axis, y: Axis, o: Offset) -> Struck
+pub fn draw(
+    e: &mut [u64],
+    p: Progress,
+    place: u64,
+    x: Option<i64>,
+    y: Option<i64>,
+    o: Option<Offset>,
+) -> Struck
     requires { Known (λ w. w.entries ≡ e.old) p }
     ensures { (length e.new ≡ length e.old)
         × StrikesTo (λ room s. draw_step room place x y o s) (λ w. w.entries ≡ e.old) (with_entries e.new) p result }
@@ -93,9 +121,8 @@ pub fn draw(e: &mut [u64], p: Progress, place: u64, x: Axis, y: Axis, o: Offset)
     let g = p.graphics;
     let b = p.builder;
     let left = entries_left(e, b);
-    let n = operation_rules::draw_fault(g, progress::level_of(p), left, x, y, o);
-    if n != 0 {
-        return Struck::Fault(n);
+    if let Err(rule) = operation_rules::draw_fault(g, progress::level_of(p), left, x, y, o) {
+        return Struck::Fault(rule);
     }
     let region = g.region;
     if changes::starts_contour(region) {
@@ -108,7 +135,7 @@ pub fn draw(e: &mut [u64], p: Progress, place: u64, x: Axis, y: Axis, o: Offset)
 }
 
 // A D03 with an aperture that is no block.
-fn flash_item(e: &mut [u64], p: Progress, place: u64, x: Axis, y: Axis) -> Stroke
+fn flash_item(e: &mut [u64], p: Progress, place: u64, x: Option<i64>, y: Option<i64>) -> Stroke
     requires may_flash { MayFlash e.old p x y }
     requires block_value { p.graphics.aperture.block ≡ false }
     ensures { Leads (λ room s. flash_step room place x y s) (λ w. w.entries ≡ e.old) (with_entries e.new) p (with_stroke result p) }
@@ -127,7 +154,7 @@ fn flash_item(e: &mut [u64], p: Progress, place: u64, x: Axis, y: Axis) -> Strok
 }
 
 // A D03 with a block. Where its entries lie is its record's matter.
-fn flash_block(e: &mut [u64], p: Progress, place: u64, x: Axis, y: Axis) -> Stroke
+fn flash_block(e: &mut [u64], p: Progress, place: u64, x: Option<i64>, y: Option<i64>) -> Stroke
     requires may_flash { MayFlash e.old p x y }
     requires block_value { p.graphics.aperture.block ≡ true }
     ensures { Leads (λ room s. flash_step room place x y s) (λ w. w.entries ≡ e.old) (with_entries e.new) p (with_stroke result p) }
@@ -152,7 +179,7 @@ fn flash_block(e: &mut [u64], p: Progress, place: u64, x: Axis, y: Axis) -> Stro
 }
 
 // D03.
-pub fn flash(e: &mut [u64], p: Progress, place: u64, x: Axis, y: Axis) -> Struck
+pub fn flash(e: &mut [u64], p: Progress, place: u64, x: Option<i64>, y: Option<i64>) -> Struck
     requires { Known (λ w. w.entries ≡ e.old) p }
     ensures { (length e.new ≡ length e.old)
         × StrikesTo (λ room s. flash_step room place x y s) (λ w. w.entries ≡ e.old) (with_entries e.new) p result }
@@ -160,9 +187,8 @@ pub fn flash(e: &mut [u64], p: Progress, place: u64, x: Axis, y: Axis) -> Struck
     let g = p.graphics;
     let b = p.builder;
     let left = entries_left(e, b);
-    let n = operation_rules::flash_fault(g, progress::level_of(p), left, x, y);
-    if n != 0 {
-        return Struck::Fault(n);
+    if let Err(rule) = operation_rules::flash_fault(g, progress::level_of(p), left, x, y) {
+        return Struck::Fault(rule);
     }
     if g.aperture.block {
         return Struck::Next(flash_block(e, p, place, x, y));

@@ -1,11 +1,10 @@
 -- What an entry adds to the rows of the aperture records, and what a run of entries and the top level do, entry by entry.
 -- Assumes nothing.
-use Prim.Native.Nat.{ℕ, zero, suc, ◌+◌, ◌-◌, ◌*◌, ◌/◌, ◌≤◌, ◌<◌, ◌^◌}
+use Prim.Native.Nat.{ℕ, suc, ◌+◌, ◌*◌, ◌/◌, ◌≤◌, ◌<◌, ◌^◌}
 use mathlib.Core.Path.{◌≡◌, refl, sym, ap, subst, ◌∙◌}
 use mathlib.Core.Bool.{Bool, true, false, cond}
 use mathlib.Core.List.{List, []}
 use native.Mathlib.Nat.{not-suc-le-zero}
-use native.Mathlib.Numerals.{add-one}
 use native.Mathlib.Omega.{arith}
 use lib.Dec.{eqb, leb}
 use lib.ListN.{length}
@@ -25,8 +24,8 @@ use Rattle.sheet.specs.declared.Role.{Role}
 use Rattle.sheet.specs.declared.Role.TheVariants.{Draws, Uses, Repeats, Defines, Unknown}
 use Rattle.sheet.proofs.Apertures.{aperture_number_lem}
 use Rattle.sheet.proofs.Every.{sums_grow}
-use Rattle.summary_rows.specs.Rows.{row, no_row, merged, moved_row, copied_row, ExtentWithin}
-use Rattle.summary_rows.specs.Summed.{asks, points_of, extent_of, item_row}
+use Rattle.summary_rows.specs.Rows.{no_row, merged, moved_row, copied_row, ExtentWithin}
+use Rattle.summary_rows.specs.Summed.{asks, item_row}
 use Rattle.summary_rows.specs.declared.Row.{Row}
 use Rattle.summary_rows.specs.declared.Asked.{Asked}
 use Rattle.summary_rows.specs.declared.Asked.TheVariants.{Aperture}
@@ -36,7 +35,7 @@ use Rattle.summary_by_aperture.specs.Walk.{merges, row_as, entry_row, entry_row_
 use Rattle.summary_by_aperture.proofs.Kept.{kept_read, kept_other}
 use Rattle.summary_by_aperture.proofs.Walk.{merges_snoc, merges_none, merges_more, row_as_lem}
 use Rattle.summary_by_aperture.proofs.Rows.{merges_count}
-use Rattle.summary.specs.Links.{number_at, record_of, is_linked}
+use Rattle.summary.specs.Links.{record_of, is_linked}
 use Rattle.summary.specs.Adds.{asked_by, Adds, Room, Copies, single, Near, RunNear, EntryNear, NoFlash, RunFree, EntryFree, TopFree, TopReady, Gathered}
 use Rattle.summary.proofs.Links.{record_sound, number_other, number_none}
 use Rattle.summary.proofs.Copied.{copied_merged, copied_none, copied_count, copied_near, single_row, single_copies, joined_near, merges_near}

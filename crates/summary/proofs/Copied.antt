@@ -1,7 +1,8 @@
 -- Copies of rows: of none none, of two merged the copies merged, of one copy the row itself; and how far they reach.
 -- Assumes nothing.
-use Prim.Native.Nat.{ℕ, zero, suc, ◌+◌, ◌-◌, ◌*◌, ◌≤◌, ◌<◌, ◌^◌}
-use mathlib.Core.Path.{◌≡◌, refl, sym, ap, ◌∙◌}
+use Rattle.std.specs.Prelude.{None, Option, Some}
+use Prim.Native.Nat.{ℕ, zero, suc, ◌+◌, ◌*◌, ◌≤◌, ◌<◌, ◌^◌}
+use mathlib.Core.Path.{◌≡◌, refl, ap, ◌∙◌}
 use native.Mathlib.Nat.{mul-add, mul-le-mul_left}
 use native.Mathlib.Omega.{arith}
 use lib.IntN.{pos}
@@ -13,8 +14,6 @@ use Rattle.spans.proofs.Order.{shift_greatest}
 use Rattle.spans.proofs.Spans.{stretch_span_none}
 use Rattle.summary_rows.specs.Rows.{row, no_row, joined, merged, copied_extent, copied_row, ExtentWithin, nothing_in}
 use Rattle.summary_rows.specs.declared.Row.{Row}
-use Rattle.summary_rows.specs.declared.Extent.{Extent}
-use Rattle.summary_rows.specs.declared.Extent.TheVariants.{Nothing, Over}
 use Rattle.summary_rows.proofs.Rows.{extent_within, joined_within, copied_extent_within}
 use Rattle.summary_by_aperture.specs.Walk.{merges}
 use Rattle.summary_by_aperture.proofs.Walk.{merges_snoc}
@@ -29,11 +28,11 @@ unfolding join_rect stretch_rect
 stretch_rect_join b c w h = λ i. rect (stretch_span_join b.across c.across w i) (stretch_span_join b.up c.up h i)
 
 module _ (m : Repeat) where
-  extent_merged : (x y : Extent) → copied_extent m (joined x y) ≡ joined (copied_extent m x) (copied_extent m y)
+  extent_merged : (x y : Option Rect) → copied_extent m (joined x y) ≡ joined (copied_extent m x) (copied_extent m y)
   unfolding copied_extent joined
-  extent_merged Nothing y = refl
-  extent_merged (Over b) Nothing = refl
-  extent_merged (Over b) (Over c) = ap Over (stretch_rect_join b c _ _)
+  extent_merged None y = refl
+  extent_merged (Some b) None = refl
+  extent_merged (Some b) (Some c) = ap Some (stretch_rect_join b c _ _)
 
   count_merged : (x y : ℕ) → m.nx * (m.ny * (x + y)) ≡ m.nx * (m.ny * x) + m.nx * (m.ny * y)
   count_merged x y = ap (λ (k : ℕ). m.nx * k) (mul-add m.ny x y) ∙ mul-add m.nx (m.ny * x) (m.ny * y)
@@ -47,7 +46,7 @@ module _ (m : Repeat) where
 
   pub copied_none : copied_row m no_row ≡ no_row
   unfolding copied_row no_row copied_extent
-  copied_none = λ i. row (none_count i) Nothing
+  copied_none = λ i. row (none_count i) None
 
   -- no more of the first than of all
   pub copied_count : (r s : Row) → r.count ≤ s.count → (copied_row m r).count ≤ (copied_row m s).count
@@ -66,9 +65,9 @@ single_row r = λ i. row (count i) (same r.extent i)
     count : 1 * (1 * r.count) ≡ r.count
     count = omega arith
 
-    same : (x : Extent) → copied_extent single x ≡ x
-    same Nothing = refl
-    same (Over b) = λ i. Over (rect (stretch_span_none b.across i) (stretch_span_none b.up i))
+    same : (x : Option Rect) → copied_extent single x ≡ x
+    same None = refl
+    same (Some b) = λ i. Some (rect (stretch_span_none b.across i) (stretch_span_none b.up i))
 
 pub single_copies : Copies single
 unfolding single

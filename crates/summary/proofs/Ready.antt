@@ -4,32 +4,31 @@ use Prim.Native.Nat.{ℕ, zero, suc, ◌+◌, ◌*◌, ◌/◌, ◌≤◌, ◌<�
 use mathlib.Core.Path.{◌≡◌, refl, sym, ap, ◌∙◌}
 use mathlib.Core.Bool.{Bool, true, false}
 use mathlib.Core.List.{List, [], ◌∷◌}
-use mathlib.Core.Logic.{⊎_elim}
-use native.Mathlib.Nat.{add-zero, mul-le-mul, mul-le-mul_left, le_trans, mul-le-mul_right}
+use native.Mathlib.Nat.{add-zero, mul-le-mul, mul-le-mul_left}
 use native.Mathlib.Omega.{arith}
 use lib.Dec.{eqb, ltb}
-use lib.ListN.{length, get_or, replicate, get_or-replicate, length-replicate, get_or-eq_default}
+use lib.ListN.{get_or, replicate, get_or-replicate, length-replicate, get_or-eq_default}
 use borrow.Author.Tests.{ltb-true, ltb-false}
 use Rattle.base.specs.Run.{sums}
-use Rattle.sheet.specs.Records.{entry_of, role_of, entry_room}
-use Rattle.sheet.specs.Containers.{apertures_used, body_of, top_of, block_of}
+use Rattle.sheet.specs.Records.{entry_of, role_of}
+use Rattle.sheet.specs.Containers.{apertures_used, body_of, top_of}
 use Rattle.sheet.specs.Meaning.{drawn, pose_of, repeat_of}
-use Rattle.sheet.specs.Valid.{most, size_as, size_of, size_at, valid}
+use Rattle.sheet.specs.Valid.{size_as, size_of, size_at, valid}
 use Rattle.sheet.specs.declared.Entry.{Entry}
 use Rattle.sheet.specs.declared.Container.{Container}
 use Rattle.sheet.specs.declared.Role.{Role}
 use Rattle.sheet.specs.declared.Role.TheVariants.{Draws, Uses, Repeats, Defines, Unknown}
-use Rattle.sheet.proofs.Conditions.{WordsOk, entry_words_lem, entry_repeat, drawn_within, RepeatOk, repeat_kind}
+use Rattle.sheet.proofs.Conditions.{WordsOk, entry_words_lem, entry_repeat, drawn_within, RepeatOk}
 use Rattle.sheet.proofs.Sound.{rooms, top_sound, repeat_under}
 use Rattle.sheet.specs.Sound.{Sound}
-use Rattle.summary_rows.specs.Rows.{no_row, merged, moved_row, copied_row, ExtentWithin, nothing_in}
+use Rattle.summary_rows.specs.Rows.{no_row, moved_row, copied_row, ExtentWithin, nothing_in}
 use Rattle.summary_rows.specs.Summed.{item_row}
 use Rattle.summary_rows.specs.declared.Row.{Row}
 use Rattle.summary_rows.specs.declared.Asked.{Asked}
 use Rattle.summary_rows.proofs.Rows.{extent_within, moved_none}
 use Rattle.summary_rows.proofs.Laws.{row_one, row_few, item_near}
 use Rattle.summary_by_aperture.specs.Kept.{kept_width, extent_if, row_at}
-use Rattle.summary_by_aperture.specs.Walk.{merges, row_as, entry_row, entry_row_at, run_row, top_entry_row, top_row_at, Countable}
+use Rattle.summary_by_aperture.specs.Walk.{row_as, entry_row, entry_row_at, run_row, top_entry_row, top_row_at, Countable}
 use Rattle.summary_by_aperture.proofs.Walk.{row_as_lem}
 use Rattle.summary_by_aperture.proofs.Rows.{repeat_steps, repeat_role, merges_count, countable}
 use Rattle.summary.specs.Links.{is_linked}

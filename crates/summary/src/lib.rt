@@ -15,7 +15,7 @@ ghost use Rattle.summary.specs.Adds.{single, Adds, Room, Copies, Near, NoFlash, 
 
 use place::Repeat;
 use sheet::{Container, Entry};
-use summary_by_aperture::Outcome;
+use summary_by_aperture::SummaryError;
 use summary_rows::Asked;
 
 // The aperture record with a number, of the first n, that the links lead to; n where they lead to none.
@@ -23,10 +23,9 @@ fn record_of(a: &[u64], n: usize, number: u64) -> usize
     requires { n ≤ aperture_room a.now }
     ensures { result ≡ record_of a.now n number }
 {
-    let mut steps: u64 = 65;
     let mut at: usize = 0;
     let mut key = number;
-    while steps > 0 {
+    for step in 0..65u64 {
         if at >= n {
             return n;
         }
@@ -34,8 +33,7 @@ fn record_of(a: &[u64], n: usize, number: u64) -> usize
             return at;
         }
         at = sheet::index(base::word_at(a, at * 8 + 6 + sheet::index(key % 2)));
-        key = key / 2;
-        steps -= 1;
+        key /= 2;
     }
     n
 }
@@ -53,15 +51,7 @@ fn is_linked(a: &[u64], n: usize) -> bool
     requires { n ≤ aperture_room a.now }
     ensures { result ≡ is_linked a.now n }
 {
-    let mut b: usize = 0;
-    while b < n {
-        if is_led(a, n, b) {
-            b += 1;
-        } else {
-            return false;
-        }
-    }
-    true
+    (0..n).all(|b| is_led(a, n, b))
 }
 
 // One copy, where it stands.
@@ -84,7 +74,7 @@ fn add_row(a: &[u64], n: usize, m: Repeat, r: Entry, s: &mut [u64]) -> bool
     if r.kind == 9 {
         return false;
     }
-    if base::either(r.kind == 0, r.kind >= 5) {
+    if r.kind == 0 || r.kind >= 5 {
         return true;
     }
     let b = record_of(a, n, r.who);
@@ -105,13 +95,8 @@ fn add_run(e: &[u64], a: &[u64], n: usize, m: Repeat, k: Container, s: &mut [u64
     requires { Room a.now n (λ q. copied_row m (run_row e.now [] q k)) s.old × Copies m × RunNear e.now k }
     ensures { result ≡ true → RunFree e.now k × Adds a.now n (λ q. copied_row m (run_row e.now [] q k)) s.old s.new }
 {
-    let first = k.first;
-    let len = k.len;
-    let mut i: usize = 0;
-    while i < len {
-        if add_row(a, n, m, sheet::entry_at(e, first + i), s) {
-            i += 1;
-        } else {
+    for i in 0..k.len {
+        if !add_row(a, n, m, sheet::entry_at(e, k.first + i), s) {
             return false;
         }
     }
@@ -129,18 +114,14 @@ fn add_entry(e: &[u64], a: &[u64], n: usize, r: Entry, s: &mut [u64]) -> bool
     add_row(a, n, once(), r, s)
 }
 
-// Gathers the rows of all aperture records from the top level; false where a block is flashed.
+// Gathers the rows of all aperture records from the top level; false where a block is flashed. It goes over the entries as `add_run` does:
+// with what adds an entry passed in, a contract would have to say what that function leaves in the words that it changes, entry by entry.
 fn add_top(e: &[u64], a: &[u64], n: usize, k: Container, s: &mut [u64]) -> bool
     requires { TopReady e.now a.now n k s.old }
     ensures { result ≡ true → TopFree e.now k × Gathered e.now a.now n k s.new }
 {
-    let first = k.first;
-    let len = k.len;
-    let mut i: usize = 0;
-    while i < len {
-        if add_entry(e, a, n, sheet::entry_at(e, first + i), s) {
-            i += 1;
-        } else {
+    for i in 0..k.len {
+        if !add_entry(e, a, n, sheet::entry_at(e, k.first + i), s) {
             return false;
         }
     }
@@ -152,14 +133,12 @@ fn put_rows(s: &[u64], n: usize, out: &mut [u64])
     requires { (n ≤ length s.now / kept_width) × (n < length out.old / row_width) × (out.old ≡ replicate (length out.old) 0) }
     ensures { out.new ≡ put_rows s.now n (length out.old) }
 {
-    let mut b: usize = 0;
-    while b < n {
+    for b in 0..n {
         summary_by_aperture::put_row(
             out,
             b * summary_by_aperture::ROW_WORDS,
             summary_by_aperture::kept_row(s, b),
         );
-        b += 1;
     }
 }
 
@@ -212,21 +191,20 @@ pub fn summary(
     a: &[u64],
     scratch: &mut [u64],
     rows: &mut [u64],
-) -> Outcome
+) -> Result<(), SummaryError>
     ensures { (result ≡ outcome_of head.now e.now a.now (length rows.old) (length scratch.old))
         × (rows.new ≡ summed head.now e.now a.now (length rows.old) (length scratch.old)) }
 {
     base::clear(rows);
-    if inspect::is_sheet(head, e, a) {
-        let n = sheet::index(head[3]);
-        if base::both(
-            n < rows.len() / summary_by_aperture::ROW_WORDS,
-            n <= scratch.len() / summary_by_aperture::SCRATCH_WORDS,
-        ) {
-            fill(head, e, a, scratch, rows);
-            return Outcome::Done;
-        }
-        return Outcome::Short;
+    if !inspect::is_sheet(head, e, a) {
+        return Err(SummaryError::NotSheet);
     }
-    Outcome::NotSheet
+    let n = sheet::index(head[3]);
+    if n < rows.len() / summary_by_aperture::ROW_WORDS
+        && n <= scratch.len() / summary_by_aperture::SCRATCH_WORDS
+    {
+        fill(head, e, a, scratch, rows);
+        return Ok(());
+    }
+    Err(SummaryError::Short)
 }

@@ -1,5 +1,6 @@
 -- Rows put one after the other into words that are all 0, and what the call answers.
 -- Assumes nothing.
+use Rattle.std.specs.Prelude.{Err, Ok}
 use Prim.Native.Nat.{ℕ, ◌+◌, ◌-◌, ◌*◌, ◌/◌, ◌≤◌, ◌<◌}
 use mathlib.Core.Path.{◌≡◌, sym, ap, ◌∙◌}
 use mathlib.Core.Bool.{true, false}
@@ -23,8 +24,8 @@ use Rattle.summary_rows.specs.declared.Asked.TheVariants.{Regions}
 use Rattle.summary_by_aperture.specs.Kept.{kept_width, scratch_width, row_words}
 use Rattle.summary_by_aperture.specs.Blocks.{Fits}
 use Rattle.summary_by_aperture.specs.Answers.{aperture_row, summary_words, roomy, outcome_of, summed}
-use Rattle.summary_by_aperture.specs.declared.Outcome.TheVariants as O
 use Rattle.summary_by_aperture.proofs.Kept.{words_long}
+use Rattle.summary_by_aperture.specs.declared.SummaryError.TheVariants as summary_error
 
 drop_zeros : (n m : ℕ) → drop n (replicate {A = ℕ} (n + m) 0) ≡ replicate m 0
 drop_zeros n m = rw (← replicate-append-replicate {A = ℕ} n m 0) (drop_at (replicate n 0) (replicate m 0) n (length-replicate n 0))
@@ -92,15 +93,15 @@ module _ (head e a : List ℕ) (words scratch : ℕ) where
   room_scratch z = leb-true _ _ (and_r _ _ z)
 
   pub answer_done : (out : List ℕ) → valid head e a ≡ true → roomy (apertures_used head) words scratch ≡ true →
-      out ≡ summary_words (sheet_items head e a) a (apertures_used head) words → (O.Done ≡ outcome_of head e a words scratch) × (out ≡ summed head e a words scratch)
+      out ≡ summary_words (sheet_items head e a) a (apertures_used head) words → (Ok _ ≡ outcome_of head e a words scratch) × (out ≡ summed head e a words scratch)
   unfolding outcome_of summed
   answer_done out v z q = (simp (v, z), simp (v, z, ands, q))
 
   pub answer_short : (out : List ℕ) → valid head e a ≡ true → roomy (apertures_used head) words scratch ≡ false →
-      out ≡ replicate words 0 → (O.Short ≡ outcome_of head e a words scratch) × (out ≡ summed head e a words scratch)
+      out ≡ replicate words 0 → (Err summary_error.Short ≡ outcome_of head e a words scratch) × (out ≡ summed head e a words scratch)
   unfolding outcome_of summed
   answer_short out v z q = (simp (v, z), simp (v, z, ands, q))
 
-  pub answer_not : (out : List ℕ) → valid head e a ≡ false → out ≡ replicate words 0 → (O.NotSheet ≡ outcome_of head e a words scratch) × (out ≡ summed head e a words scratch)
+  pub answer_not : (out : List ℕ) → valid head e a ≡ false → out ≡ replicate words 0 → (Err summary_error.NotSheet ≡ outcome_of head e a words scratch) × (out ≡ summed head e a words scratch)
   unfolding outcome_of summed
   answer_not out v q = (simp v, simp (v, ands, q))

@@ -1,5 +1,6 @@
 -- A row that is kept is read back, and keeping it leaves the others.
 -- Assumes nothing.
+use Rattle.std.specs.Prelude.{None, Option, Some}
 use Prim.Native.Nat.{ℕ, ◌+◌, ◌*◌, ◌/◌, ◌≤◌, ◌<◌, ◌^◌}
 use mathlib.Core.Path.{◌≡◌, refl, ap, ◌∙◌}
 use mathlib.Core.Bool.{Bool, true, false}
@@ -16,12 +17,11 @@ use Rattle.sheet.proofs.Stored.{stored_below, stored_above, stored_at, stored_lo
 use Rattle.spans.specs.Spans.{span, rect, SpanWithin}
 use Rattle.summary_rows.specs.Rows.{row, ExtentWithin, over_in}
 use Rattle.spans.specs.declared.Span.{Span}
-use Rattle.summary_rows.specs.declared.Extent.{Extent}
-use Rattle.summary_rows.specs.declared.Extent.TheVariants.{Nothing, Over}
 use Rattle.summary_rows.specs.declared.Row.{Row}
 use mir.Syntax.{w64}
 use mir.Val.{of_z}
 use Rattle.summary_by_aperture.specs.Kept.{has_points, corners, row_words, kept_words, span_of, extent_if, row_at}
+use Rattle.spans.specs.declared.Rect.{Rect}
 
 pub words_long : (r : Row) → length (row_words r) ≡ 5
 unfolding row_words
@@ -50,12 +50,12 @@ words_back : (r : Row) → ExtentWithin (10 ^ 17) r.extent → row_at (kept_word
 unfolding row_at kept_words row_words extent_if has_points corners flag_word
 words_back r w = ap (row r.count) (go r.extent w)
   where
-    go : (x : Extent) → ExtentWithin (10 ^ 17) x →
+    go : (x : Option Rect) → ExtentWithin (10 ^ 17) x →
         extent_if (eqb (flag_word (has_points x)) 1)
         (rect (span_of (of_z w64 (corners x).across.low) (of_z w64 (corners x).across.high)) (span_of (of_z w64 (corners x).up.low) (of_z w64 (corners x).up.high)))
         ≡ x
-    go Nothing w = refl
-    go (Over b) (over_in w) = λ i. Over (rect (span_back b.across w.across_in i) (span_back b.up w.up_in i))
+    go None w = refl
+    go (Some b) (over_in w) = λ i. Some (rect (span_back b.across w.across_in i) (span_back b.up w.up_in i))
 
 module _ (s : List ℕ) (b : ℕ) (r : Row) (room : b < length s / 6) where
   fits : b * 6 + length (kept_words r) ≤ length s

@@ -1,5 +1,5 @@
 -- What the call answers (02, [11]; decisions 410 to 414).
-use Rattle.std.specs.Prelude.{ℕ, ◌+◌, ◌-◌, ◌*◌, ◌/◌, Bool, cond, List, ◌++◌, leb, ltb, replicate}
+use Rattle.std.specs.Prelude.{ℕ, ◌+◌, ◌-◌, ◌*◌, ◌/◌, Bool, cond, List, ◌++◌, leb, ltb, replicate, Err, Ok, Result, ⊤}
 use Rattle.base.specs.And.{◌and◌}
 use Rattle.base.specs.Run.{run}
 use Rattle.place.specs.declared.Item.{Item}
@@ -10,8 +10,8 @@ use Rattle.sheet.specs.Valid.{valid}
 use Rattle.summary_rows.specs.Summed.{row_of}
 use Rattle.summary_rows.specs.declared.Asked.TheVariants.{Aperture, Regions}
 use Rattle.summary_by_aperture.specs.Kept.{row_width, scratch_width, row_words}
-use Rattle.summary_by_aperture.specs.declared.Outcome.{Outcome}
-use Rattle.summary_by_aperture.specs.declared.Outcome.TheVariants as O
+use Rattle.summary_by_aperture.specs.declared.SummaryError.TheVariants as summary_error
+use Rattle.summary_by_aperture.specs.declared.SummaryError.{SummaryError}
 
 -- the row of aperture record b: of the items ts, those with its number
 unfoldable pub aperture_row : List Item → List ℕ → ℕ → List ℕ
@@ -26,13 +26,13 @@ unfoldable pub roomy : ℕ → ℕ → ℕ → Bool
 roomy n words scratch = ltb n (words / row_width) and leb n (scratch / scratch_width)
 
 -- "Refusals: 21, then 17"
-unfoldable pub outcome_of : List ℕ → List ℕ → List ℕ → ℕ → ℕ → Outcome
-outcome_of head e a words scratch = cond (valid head e a) (cond (roomy (apertures_used head) words scratch) O.Done O.Short) O.NotSheet
+unfoldable pub outcome_of : List ℕ → List ℕ → List ℕ → ℕ → ℕ → Result ⊤ SummaryError
+outcome_of head e a words scratch = cond (valid head e a) (cond (roomy (apertures_used head) words scratch) (Ok _) (Err summary_error.Short)) (Err summary_error.NotSheet)
 
-unfoldable pub outcome_number : Outcome → ℕ
-outcome_number O.Done = 0
-outcome_number O.Short = 17
-outcome_number O.NotSheet = 21
+unfoldable pub outcome_number : Result ⊤ SummaryError → ℕ
+outcome_number (Ok _) = 0
+outcome_number (Err summary_error.Short) = 17
+outcome_number (Err summary_error.NotSheet) = 21
 
 -- what the lent rows hold afterwards: "both zero that room"
 unfoldable pub summed : List ℕ → List ℕ → List ℕ → ℕ → ℕ → List ℕ

@@ -1,5 +1,5 @@
 -- A row as words: five where it is answered, and a sixth before them, 1 if it has an extent, where it is kept meanwhile.
-use Rattle.std.specs.Prelude.{ℕ, ◌+◌, ◌*◌, Bool, true, false, cond, List, [], ◌∷◌, eqb, pos, get_or}
+use Rattle.std.specs.Prelude.{ℕ, ◌+◌, ◌*◌, Bool, true, false, cond, List, [], ◌∷◌, eqb, pos, get_or, None, Option, Some}
 use Rattle.std.specs.Int.{w64}
 use Rattle.std.proofs.Common.{of_z, to_z}
 use Rattle.sheet.specs.Meaning.{flag_word}
@@ -7,8 +7,6 @@ use Rattle.spans.specs.Spans.{span, rect}
 use Rattle.summary_rows.specs.Rows.{row}
 use Rattle.spans.specs.declared.Span.{Span}
 use Rattle.spans.specs.declared.Rect.{Rect}
-use Rattle.summary_rows.specs.declared.Extent.{Extent}
-use Rattle.summary_rows.specs.declared.Extent.TheVariants.{Nothing, Over}
 use Rattle.summary_rows.specs.declared.Row.{Row}
 
 -- the words of a row, answered and kept
@@ -22,14 +20,14 @@ kept_width = 6
 abbrev pub scratch_width : ℕ
 scratch_width = 8
 
-unfoldable pub has_points : Extent → Bool
-has_points Nothing = false
-has_points (Over b) = true
+unfoldable pub has_points : Option Rect → Bool
+has_points None = false
+has_points (Some b) = true
 
 -- where there is no point, zeros
-unfoldable pub corners : Extent → Rect
-corners Nothing = rect (span (pos 0) (pos 0)) (span (pos 0) (pos 0))
-corners (Over b) = b
+unfoldable pub corners : Option Rect → Rect
+corners None = rect (span (pos 0) (pos 0)) (span (pos 0) (pos 0))
+corners (Some b) = b
 
 -- count, least x, least y, greatest x, greatest y, coordinates in two's complement (decisions 201, 413)
 unfoldable pub row_words : Row → List ℕ
@@ -46,8 +44,8 @@ kept_words r = flag_word (has_points r.extent) ∷ row_words r
 unfoldable pub span_of : ℕ → ℕ → Span
 span_of low high = span (to_z w64 low) (to_z w64 high)
 
-unfoldable pub extent_if : Bool → Rect → Extent
-extent_if some b = cond some (Over b) Nothing
+unfoldable pub extent_if : Bool → Rect → Option Rect
+extent_if some b = cond some (Some b) None
 
 unfoldable pub row_at : List ℕ → ℕ → Row
 row_at s b = row

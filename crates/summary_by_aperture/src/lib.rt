@@ -18,7 +18,7 @@ ghost use Rattle.summary_by_aperture.specs.Answers.{summary_words};
 
 use sheet::{Container, Entry, Role};
 use spans::{Rect, Span};
-use summary_rows::{Asked, Extent, Row};
+use summary_rows::{Asked, Row};
 
 // The words of a row, of a row that is kept meanwhile, and of scratch for each aperture record: a row, and a word in the list of the
 // blocks.
@@ -28,10 +28,9 @@ const KEPT_WORDS: usize = 6;
 
 pub const SCRATCH_WORDS: usize = 8;
 
-// The outcome of the call.
+// Why there are no rows: the lent rows are too few; or the store is not a sheet.
 #[derive(Clone, Copy)]
-pub enum Outcome {
-    Done,
+pub enum SummaryError {
     Short,
     NotSheet,
 }
@@ -59,38 +58,45 @@ fn span_of(low: u64, high: u64) -> Span
     }
 }
 
-fn has_points(x: Extent) -> bool
+#[tactic(auto, unfolding(crate::specs::Kept::has_points))]
+fn has_points(x: Option<Rect>) -> bool
     ensures { result ≡ has_points x }
 {
-    match x {
-        Extent::Nothing => false,
-        Extent::Over(_) => true,
-    }
+    x.is_some()
 }
 
 // The rectangle of an extent, zeros where there is none.
-fn corners_of(x: Extent) -> Rect
+#[tactic(auto, unfolding(crate::specs::Kept::corners))]
+fn corners_of(x: Option<Rect>) -> Rect
     ensures { result ≡ corners x }
 {
-    match x {
-        Extent::Nothing => {
-            let none = Span { low: 0, high: 0 };
-            Rect {
-                across: none,
-                up: none,
-            }
-        }
-        Extent::Over(b) => b,
-    }
+    let none = Span { low: 0, high: 0 };
+    x.unwrap_or(Rect {
+        across: none,
+        up: none,
+    })
 }
 
-fn extent_if(some: bool, b: Rect) -> Extent
+#[tactic(auto, unfolding(crate::specs::Kept::extent_if))]
+fn extent_if(some: bool, b: Rect) -> Option<Rect>
     ensures { result ≡ extent_if some b }
 {
-    if some {
-        return Extent::Over(b);
-    }
-    Extent::Nothing
+    some.then_some(b)
+}
+
+// A row's five words.
+#[tactic(auto, unfolding(crate::specs::Kept::row_words))]
+fn row_words(r: Row) -> [u64; 5]
+    ensures { result ≡ row_words r }
+{
+    let Rect { across, up } = corners_of(r.extent);
+    [
+        r.count,
+        low_word(across),
+        low_word(up),
+        high_word(across),
+        high_word(up),
+    ]
 }
 
 // Stores a row's five words from a place on.
@@ -98,18 +104,7 @@ pub fn put_row(out: &mut [u64], at: usize, r: Row)
     requires { at + 5 ≤ length out.old }
     ensures { out.new ≡ stored out.old at (row_words r) }
 {
-    let x = r.extent;
-    let c = corners_of(x);
-    let across = c.across;
-    let up = c.up;
-    let w = [
-        r.count,
-        low_word(across),
-        low_word(up),
-        high_word(across),
-        high_word(up),
-    ];
-    sheet::put_words(out, at, &w);
+    sheet::put_words(out, at, &row_words(r));
 }
 
 // Keeps the row of aperture record b, in six words.
@@ -117,19 +112,9 @@ pub fn keep_row(s: &mut [u64], b: usize, r: Row)
     requires { b < length s.old / 6 }
     ensures { s.new ≡ stored s.old (b * 6) (kept_words r) }
 {
-    let x = r.extent;
-    let c = corners_of(x);
-    let across = c.across;
-    let up = c.up;
-    let w = [
-        sheet::flag_word(has_points(x)),
-        r.count,
-        low_word(across),
-        low_word(up),
-        high_word(across),
-        high_word(up),
-    ];
-    sheet::put_words(s, b * KEPT_WORDS, &w);
+    let [count, left, low, right, high] = row_words(r);
+    let some = sheet::flag_word(has_points(r.extent));
+    sheet::put_words(s, b * KEPT_WORDS, &[some, count, left, low, right, high]);
 }
 
 // The row kept of aperture record b.
@@ -149,6 +134,7 @@ pub fn kept_row(s: &[u64], b: usize) -> Row
 }
 
 // The row of an entry of a block or a body.
+#[tactic(auto, unfolding(crate::specs::Walk::entry_row, crate::specs::Walk::row_as))]
 fn entry_row(s: &[u64], q: Asked, r: Entry) -> Row
     requires { EntryReady s.now r }
     ensures { result ≡ entry_row s.now q r }
@@ -156,9 +142,7 @@ fn entry_row(s: &[u64], q: Asked, r: Entry) -> Row
     match sheet::role_of(r.kind) {
         Role::Draws => summary_rows::item_row(q, sheet::draw(r)),
         Role::Uses => summary_rows::move_row(sheet::pose_of(r), kept_row(s, sheet::index(r.who))),
-        Role::Repeats => summary_rows::no_row(),
-        Role::Defines => summary_rows::no_row(),
-        Role::Unknown => summary_rows::no_row(),
+        Role::Repeats | Role::Defines | Role::Unknown => summary_rows::no_row(),
     }
 }
 
@@ -171,7 +155,8 @@ fn is_idle(e: &[u64], i: usize, q: Asked) -> bool
     match q {
         Asked::Aperture(n) => {
             let who = base::word_at(e, i * sheet::ENTRY_WORDS + 2);
-            base::both(kind <= 8, !base::both(kind <= 4, who == n))
+            let draws = kind <= 8;
+            draws && !(kind <= 4 && who == n)
         }
         Asked::Regions => kind <= 4,
     }
@@ -182,18 +167,13 @@ fn run_row(e: &[u64], s: &[u64], q: Asked, k: Container) -> Row
     requires { RunReady e.now s.now q k }
     ensures { result ≡ run_row e.now s.now q k }
 {
-    let first = k.first;
-    let len = k.len;
-    let mut i: usize = 0;
     let mut so_far = summary_rows::no_row();
-    while i < len {
-        if is_idle(e, first + i, q) {
-            i += 1;
-        } else {
-            let r = sheet::entry_at(e, first + i);
-            so_far = summary_rows::merge(so_far, entry_row(s, q, r));
-            i += 1;
+    for i in 0..k.len {
+        if is_idle(e, k.first + i, q) {
+            continue;
         }
+        let r = sheet::entry_at(e, k.first + i);
+        so_far = summary_rows::merge(so_far, entry_row(s, q, r));
     }
     so_far
 }
@@ -209,34 +189,31 @@ fn top_entry_row(e: &[u64], s: &[u64], q: Asked, r: Entry) -> Row
     entry_row(s, q, r)
 }
 
-// The row of the top level.
+// The row of the top level. It goes over the entries as `run_row` does: with the row of an entry passed in, a contract would have to say
+// of that function where it may be called, what it answers and that the counts fit, which is longer than the loop.
 fn top_row(e: &[u64], s: &[u64], q: Asked, k: Container) -> Row
     requires { TopReady e.now s.now q k }
     ensures { result ≡ top_row e.now s.now q k }
 {
-    let first = k.first;
-    let len = k.len;
-    let mut i: usize = 0;
     let mut so_far = summary_rows::no_row();
-    while i < len {
-        if is_idle(e, first + i, q) {
-            i += 1;
-        } else {
-            let r = sheet::entry_at(e, first + i);
-            so_far = summary_rows::merge(so_far, top_entry_row(e, s, q, r));
-            i += 1;
+    for i in 0..k.len {
+        if is_idle(e, k.first + i, q) {
+            continue;
         }
+        let r = sheet::entry_at(e, k.first + i);
+        so_far = summary_rows::merge(so_far, top_entry_row(e, s, q, r));
     }
     so_far
 }
 
 // Lists record b after m others, where it is a block of height h; how many are listed then.
+#[tactic(auto, using(base::proofs::And::ands), unfolding(crate::specs::Listed::with_listed, crate::specs::Listed::is_at, sheet::specs::Meaning::flag_word))]
 fn list_block(a: &[u64], n: usize, h: u64, b: usize, m: usize, s: &mut [u64]) -> usize
     requires { (b < aperture_room a.now) × (n ≤ length s.old / 8) × (m ≤ n) }
     ensures { (result ≡ m + flag_word (is_at a.now h b)) × (s.new ≡ with_listed a.now n h b m s.old) }
 {
     let k = sheet::block_at(a, b);
-    if base::both(inspect::is_block(a, b), k.height == h) {
+    if inspect::is_block(a, b) && k.height == h {
         base::put(s, n * KEPT_WORDS + m, b as u64);
         return m + 1;
     }
@@ -248,11 +225,9 @@ fn list_height(a: &[u64], n: usize, h: u64, m: usize, s: &mut [u64]) -> usize
     requires { (n ≤ aperture_room a.now) × (n ≤ length s.old / 8) × Listed a.now s.old n h 0 m }
     ensures { Listed a.now s.new n (h + 1) 0 result }
 {
-    let mut b: usize = 0;
     let mut r = m;
-    while b < n {
+    for b in 0..n {
         r = list_block(a, n, h, b, r, s);
-        b += 1;
     }
     r
 }
@@ -262,11 +237,9 @@ fn list_blocks(a: &[u64], n: usize, s: &mut [u64]) -> usize
     requires { (n ≤ aperture_room a.now) × (n ≤ length s.old / 8) }
     ensures { Listed a.now s.new n 9 0 result }
 {
-    let mut h: u64 = 0;
     let mut r: usize = 0;
-    while h < 9 {
+    for h in 0..9 {
         r = list_height(a, n, h, r, s);
-        h += 1;
     }
     r
 }
@@ -286,11 +259,9 @@ fn keep_blocks(head: &[u64; 8], e: &[u64], a: &[u64], q: Asked, m: usize, s: &mu
     ensures { Done head.now e.now a.now q m m s.new }
 {
     let n = sheet::index(head[3]);
-    let mut i: usize = 0;
-    while i < m {
+    for i in 0..m {
         let b = sheet::index(base::word_at(s, n * KEPT_WORDS + i));
         keep_block(e, a, q, b, s);
-        i += 1;
     }
 }
 
@@ -319,12 +290,10 @@ pub fn fill(head: &[u64; 8], e: &[u64], a: &[u64], s: &mut [u64], out: &mut [u64
 {
     let n = sheet::index(head[3]);
     let m = list_blocks(a, n, s);
-    let mut b: usize = 0;
-    while b < n {
+    for b in 0..n {
         let number = sheet::aperture_at(a, b).number;
         let r = row_of(head, e, a, Asked::Aperture(number), m, s);
         put_row(out, b * ROW_WORDS, r);
-        b += 1;
     }
     let r = row_of(head, e, a, Asked::Regions, m, s);
     put_row(out, n * ROW_WORDS, r);

@@ -1,5 +1,6 @@
 -- The row of a list of items: of two lists it is the rows merged, of a placed list the row moved, of copies the row copied.
 -- Assumes nothing.
+use Rattle.std.specs.Prelude.{None, Option, Some}
 use Prim.Native.Nat.{ℕ, zero, suc, ◌+◌, ◌-◌, ◌*◌, ◌≤◌, ◌<◌}
 use mathlib.Core.Path.{◌≡◌, refl, sym, ap, ◌∙◌}
 use mathlib.Core.Bool.{Bool, true, false, cond}
@@ -24,12 +25,11 @@ use Rattle.spans.specs.Spans.{rect, rect_at, flip_rect, turn_rect, shift_rect, s
 use Rattle.summary_rows.specs.Rows.{row, no_row, joined, merged, moved_rect, moved_extent, moved_row, copied_extent, copied_row, ExtentWithin, nothing_in, over_in}
 use Rattle.summary_rows.specs.Summed.{asks, points_of, extent_of, item_row, row_of}
 use Rattle.spans.specs.declared.Span.{Span}
-use Rattle.summary_rows.specs.declared.Extent.{Extent}
-use Rattle.summary_rows.specs.declared.Extent.TheVariants.{Nothing, Over}
 use Rattle.summary_rows.specs.declared.Asked.{Asked}
 use Rattle.summary_rows.specs.declared.Asked.TheVariants.{Aperture, Regions}
 use Rattle.spans.proofs.Spans.{join_span_same, shift_span_none, stretch_span_none, stretch_span_more, rect_at_within}
 use Rattle.summary_rows.proofs.Rows.{none_merged, merged_none, merged_assoc, moved_merged, moved_none, moved_extent_join, rect_at_moved, joined_within}
+use Rattle.spans.specs.declared.Rect.{Rect}
 
 -- ---- two lists
 
@@ -88,7 +88,7 @@ module _ (m : Pose) (t : Item) where
 extent_moved : (m : Pose) (ps : List Point) → extent_of (map (moved m) ps) ≡ moved_extent m (extent_of ps)
 unfolding extent_of moved_extent
 extent_moved m [] = refl
-extent_moved m (p ∷ ps) = rw (extent_moved m ps, rect_at_moved m p) (sym (moved_extent_join m (Over (rect_at p)) (extent_of ps)))
+extent_moved m (p ∷ ps) = rw (extent_moved m ps, rect_at_moved m p) (sym (moved_extent_join m (Some (rect_at p)) (extent_of ps)))
 
 item_placed : (q : Asked) (m : Pose) (t : Item) → item_row q (placed m t) ≡ moved_row m (item_row q t)
 unfolding item_row moved_row
@@ -119,20 +119,20 @@ row_flashed q place m l = row_map q m (flashed_by place m) (λ t. item_flashed q
 -- ---- copies
 
 -- an extent with its spans changed, across and up
-map_extent : (Span → Span) → (Span → Span) → Extent → Extent
-map_extent f g Nothing = Nothing
-map_extent f g (Over b) = Over (rect (f b.across) (g b.up))
+map_extent : (Span → Span) → (Span → Span) → Option Rect → Option Rect
+map_extent f g None = None
+map_extent f g (Some b) = Some (rect (f b.across) (g b.up))
 
-map_same : (f g f' g' : Span → Span) (x : Extent) → ((z : Span) → f z ≡ f' z) → ((z : Span) → g z ≡ g' z) → map_extent f g x ≡ map_extent f' g' x
+map_same : (f g f' g' : Span → Span) (x : Option Rect) → ((z : Span) → f z ≡ f' z) → ((z : Span) → g z ≡ g' z) → map_extent f g x ≡ map_extent f' g' x
 unfolding map_extent
-map_same f g f' g' Nothing h k = refl
-map_same f g f' g' (Over b) h k = λ i. Over (rect (h b.across i) (k b.up i))
+map_same f g f' g' None h k = refl
+map_same f g f' g' (Some b) h k = λ i. Some (rect (h b.across i) (k b.up i))
 
-map_joined : (f g f' g' f'' g'' : Span → Span) (x : Extent) → ((z : Span) → join_span (f z) (f' z) ≡ f'' z) → ((z : Span) → join_span (g z) (g' z) ≡ g'' z) →
+map_joined : (f g f' g' f'' g'' : Span → Span) (x : Option Rect) → ((z : Span) → join_span (f z) (f' z) ≡ f'' z) → ((z : Span) → join_span (g z) (g' z) ≡ g'' z) →
     joined (map_extent f g x) (map_extent f' g' x) ≡ map_extent f'' g'' x
 unfolding map_extent joined join_rect
-map_joined f g f' g' f'' g'' Nothing h k = refl
-map_joined f g f' g' f'' g'' (Over b) h k = λ i. Over (rect (h b.across i) (k b.up i))
+map_joined f g f' g' f'' g'' None h k = refl
+map_joined f g f' g' f'' g'' (Some b) h k = λ i. Some (rect (h b.across i) (k b.up i))
 
 run_none : (f : ℕ → List Item) (p : ℕ) → run f p 0 ≡ []
 unfolding run
@@ -144,7 +144,7 @@ run_one f = append-nil (f 0)
 
 -- pieces whose rows have one count, the spans of piece i being those that A and B make, and those of the first pieces together those
 -- that A' and B' do
-module _ (q : Asked) (f : ℕ → List Item) (c : ℕ) (x : Extent) (A B A' B' : ℕ → Span → Span)
+module _ (q : Asked) (f : ℕ → List Item) (c : ℕ) (x : Option Rect) (A B A' B' : ℕ → Span → Span)
     (piece : (i : ℕ) → row_of q (f i) ≡ row c (map_extent (A i) (B i) x))
     (first-a : (z : Span) → A 0 z ≡ A' 0 z) (first-b : (z : Span) → B 0 z ≡ B' 0 z)
     (next-a : (i : ℕ) (z : Span) → join_span (A' i z) (A (suc i) z) ≡ A' (suc i) z)
@@ -189,9 +189,9 @@ module _ (q : Asked) (s : Repeat) (body : List Item) where
   unfolding moved_row moved_extent moved_rect step flip_rect turn_rect shift_rect map_extent
   copy_row i j = row_placed q (step s i j) body ∙ ap (row (row_of q body).count) (go (row_of q body).extent)
     where
-      go : (x : Extent) → moved_extent (step s i j) x ≡ map_extent (λ z. shift_span z (pos (i * s.dx))) (λ z. shift_span z (pos (j * s.dy))) x
-      go Nothing = refl
-      go (Over b) = refl
+      go : (x : Option Rect) → moved_extent (step s i j) x ≡ map_extent (λ z. shift_span z (pos (i * s.dx))) (λ z. shift_span z (pos (j * s.dy))) x
+      go None = refl
+      go (Some b) = refl
 
   column_row : (i k : ℕ) → row_of q (run (λ j. map (placed (step s i j)) body) 0 (suc k)) ≡ row (suc k * (row_of q body).count) (map_extent (by s.dx i) (to s.dy k) (row_of q body).extent)
   column_row i k = row_pieces q (λ j. map (placed (step s i j)) body) (row_of q body).count (row_of q body).extent
@@ -221,9 +221,9 @@ module _ (q : Asked) (s : Repeat) (body : List Item) where
       ∙ table_row (s.nx - 1) (s.ny - 1)
       ∙ (λ i. row (n' i * (m' i * (row_of q body).count)) (as_copied (row_of q body).extent i))
     where
-      as_copied : (x : Extent) → map_extent (to s.dx (s.nx - 1)) (to s.dy (s.ny - 1)) x ≡ copied_extent s x
-      as_copied Nothing = refl
-      as_copied (Over b) = refl
+      as_copied : (x : Option Rect) → map_extent (to s.dx (s.nx - 1)) (to s.dy (s.ny - 1)) x ≡ copied_extent s x
+      as_copied None = refl
+      as_copied (Some b) = refl
 
 -- ---- how many, and how far
 
@@ -231,7 +231,7 @@ one_few : (q : Asked) (t : Item) → (item_row q t).count ≤ 1
 unfolding item_row no_row
 one_few q t = go (asks q t)
   where
-    go : (b : Bool) → (cond b (row 1 (extent_of (points_of t))) (row 0 Nothing)).count ≤ 1
+    go : (b : Bool) → (cond b (row 1 (extent_of (points_of t))) (row 0 None)).count ≤ 1
     go true = omega arith
     go false = omega arith
 
@@ -244,7 +244,7 @@ points_within : {n : ℕ} (t : Item) → ItemWithin n t → ExtentWithin n (exte
 unfolding extent_of points_of
 points_within {n} t w = go (has_end t.kind) (has_start t.kind)
   where
-    at_end_lem : ExtentWithin n (joined (Over (rect_at t.end)) Nothing)
+    at_end_lem : ExtentWithin n (joined (Some (rect_at t.end)) None)
     at_end_lem = joined_within _ _ (over_in (rect_at_within t.end w.end_in_lem)) nothing_in
 
     go : (e s : Bool) → ExtentWithin n (extent_of (cond e (cond s (t.start ∷ t.end ∷ []) (t.end ∷ [])) []))
@@ -256,7 +256,7 @@ pub item_near : {n : ℕ} (q : Asked) (t : Item) → ItemWithin n t → ExtentWi
 unfolding item_row no_row
 item_near {n} q t w = go (asks q t)
   where
-    go : (b : Bool) → ExtentWithin n (cond b (row 1 (extent_of (points_of t))) (row 0 Nothing)).extent
+    go : (b : Bool) → ExtentWithin n (cond b (row 1 (extent_of (points_of t))) (row 0 None)).extent
     go true = points_within t w
     go false = nothing_in
 

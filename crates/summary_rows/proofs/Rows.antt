@@ -1,5 +1,6 @@
 -- Rows: merging in any grouping, a row moved, the rows of copies merged one after the other, and how far rows reach.
 -- Assumes nothing.
+use Rattle.std.specs.Prelude.{None, Option, Some}
 use Prim.Native.Nat.{ℕ, ◌+◌, ◌-◌, ◌*◌, ◌/◌, ◌≤◌}
 use mathlib.Core.Path.{◌≡◌, refl, ap, subst, ◌∙◌}
 use native.Mathlib.Nat.{zero-add, add-zero, add_assoc}
@@ -11,24 +12,22 @@ use Rattle.points.specs.Points.{flipped, turned}
 use Rattle.spans.specs.Spans.{rect_at, join_rect, flip_rect, RectWithin}
 use Rattle.summary_rows.specs.Rows.{row, no_row, joined, merged, moved_rect, moved_extent, moved_row, copied_extent, ExtentWithin, nothing_in, over_in}
 use Rattle.spans.specs.declared.Rect.{Rect}
-use Rattle.summary_rows.specs.declared.Extent.{Extent}
-use Rattle.summary_rows.specs.declared.Extent.TheVariants.{Nothing, Over}
 use Rattle.summary_rows.specs.declared.Row.{Row}
 use Rattle.spans.proofs.Spans.{join_rect_assoc, flip_rect_join, turn_rect_join, shift_rect_join, rect_at_flipped, rect_at_turned, rect_at_shift, rect_within, join_rect_within, flip_rect_within, turn_rect_within, shift_rect_within, stretch_rect_within}
 
 -- ---- merging
 
-pub joined_none : (x : Extent) → joined x Nothing ≡ x
+pub joined_none : (x : Option Rect) → joined x None ≡ x
 unfolding joined
-joined_none Nothing = refl
-joined_none (Over b) = refl
+joined_none None = refl
+joined_none (Some b) = refl
 
-pub joined_assoc : (x y z : Extent) → joined (joined x y) z ≡ joined x (joined y z)
+pub joined_assoc : (x y z : Option Rect) → joined (joined x y) z ≡ joined x (joined y z)
 unfolding joined
-joined_assoc Nothing y z = refl
-joined_assoc (Over b) Nothing z = refl
-joined_assoc (Over b) (Over c) Nothing = refl
-joined_assoc (Over b) (Over c) (Over d) = ap Over (join_rect_assoc b c d)
+joined_assoc None y z = refl
+joined_assoc (Some b) None z = refl
+joined_assoc (Some b) (Some c) None = refl
+joined_assoc (Some b) (Some c) (Some d) = ap Some (join_rect_assoc b c d)
 
 pub none_merged : (r : Row) → merged no_row r ≡ r
 unfolding merged no_row joined
@@ -51,11 +50,11 @@ module _ (m : Pose) where
       rw (flip_rect_join m.flip b c, turn_rect_join (m.angle / quarter_turn) (flip_rect m.flip b) (flip_rect m.flip c))
       (shift_rect_join _ _ m.at)
 
-  pub moved_extent_join : (x y : Extent) → moved_extent m (joined x y) ≡ joined (moved_extent m x) (moved_extent m y)
+  pub moved_extent_join : (x y : Option Rect) → moved_extent m (joined x y) ≡ joined (moved_extent m x) (moved_extent m y)
   unfolding moved_extent joined
-  moved_extent_join Nothing y = refl
-  moved_extent_join (Over b) Nothing = refl
-  moved_extent_join (Over b) (Over c) = ap Over (moved_rect_join b c)
+  moved_extent_join None y = refl
+  moved_extent_join (Some b) None = refl
+  moved_extent_join (Some b) (Some c) = ap Some (moved_rect_join b c)
 
   pub moved_merged : (r s : Row) → moved_row m (merged r s) ≡ merged (moved_row m r) (moved_row m s)
   unfolding moved_row merged
@@ -74,33 +73,33 @@ module _ (m : Pose) where
 
 -- ---- how far
 
-pub extent_within : {n m : ℕ} (x : Extent) → n ≤ m → ExtentWithin n x → ExtentWithin m x
-extent_within Nothing h w = nothing_in
-extent_within (Over b) h (over_in w) = over_in (rect_within b h w)
+pub extent_within : {n m : ℕ} (x : Option Rect) → n ≤ m → ExtentWithin n x → ExtentWithin m x
+extent_within None h w = nothing_in
+extent_within (Some b) h (over_in w) = over_in (rect_within b h w)
 
-pub joined_within : {n : ℕ} (x y : Extent) → ExtentWithin n x → ExtentWithin n y → ExtentWithin n (joined x y)
+pub joined_within : {n : ℕ} (x y : Option Rect) → ExtentWithin n x → ExtentWithin n y → ExtentWithin n (joined x y)
 unfolding joined
-joined_within Nothing y w v = v
-joined_within (Over b) Nothing w v = w
-joined_within (Over b) (Over c) (over_in w) (over_in v) = over_in (join_rect_within b c w v)
+joined_within None y w v = v
+joined_within (Some b) None w v = w
+joined_within (Some b) (Some c) (over_in w) (over_in v) = over_in (join_rect_within b c w v)
 
 pub moved_rect_within : {n k : ℕ} (m : Pose) (b : Rect) → PoseWithin k m → RectWithin n b → RectWithin (n + k) (moved_rect m b)
 unfolding moved_rect
 moved_rect_within m b p w = shift_rect_within _ m.at (turn_rect_within (m.angle / quarter_turn) _ (flip_rect_within m.flip b w)) p.at_in
 
-pub moved_extent_within : {n k : ℕ} (m : Pose) (x : Extent) → PoseWithin k m → ExtentWithin n x → ExtentWithin (n + k) (moved_extent m x)
+pub moved_extent_within : {n k : ℕ} (m : Pose) (x : Option Rect) → PoseWithin k m → ExtentWithin n x → ExtentWithin (n + k) (moved_extent m x)
 unfolding moved_extent
-moved_extent_within m Nothing p w = nothing_in
-moved_extent_within m (Over b) p (over_in w) = over_in (moved_rect_within m b p w)
+moved_extent_within m None p w = nothing_in
+moved_extent_within m (Some b) p (over_in w) = over_in (moved_rect_within m b p w)
 
-pub copied_extent_within : {n k : ℕ} (s : Repeat) (x : Extent) → (s.nx - 1) * s.dx ≤ k → (s.ny - 1) * s.dy ≤ k → ExtentWithin n x → ExtentWithin (n + k) (copied_extent s x)
+pub copied_extent_within : {n k : ℕ} (s : Repeat) (x : Option Rect) → (s.nx - 1) * s.dx ≤ k → (s.ny - 1) * s.dy ≤ k → ExtentWithin n x → ExtentWithin (n + k) (copied_extent s x)
 unfolding copied_extent
-copied_extent_within s Nothing h l w = nothing_in
-copied_extent_within s (Over b) h l (over_in w) = over_in (stretch_rect_within b _ _ w h l)
+copied_extent_within s None h l w = nothing_in
+copied_extent_within s (Some b) h l (over_in w) = over_in (stretch_rect_within b _ _ w h l)
 
 -- of an extent that is told apart
-pub over_near : {n : ℕ} {x : Extent} {b : Rect} → ExtentWithin n x → x ≡ Over b → RectWithin n b
+pub over_near : {n : ℕ} {x : Option Rect} {b : Rect} → ExtentWithin n x → x ≡ Some b → RectWithin n b
 over_near {n} {x} {b} w e = go (subst (ExtentWithin n) e w)
   where
-    go : ExtentWithin n (Over b) → RectWithin n b
+    go : ExtentWithin n (Some b) → RectWithin n b
     go (over_in v) = v

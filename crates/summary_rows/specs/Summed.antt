@@ -1,16 +1,15 @@
 -- The summary as a pass over items (02, [11]; decisions 410 to 412).
-use Rattle.std.specs.Prelude.{Bool, cond, not, List, [], ◌∷◌, eqb}
+use Rattle.std.specs.Prelude.{Bool, cond, not, List, [], ◌∷◌, eqb, None, Option, Some}
 use Rattle.base.specs.And.{◌and◌}
 use Rattle.points.specs.declared.Point.{Point}
 use Rattle.place.specs.declared.Item.{Item}
 use Rattle.place.specs.Item.{has_start, has_end, is_oriented}
 use Rattle.spans.specs.Spans.{rect_at}
 use Rattle.summary_rows.specs.Rows.{row, no_row, joined, merged}
-use Rattle.summary_rows.specs.declared.Extent.{Extent}
-use Rattle.summary_rows.specs.declared.Extent.TheVariants.{Nothing, Over}
 use Rattle.summary_rows.specs.declared.Row.{Row}
 use Rattle.summary_rows.specs.declared.Asked.{Asked}
 use Rattle.summary_rows.specs.declared.Asked.TheVariants.{Aperture, Regions}
+use Rattle.spans.specs.declared.Rect.{Rect}
 
 -- lines, arcs and flashes count for their aperture; contours and edges, "one row for all regions together"
 unfoldable pub asks : Asked → Item → Bool
@@ -23,9 +22,9 @@ unfoldable pub points_of : Item → List Point
 points_of t = cond (has_end t.kind) (cond (has_start t.kind) (t.start ∷ t.end ∷ []) (t.end ∷ [])) []
 
 -- "the least and greatest x and y" of points
-unfoldable pub extent_of : List Point → Extent
-extent_of [] = Nothing
-extent_of (p ∷ ps) = joined (Over (rect_at p)) (extent_of ps)
+unfoldable pub extent_of : List Point → Option Rect
+extent_of [] = None
+extent_of (p ∷ ps) = joined (Some (rect_at p)) (extent_of ps)
 
 unfoldable pub item_row : Asked → Item → Row
 item_row q t = cond (asks q t) (row 1 (extent_of (points_of t))) no_row

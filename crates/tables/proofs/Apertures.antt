@@ -1,11 +1,11 @@
 -- An aperture more whose number was not found: it is read back as it was put, the others stay, and numbers are found by it too.
 -- Assumes nothing.
+use Rattle.std.specs.Prelude.{Err}
 use Prim.Native.Nat.{ℕ, suc, ◌*◌, ◌≤◌, ◌<◌}
 use mathlib.Core.Path.{◌≡◌, refl, ◌∙◌}
 use mathlib.Core.List.{List}
 use lib.ListN.{length, get_or}
 use Rattle.index.specs.Tree.{record_width}
-use Rattle.index.specs.declared.Search.TheVariants.{Free}
 use Rattle.index.specs.Numbers.{numbered, Numbered}
 use Rattle.sheet.specs.Records.{aperture_width, aperture_room, aperture_in, aperture_of}
 use Rattle.sheet.specs.declared.Aperture.{Aperture}
@@ -15,7 +15,7 @@ use Rattle.tables.specs.Apertures.{aperture_words}
 use Rattle.tables.proofs.Adding.{added_behind, word_new, word_kept}
 use Rattle.tables.proofs.Numbers.{number_ends, numbered_added}
 
-module _ (a : List ℕ) (used link : ℕ) (r : Aperture) (room : used < aperture_room a) (n : Numbered a used) (free : numbered a used r.number ≡ Free link) where
+module _ (a : List ℕ) (used link : ℕ) (r : Aperture) (room : used < aperture_room a) (n : Numbered a used) (free : numbered a used r.number ≡ Err link) where
   abbrev a' : List ℕ
   a' = added a used link (aperture_words r)
 

@@ -1,5 +1,6 @@
 -- A macro more whose name was not found: it is read back as it was put, the others stay, and names are found by it too.
 -- Assumes nothing.
+use Rattle.std.specs.Prelude.{Err}
 use Prim.Native.Nat.{ℕ, suc, ◌+◌, ◌*◌, ◌≤◌, ◌<◌}
 use mathlib.Core.Path.{◌≡◌, refl}
 use mathlib.Core.List.{List}
@@ -8,7 +9,6 @@ use native.Mathlib.Omega.{arith}
 use lib.ListN.{length, get_or}
 use lib.Seq.{slice}
 use Rattle.index.specs.Tree.{record_width}
-use Rattle.index.specs.declared.Search.TheVariants.{Free}
 use Rattle.index.specs.Names.{key_of, named, Named}
 use Rattle.tables.specs.declared.Macro.{Macro}
 use Rattle.tables.specs.Added.{added}
@@ -23,7 +23,7 @@ unfolding macro_of
 macro_same m i r p q s t = let p' = rw (add-zero (i * macro_width)) at p in λ x. record { from = p' x; to = q x; first = s x; end = t x }
 
 module _ (file m : List ℕ) (used link : ℕ) (r : Macro) (room : used < macro_room m) (n : Named file m used)
-    (free : named file m used (slice r.from r.to file) ≡ Free link) where
+    (free : named file m used (slice r.from r.to file) ≡ Err link) where
   abbrev name : List ℕ
   name = slice r.from r.to file
 

@@ -1,5 +1,6 @@
 -- A record more whose name was not found: afterwards it is, and the names are a search tree as before.
 -- Assumes nothing.
+use Rattle.std.specs.Prelude.{Err}
 use Prim.Native.Nat.{ℕ, suc, ◌+◌, ◌*◌, ◌/◌, ◌≤◌, ◌<◌}
 use mathlib.Core.Path.{◌≡◌, sym, ap, ◌∙◌, subst}
 use mathlib.Core.Bool.{true}
@@ -9,7 +10,6 @@ use native.Mathlib.Omega.{arith}
 use lib.ListN.{length, get_or, set}
 use lib.Seq.{slice}
 use Rattle.base.specs.Bytes.{same_bytes}
-use Rattle.index.specs.declared.Search.TheVariants.{Free}
 use Rattle.index.specs.Tree.{record_width, next, last_link, linked}
 use Rattle.index.specs.Names.{name_of, key_of, named, Named}
 use Rattle.index.proofs.More.{named_more}
@@ -20,7 +20,7 @@ use Rattle.tables.proofs.Free.{first_free}
 use Rattle.tables.proofs.Adding.{added_room, more_long, more_below, more_at, more_links, more_free}
 
 -- a search that found no name
-module _ (file s : List ℕ) (used : ℕ) (name : List ℕ) (link : ℕ) (free : named file s used name ≡ Free link) where
+module _ (file s : List ℕ) (used : ℕ) (name : List ℕ) (link : ℕ) (free : named file s used name ≡ Err link) where
   pub name_ends : last_link s used 0 (key_of name) ≡ link
   unfolding named
   name_ends = (first_free (λ i. same_bytes (name_of file s i) name) 0 used (last_link s used 0 (key_of name)) link free).0
@@ -39,7 +39,7 @@ named_agree file s t used n long links same = record {
 }
 
 module _ (file s : List ℕ) (used : ℕ) (name : List ℕ) (link : ℕ) (w : List ℕ) (wide : length w ≡ record_width) (room : used < length s / record_width) (n : Named file s used)
-    (free : named file s used name ≡ Free link) (is : slice (get_or w 0 0) (get_or w 1 0) file ≡ name) (low : get_or w 6 0 ≡ 0) (high : get_or w 7 0 ≡ 0) where
+    (free : named file s used name ≡ Err link) (is : slice (get_or w 0 0) (get_or w 1 0) file ≡ name) (low : get_or w 6 0 ≡ 0) (high : get_or w 7 0 ≡ 0) where
   abbrev t : List ℕ
   t = stored s (used * record_width) w
 

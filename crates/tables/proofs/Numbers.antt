@@ -1,5 +1,6 @@
 -- A record more whose number was not found: afterwards it is, and the numbers are a search tree as before.
 -- Assumes nothing.
+use Rattle.std.specs.Prelude.{Err}
 use Prim.Native.Nat.{ℕ, suc, ◌*◌, ◌/◌, ◌≤◌, ◌<◌}
 use mathlib.Core.Path.{◌≡◌, sym, ap, ◌∙◌, subst}
 use mathlib.Core.List.{List}
@@ -8,7 +9,6 @@ use native.Mathlib.Omega.{arith}
 use lib.Dec.{eqb}
 use lib.ListN.{length, get_or, set}
 use borrow.Author.Tests.{eq-eqb}
-use Rattle.index.specs.declared.Search.TheVariants.{Free}
 use Rattle.index.specs.Tree.{record_width, next, last_link, linked}
 use Rattle.index.specs.Numbers.{number_of, numbered, Numbered}
 use Rattle.index.proofs.Layers.{layered_agree}
@@ -20,7 +20,7 @@ use Rattle.tables.proofs.Free.{first_free}
 use Rattle.tables.proofs.Adding.{added_room, more_long, more_below, more_at, more_links, more_free}
 
 -- a search that found no number
-module _ (s : List ℕ) (used number link : ℕ) (free : numbered s used number ≡ Free link) where
+module _ (s : List ℕ) (used number link : ℕ) (free : numbered s used number ≡ Err link) where
   pub number_ends : last_link s used 0 number ≡ link
   unfolding numbered
   number_ends = (first_free (λ i. eqb (number_of s i) number) 0 used (last_link s used 0 number) link free).0
@@ -40,7 +40,7 @@ numbered_agree s t used n long links same = record {
 }
 
 module _ (s : List ℕ) (used number link : ℕ) (w : List ℕ) (wide : length w ≡ record_width) (room : used < length s / record_width) (n : Numbered s used)
-    (free : numbered s used number ≡ Free link) (is : get_or w 0 0 ≡ number) (low : get_or w 6 0 ≡ 0) (high : get_or w 7 0 ≡ 0) where
+    (free : numbered s used number ≡ Err link) (is : get_or w 0 0 ≡ number) (low : get_or w 6 0 ≡ 0) (high : get_or w 7 0 ≡ 0) where
   abbrev t : List ℕ
   t = stored s (used * record_width) w
 

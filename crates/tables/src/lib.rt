@@ -35,6 +35,7 @@ fn put_record(s: &mut [u64], used: usize, link: usize, w: &[u64]) -> bool
 }
 
 // An aperture more, at the link that `index::search_number` found free for its number.
+#[tactic(auto, unfolding(crate::specs::Apertures::aperture_words))]
 pub fn put_aperture(a: &mut [u64], used: usize, link: usize, r: Aperture) -> bool
     ensures { (result ≡ has_room a.old used) × (a.new ≡ added a.old used link (aperture_words r)) }
 {
@@ -43,6 +44,7 @@ pub fn put_aperture(a: &mut [u64], used: usize, link: usize, r: Aperture) -> boo
 }
 
 // Macro record i.
+#[tactic(auto, unfolding(crate::specs::Macros::macro_of))]
 pub fn macro_at(m: &[u64], i: usize) -> Macro
     requires { i ≤ macro_room m.now }
     ensures { result ≡ macro_of m.now i }
@@ -57,6 +59,7 @@ pub fn macro_at(m: &[u64], i: usize) -> Macro
 }
 
 // A macro more, at the link that `index::search_name` found free for its name.
+#[tactic(auto, unfolding(crate::specs::Macros::macro_words))]
 pub fn put_macro(m: &mut [u64], used: usize, link: usize, r: Macro) -> bool
     ensures { (result ≡ has_room m.old used) × (m.new ≡ added m.old used link (macro_words r)) }
 {

@@ -16,6 +16,7 @@ use formats::Format;
 use operations::Written;
 
 // G04 and its string.
+#[tactic(auto, unfolding(crate::specs::Newer::comment_of))]
 fn comment_of(s: &[u8]) -> Command
     ensures { result ≡ comment_of s.now }
 {
@@ -27,6 +28,7 @@ fn comment_of(s: &[u8]) -> Command
 }
 
 // Dn, of what stands after its D.
+#[tactic(auto, unfolding(crate::specs::Newer::select_of))]
 fn select_of(t: &[u8]) -> Command
     ensures { result ≡ select_of t.now }
 {
@@ -35,6 +37,7 @@ fn select_of(t: &[u8]) -> Command
 }
 
 // The codes that stand alone.
+#[tactic(auto, unfolding(crate::specs::Newer::code_of))]
 fn code_of(s: &[u8]) -> Command
     ensures { result ≡ code_of s.now }
 {
@@ -48,6 +51,7 @@ fn code_of(s: &[u8]) -> Command
 }
 
 // A word command that is no comment and no operation.
+#[tactic(auto, unfolding(base::specs::Choose::pick))]
 fn other_of(s: &[u8]) -> Command
     ensures { result ≡ pick (s.now begins "D") (select_of (drop 1 s.now)) (code_of s.now) }
 {
@@ -71,27 +75,22 @@ fn newer_word(format: Format, s: &[u8]) -> Command
     operations::operation_of(number, format, s)
 }
 
-// The first where the test holds, else the second.
-fn pick(test: bool, yes: Setting, no: Setting) -> Setting
-    ensures { result ≡ pick test yes no }
-{
-    if test { yes } else { no }
-}
-
 // What a G code from G36 on sets: what is left of the table after the rows of G01, G02 and G03. Any but those of the list is 91.
+#[tactic(auto, unfolding(crate::specs::Old::setting_of))]
 fn later_setting_of(code: u64) -> Setting
     ensures { setting_of code ≡ pick (eqb code 1) Linear (pick (eqb code 2) Clockwise (pick (eqb code 3) Counterclockwise result)) }
 {
-    let g90 = pick(code == 90, Setting::Absolute, Setting::Incremental);
-    let g75 = pick(code == 75, Setting::MultiQuadrant, g90);
-    let g74 = pick(code == 74, Setting::SingleQuadrant, g75);
-    let g71 = pick(code == 71, Setting::CodedMillimetres, g74);
-    let g70 = pick(code == 70, Setting::CodedInches, g71);
-    let g37 = pick(code == 37, Setting::RegionEnd, g70);
-    pick(code == 36, Setting::RegionStart, g37)
+    let g90 = command::pick(code == 90, Setting::Absolute, Setting::Incremental);
+    let g75 = command::pick(code == 75, Setting::MultiQuadrant, g90);
+    let g74 = command::pick(code == 74, Setting::SingleQuadrant, g75);
+    let g71 = command::pick(code == 71, Setting::CodedMillimetres, g74);
+    let g70 = command::pick(code == 70, Setting::CodedInches, g71);
+    let g37 = command::pick(code == 37, Setting::RegionEnd, g70);
+    command::pick(code == 36, Setting::RegionStart, g37)
 }
 
 // What a G code of the old book sets, by its number. Any but those of the list is 91.
+#[tactic(auto, unfolding(base::specs::Choose::pick, crate::specs::Old::setting_of))]
 fn setting_of(code: u64) -> Setting
     ensures { result ≡ setting_of code }
 {
@@ -108,6 +107,7 @@ fn setting_of(code: u64) -> Setting
 }
 
 // An operation, alone where the code is 0, else after that G code.
+#[tactic(auto, unfolding(base::specs::Choose::pick, crate::specs::Old::operated))]
 fn operated(code: u64, w: Written) -> Command
     ensures { result ≡ operated code w }
 {

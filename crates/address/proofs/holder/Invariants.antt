@@ -6,6 +6,3 @@ use Rattle.address.proofs.holder.Given as goal
 
 abbrev pub invariant-loop-i : goal.invariant-loop-i
 invariant-loop-i l = (l.i ≤ l.n) × (spot (span_at l.e) l.p l.n l.m ≡ spot (span_at l.e) (l.p + l.i) (l.n - l.i) l.left)
-
-abbrev pub decreases-loop-i : goal.decreases-loop-i
-decreases-loop-i l = l.n - l.i

@@ -3,14 +3,15 @@ use Rattle.law_addresses.specs.Sought.{further}
 use Rattle.address.proofs.Tops.{copied_few, copied_fits, copy_in, copy_none, copy_past}
 use native.Mathlib.Omega.{arith}
 use mathlib.Core.Path.{sym, ap, ◌∙◌}
+use Rattle.address.proofs.seek_copy.Goals.{then-copy-eq0-via-then-copy-eq0, then-copy-eq0-via-else-copy-eq0+then-copy-r}
 use Rattle.address.proofs.seek_copy.Goals as goal
 
 pub returns-then-copy-eq0 : goal.returns-then-copy-eq0
-returns-then-copy-eq0 c = copy_none _ _ _ c.args.rest.now c.requires _ _ c.if-copy-eq0.true
-
-pub returns-then-copy-r : goal.returns-then-copy-r
-returns-then-copy-r c =
-    copy_past _ _ _ c.args.rest.now c.requires _ _ c.if-copy-r.true
+returns-then-copy-eq0 c =
+    elim c.then-copy-eq0.branch [
+      | then-copy-eq0-via-then-copy-eq0 w ↦ copy_none _ _ _ c.args.rest.now c.requires _ _ w.if-copy-eq0.true
+      | then-copy-eq0-via-else-copy-eq0+then-copy-r w ↦ copy_past _ _ _ c.args.rest.now c.requires _ _ w.if-copy-r.true
+    ]
 
 pub overflow_mul-before : goal.overflow_mul-before
 overflow_mul-before c =

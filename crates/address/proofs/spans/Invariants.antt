@@ -2,11 +2,8 @@
 use Rattle.law_addresses.specs.Positions.{span_at}
 use Rattle.base.specs.Run.{sums}
 use mathlib.Core.Path.{◌≡◌}
-use Prim.Native.Nat.{◌≤◌, ◌-◌}
+use Prim.Native.Nat.{◌≤◌}
 use Rattle.address.proofs.spans.Given as goal
 
 abbrev pub invariant-loop-i : goal.invariant-loop-i
 invariant-loop-i l = (l.i ≤ l.n) × (l.so_far ≡ sums (span_at l.e) l.p l.i)
-
-abbrev pub decreases-loop-i : goal.decreases-loop-i
-decreases-loop-i l = l.n - l.i

@@ -1,11 +1,9 @@
 -- `address::stand_of` meets its contract: the entry found holds the item, and its role says how its chain goes on.
-use Rattle.sheet.specs.Records.{entry_of, role_of}
-use Rattle.sheet.specs.declared.Role.{Role}
 use Rattle.sheet.proofs.Sound.{rooms}
 use Rattle.descend.proofs.Searched.{searched}
 use Rattle.address.proofs.Stands.{begins, spans_to, draws_is, uses_is, uses_known, repeats_not, defines_not, unknown_not}
 use native.Mathlib.Omega.{arith}
-use mathlib.Core.Path.{◌≡◌, sym, ◌∙◌}
+use mathlib.Core.Path.{sym, ◌∙◌}
 use Rattle.address.proofs.stand_of.Goals as goal
 
 pub find-q-requires : goal.find-q-requires
@@ -23,9 +21,7 @@ overflow_add-p c =
 
 pub block_at-requires : goal.block_at-requires
 block_at-requires c =
-    let as_role : (role : Role) → c.role_of.result ≡ role → role_of (entry_of c.args.e.now c.find-q.result).kind ≡ role =
-    λ role q. sym (rw c.entry_at-r.ensures at c.role_of.ensures) ∙ q in
-    rw (c.index.ensures, c.entry_at-r.ensures) (uses_known _ _ _ _ _ c.requires.0 c.requires.1 c.find-q.ensures (as_role _ c.in-Uses.is))
+    rw (c.index.ensures, c.entry_at-r.ensures) (uses_known _ _ _ _ _ c.requires.0 c.requires.1 c.find-q.ensures (sym (rw c.entry_at-r.ensures at c.role_of.ensures) ∙ c.in-Uses.is))
 
 pub overflow_sub-result : goal.overflow_sub-result
 overflow_sub-result c =
@@ -33,31 +29,21 @@ overflow_sub-result c =
 
 pub returns-in-Uses : goal.returns-in-Uses
 returns-in-Uses c =
-    let as_role : (role : Role) → c.role_of.result ≡ role → role_of (entry_of c.args.e.now c.find-q.result).kind ≡ role =
-    λ role q. sym (rw c.entry_at-r.ensures at c.role_of.ensures) ∙ q in
     rw (c.block_at.ensures, c.index.ensures, c.spans-p.ensures, c.entry_at-r.ensures)
-    (uses_is _ _ _ _ _ c.requires.0 c.requires.1 c.find-q.ensures (as_role _ c.in-Uses.is))
+    (uses_is _ _ _ _ _ c.requires.0 c.requires.1 c.find-q.ensures (sym (rw c.entry_at-r.ensures at c.role_of.ensures) ∙ c.in-Uses.is))
 
 pub returns-in-Draws : goal.returns-in-Draws
 returns-in-Draws c =
-    let as_role : (role : Role) → c.role_of.result ≡ role → role_of (entry_of c.args.e.now c.find-q.result).kind ≡ role =
-    λ role q. sym (rw c.entry_at-r.ensures at c.role_of.ensures) ∙ q in
-    rw c.spans-p.ensures (draws_is _ _ _ _ _ c.requires.0 c.requires.1 c.find-q.ensures (as_role _ c.in-Draws.is))
+    rw c.spans-p.ensures (draws_is _ _ _ _ _ c.requires.0 c.requires.1 c.find-q.ensures (sym (rw c.entry_at-r.ensures at c.role_of.ensures) ∙ c.in-Draws.is))
 
 pub returns-in-Repeats : goal.returns-in-Repeats
 returns-in-Repeats c =
-    let as_role : (role : Role) → c.role_of.result ≡ role → role_of (entry_of c.args.e.now c.find-q.result).kind ≡ role =
-    λ role q. sym (rw c.entry_at-r.ensures at c.role_of.ensures) ∙ q in
-    absurd (repeats_not _ _ _ _ _ c.requires.0 c.requires.1 c.find-q.ensures (as_role _ c.in-Repeats.is))
+    absurd (repeats_not _ _ _ _ _ c.requires.0 c.requires.1 c.find-q.ensures (sym (rw c.entry_at-r.ensures at c.role_of.ensures) ∙ c.in-Repeats.is))
 
 pub returns-in-Defines : goal.returns-in-Defines
 returns-in-Defines c =
-    let as_role : (role : Role) → c.role_of.result ≡ role → role_of (entry_of c.args.e.now c.find-q.result).kind ≡ role =
-    λ role q. sym (rw c.entry_at-r.ensures at c.role_of.ensures) ∙ q in
-    absurd (defines_not _ _ _ _ _ c.requires.0 c.requires.1 c.find-q.ensures (as_role _ c.in-Defines.is))
+    absurd (defines_not _ _ _ _ _ c.requires.0 c.requires.1 c.find-q.ensures (sym (rw c.entry_at-r.ensures at c.role_of.ensures) ∙ c.in-Defines.is))
 
 pub returns-in-Unknown : goal.returns-in-Unknown
 returns-in-Unknown c =
-    let as_role : (role : Role) → c.role_of.result ≡ role → role_of (entry_of c.args.e.now c.find-q.result).kind ≡ role =
-    λ role q. sym (rw c.entry_at-r.ensures at c.role_of.ensures) ∙ q in
-    absurd (unknown_not _ _ _ _ _ c.requires.0 c.requires.1 c.find-q.ensures (as_role _ c.in-Unknown.is))
+    absurd (unknown_not _ _ _ _ _ c.requires.0 c.requires.1 c.find-q.ensures (sym (rw c.entry_at-r.ensures at c.role_of.ensures) ∙ c.in-Unknown.is))

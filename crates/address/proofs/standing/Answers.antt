@@ -9,12 +9,6 @@ use Rattle.address.proofs.standing.Goals as goal
 pub loop-i-init : goal.loop-i-init
 loop-i-init c = (omega arith, no_sum _ _)
 
-pub overflow_add-p : goal.overflow_add-p
-overflow_add-p c = omega arith
-
-pub entry_at-r-requires : goal.entry_at-r-requires
-entry_at-r-requires c = omega arith
-
 pub overflow_add-so_far : goal.overflow_add-so_far
 overflow_add-so_far c =
     let added : let l = c.loop-i in let A = c.args in
@@ -22,12 +16,6 @@ overflow_add-so_far c =
     next_sum _ _ _ _ _ c.loop-i.invariant.1 (rw (c.stands_as-so_far.ensures, c.role_of.ensures, c.entry_at-r.ensures)) in
     let l = c.loop-i in let A = c.args in
     omega (arith, added, standing_few A.e.now A.p (l.i + 1))
-
-pub overflow_add-i : goal.overflow_add-i
-overflow_add-i c = omega arith
-
-pub loop-i-smaller : goal.loop-i-smaller
-loop-i-smaller c = omega arith
 
 pub loop-i-preserved : goal.loop-i-preserved
 loop-i-preserved c =

@@ -1,8 +1,6 @@
 -- `address::start_of` meets its contract: the entry found holds the item, and its role says how its address begins.
 use Rattle.base.specs.Run.{sums}
-use Rattle.sheet.specs.Records.{entry_of, role_of}
 use Rattle.sheet.specs.Containers.{top_of}
-use Rattle.sheet.specs.declared.Role.{Role}
 use Rattle.sheet.proofs.Sound.{rooms, top_sound}
 use Rattle.descend.specs.Search.{Found}
 use Rattle.descend.proofs.Searched.{searched}
@@ -44,9 +42,7 @@ pub block_at-requires : goal.block_at-requires
 block_at-requires c =
     let found : let A = c.args in Found A.e.now (top_of A.head.now) A.n c.find-q.result =
     rw c.top_of-top.ensures at c.find-q.ensures in
-    let as_role : (role : Role) → c.role_of.result ≡ role → role_of (entry_of c.args.e.now c.find-q.result).kind ≡ role =
-    λ role q. sym (rw c.entry_at-r.ensures at c.role_of.ensures) ∙ q in
-    rw (c.index.ensures, c.entry_at-r.ensures) (known _ _ _ _ _ c.requires found (as_role _ c.in-Uses.is))
+    rw (c.index.ensures, c.entry_at-r.ensures) (known _ _ _ _ _ c.requires found (sym (rw c.entry_at-r.ensures at c.role_of.ensures) ∙ c.in-Uses.is))
 
 pub overflow_sub-result : goal.overflow_sub-result
 overflow_sub-result c =
@@ -64,9 +60,7 @@ pub copy_in-requires : goal.copy_in-requires
 copy_in-requires c =
     let found : let A = c.args in Found A.e.now (top_of A.head.now) A.n c.find-q.result =
     rw c.top_of-top.ensures at c.find-q.ensures in
-    let as_role : (role : Role) → c.role_of.result ≡ role → role_of (entry_of c.args.e.now c.find-q.result).kind ≡ role =
-    λ role q. sym (rw c.entry_at-r.ensures at c.role_of.ensures) ∙ q in
-    rw c.entry_at-r.ensures (copies _ _ _ _ _ c.requires found (as_role _ c.in-Repeats.is))
+    rw c.entry_at-r.ensures (copies _ _ _ _ _ c.requires found (sym (rw c.entry_at-r.ensures at c.role_of.ensures) ∙ c.in-Repeats.is))
 
 pub overflow_add-result-in-Draws : goal.overflow_add-result-in-Draws
 overflow_add-result-in-Draws c =
@@ -102,10 +96,8 @@ returns-in-Uses c =
     let counted : let A = c.args in
     c.spans-b.result ≡ sums (span_at A.e.now) (top_of A.head.now).first (c.find-q.result - (top_of A.head.now).first) =
     rw c.top_of-top.ensures at c.spans-b.ensures in
-    let as_role : (role : Role) → c.role_of.result ≡ role → role_of (entry_of c.args.e.now c.find-q.result).kind ≡ role =
-    λ role q. sym (rw c.entry_at-r.ensures at c.role_of.ensures) ∙ q in
     rw (c.block_at.ensures, c.index.ensures, counted, c.entry_at-r.ensures)
-    (flash _ _ _ _ _ c.requires found (as_role _ c.in-Uses.is))
+    (flash _ _ _ _ _ c.requires found (sym (rw c.entry_at-r.ensures at c.role_of.ensures) ∙ c.in-Uses.is))
 
 pub returns-in-Repeats : goal.returns-in-Repeats
 returns-in-Repeats c =
@@ -114,10 +106,8 @@ returns-in-Repeats c =
     let counted : let A = c.args in
     c.spans-b.result ≡ sums (span_at A.e.now) (top_of A.head.now).first (c.find-q.result - (top_of A.head.now).first) =
     rw c.top_of-top.ensures at c.spans-b.ensures in
-    let as_role : (role : Role) → c.role_of.result ≡ role → role_of (entry_of c.args.e.now c.find-q.result).kind ≡ role =
-    λ role q. sym (rw c.entry_at-r.ensures at c.role_of.ensures) ∙ q in
     rw (c.copy_in.ensures, counted, c.entry_at-r.ensures)
-    (copy _ _ _ _ _ c.requires found (as_role _ c.in-Repeats.is))
+    (copy _ _ _ _ _ c.requires found (sym (rw c.entry_at-r.ensures at c.role_of.ensures) ∙ c.in-Repeats.is))
 
 pub returns-in-Draws : goal.returns-in-Draws
 returns-in-Draws c =
@@ -126,22 +116,16 @@ returns-in-Draws c =
     let counted : let A = c.args in
     c.spans-b.result ≡ sums (span_at A.e.now) (top_of A.head.now).first (c.find-q.result - (top_of A.head.now).first) =
     rw c.top_of-top.ensures at c.spans-b.ensures in
-    let as_role : (role : Role) → c.role_of.result ≡ role → role_of (entry_of c.args.e.now c.find-q.result).kind ≡ role =
-    λ role q. sym (rw c.entry_at-r.ensures at c.role_of.ensures) ∙ q in
-    rw counted (alone _ _ _ _ _ c.requires found (as_role _ c.in-Draws.is))
+    rw counted (alone _ _ _ _ _ c.requires found (sym (rw c.entry_at-r.ensures at c.role_of.ensures) ∙ c.in-Draws.is))
 
 pub returns-in-Defines : goal.returns-in-Defines
 returns-in-Defines c =
     let found : let A = c.args in Found A.e.now (top_of A.head.now) A.n c.find-q.result =
     rw c.top_of-top.ensures at c.find-q.ensures in
-    let as_role : (role : Role) → c.role_of.result ≡ role → role_of (entry_of c.args.e.now c.find-q.result).kind ≡ role =
-    λ role q. sym (rw c.entry_at-r.ensures at c.role_of.ensures) ∙ q in
-    absurd (defines_not _ _ _ _ _ c.requires found (as_role _ c.in-Defines.is))
+    absurd (defines_not _ _ _ _ _ c.requires found (sym (rw c.entry_at-r.ensures at c.role_of.ensures) ∙ c.in-Defines.is))
 
 pub returns-in-Unknown : goal.returns-in-Unknown
 returns-in-Unknown c =
     let found : let A = c.args in Found A.e.now (top_of A.head.now) A.n c.find-q.result =
     rw c.top_of-top.ensures at c.find-q.ensures in
-    let as_role : (role : Role) → c.role_of.result ≡ role → role_of (entry_of c.args.e.now c.find-q.result).kind ≡ role =
-    λ role q. sym (rw c.entry_at-r.ensures at c.role_of.ensures) ∙ q in
-    absurd (unknown_not _ _ _ _ _ c.requires found (as_role _ c.in-Unknown.is))
+    absurd (unknown_not _ _ _ _ _ c.requires found (sym (rw c.entry_at-r.ensures at c.role_of.ensures) ∙ c.in-Unknown.is))

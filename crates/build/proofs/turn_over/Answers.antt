@@ -40,12 +40,6 @@ pub put_entry-requires-in-loop-i : goal.put_entry-requires-in-loop-i
 put_entry-requires-in-loop-i c =
     let v = c.loop-i.invariant in omega (arith, v.1.as_long, v.2, v.3, c.put_entry.auto.e)
 
-pub overflow_add-i : goal.overflow_add-i
-overflow_add-i c = let v = c.loop-i.invariant in omega (arith, v.1.as_long, v.2, v.3)
-
-pub loop-i-smaller : goal.loop-i-smaller
-loop-i-smaller c = let v = c.loop-i.invariant in omega (arith, v.1.as_long, v.2, v.3)
-
 pub loop-i-preserved : goal.loop-i-preserved
 loop-i-preserved c =
     let v = c.loop-i.invariant in

@@ -1,17 +1,13 @@
 -- `decimal::above_zero` meets its contract: at least 0, and not 0.
 use mathlib.Core.Path.{ap, ◌∙◌}
 use native.Mathlib.Omega.{arith}
-use lib.IntN.{nat_abs}
-use lib.Dec.{leb}
-use mir.Syntax.{w64}
-use mir.Facts.{to_z-of_z}
-use Rattle.base.specs.And.{◌and◌}
+use lib.IntN.{pos}
+use lib.Signed.{lt_z}
+use Rattle.ints.proofs.Bounded.{in_bits}
+use Rattle.ints.proofs.Order.{over_zero}
 use Rattle.decimal.specs.Amounts.{above_zero}
 use Rattle.decimal.proofs.above_zero.Goals as goal
 
 pub returns : goal.returns
 unfolding above_zero
-returns c =
-    let z = to_z-of_z {w = w64} {z = c.args.a.millionths} (record { sfits = omega arith }) in
-    let size = c.size.ensures ∙ ap nat_abs z in
-    c.both.ensures ∙ (λ i. (c.at_least_zero.ensures i) and leb 1 (size i))
+returns c = ap (lt_z (pos 0)) (in_bits c.args.a.millionths (omega arith)) ∙ over_zero c.args.a.millionths

@@ -1,10 +1,11 @@
--- `decimal::carry` meets its contract: the seventh byte picks the case.
-use native.Mathlib.Omega.{arith}
-use Rattle.decimal.proofs.Ways.{carry_up, carry_none}
+-- `decimal::carry` meets its contract: a test that holds counts for one.
+use mathlib.Core.Path.{ap, ◌∙◌}
+use lib.Dec.{leb}
+use mathlib.Core.Bool.{cond}
+use Rattle.decimal.proofs.Ways.{counted}
+use Rattle.decimal.specs.Kept.{carry_of}
 use Rattle.decimal.proofs.carry.Goals as goal
 
-pub returns-then-byte_at-ge53 : goal.returns-then-byte_at-ge53
-returns-then-byte_at-ge53 c = carry_up _ (omega (arith, c.byte_at.ensures))
-
 pub returns : goal.returns
-returns c = carry_none _ (omega (arith, c.byte_at.ensures))
+unfolding carry_of
+returns c = c.from.ensures ∙ counted _ ∙ ap (λ b. cond (leb 53 b) 1 0) c.byte_at.ensures

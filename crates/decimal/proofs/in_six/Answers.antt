@@ -20,9 +20,9 @@ value-requires-2 c = (c.requires.fraction_value.0, omega arith)
 
 pub overflow_mul-result-2 : goal.overflow_mul-result-2
 overflow_mul-result-2 c =
-    let fraction-below : c.value-2.result * c.power.result < 10 ^ 6 =
+    let fraction-below : c.value-2.result * c.pow.result < 10 ^ 6 =
     let p = c.requires in
-    rw (c.value-2.ensures, c.power.ensures) (fraction_bound c.args.whole.now c.args.fraction.now p.whole_value.0 p.whole_value.1 p.fraction_value.0 p.fraction_value.1) in
+    rw (c.value-2.ensures, c.pow.ensures) (fraction_bound c.args.whole.now c.args.fraction.now p.whole_value.0 p.whole_value.1 p.fraction_value.0 p.fraction_value.1) in
     omega (arith, fraction-below)
 
 pub overflow_add-result : goal.overflow_add-result
@@ -30,9 +30,9 @@ overflow_add-result c =
     let whole_below : c.value.result < 10 ^ 6 =
     let p = c.requires in
     rw c.value.ensures (whole_bound c.args.whole.now c.args.fraction.now p.whole_value.0 p.whole_value.1 p.fraction_value.0 p.fraction_value.1) in
-    let fraction-below : c.value-2.result * c.power.result < 10 ^ 6 =
+    let fraction-below : c.value-2.result * c.pow.result < 10 ^ 6 =
     let p = c.requires in
-    rw (c.value-2.ensures, c.power.ensures) (fraction_bound c.args.whole.now c.args.fraction.now p.whole_value.0 p.whole_value.1 p.fraction_value.0 p.fraction_value.1) in
+    rw (c.value-2.ensures, c.pow.ensures) (fraction_bound c.args.whole.now c.args.fraction.now p.whole_value.0 p.whole_value.1 p.fraction_value.0 p.fraction_value.1) in
     omega (arith, whole_below, fraction-below)
 
 pub returns : goal.returns

@@ -16,10 +16,10 @@ returns-in_default c = rw (← c.search_number-found.ensures, c.in_default.is)
 pub aperture_at-r-requires : goal.aperture_at-r-requires
 aperture_at-r-requires c =
     let a = c.args in
-    let l = at_below a.a.now a.used a.n c.in-At.i (sym c.search_number-found.ensures ∙ c.in-At.is) in
+    let l = at_below a.a.now a.used a.n c.in-Ok.i (sym c.search_number-found.ensures ∙ c.in-Ok.is) in
     omega (arith, l, c.requires.tree.inside)
 
 pub returns : goal.returns
 unfolding chosen_by as_stored selected
 returns c =
-    rw (← c.search_number-found.ensures, c.in-At.is, ← c.aperture_at-r.ensures, ← c.both.ensures, ← c.both-2.ensures)
+    rw (← c.search_number-found.ensures, c.in-Ok.is, ← c.aperture_at-r.ensures, ← c.both.ensures, ← c.both-2.ensures)

@@ -40,4 +40,4 @@ pub returns : goal.returns
 returns c =
     let l = c.loop-at in
     let a = c.args in
-    standard_end a.t.now l.at l.at _ _ _ _ l.q l.invariant c.loop-at-test.false a.kind a.used refl _ c.keeps_rule.ensures _ c.row-fault.ensures _ c.answered.ensures
+    standard_end a.t.now l.at l.at _ _ _ _ l.q l.invariant c.loop-at-test.false a.kind a.used refl _ c.keeps_rule.ensures _ c.verdict-verdict.ensures _ c.answered.ensures

@@ -20,11 +20,11 @@ returns-in_default c =
 pub macro_at-r-requires : goal.macro_at-r-requires
 macro_at-r-requires c =
     let a = c.args in
-    let l = macro_below a.file.now a.m.now a.known _ _ (sym c.search_name-found.ensures ∙ c.in-At.is) in
+    let l = macro_below a.file.now a.m.now a.known _ _ (sym c.search_name-found.ensures ∙ c.in-Ok.is) in
     omega (arith, l, c.requires.1.tree.inside)
 
 pub returns : goal.returns
 returns c =
     let a = c.args in
     works_macro a.file.now a.m.now a.known _ a.t.now _ _ a.used _ a.kind c.requires.0 c.if-kind-le4.false _
-    (sym c.search_name-found.ensures ∙ c.in-At.is) _ c.macro_at-r.ensures (rw c.part.ensures at c.work_out.ensures)
+    (sym c.search_name-found.ensures ∙ c.in-Ok.is) _ c.macro_at-r.ensures (rw c.part.ensures at c.work_out.ensures)

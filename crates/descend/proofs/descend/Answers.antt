@@ -3,8 +3,9 @@ use Rattle.descend.proofs.Located.{Located, located, fine, use_is, splits, repea
 use Rattle.descend.proofs.Searched.{searched}
 use Rattle.sheet.proofs.Sound.{rooms}
 use Rattle.sheet.proofs.Conditions.{entry_use}
-use Rattle.sheet.specs.declared.Role.{Role}
 use Rattle.sheet.specs.Records.{role_of}
+use Rattle.sheet.specs.declared.Role.TheVariants.{Draws}
+use mathlib.Core.Logic.{inl, inr}
 use native.Mathlib.Omega.{arith}
 use mathlib.Core.Path.{◌≡◌, sym, ◌∙◌}
 use Rattle.descend.proofs.descend.Goals as goal
@@ -27,10 +28,8 @@ block_at-requires c =
     let found : let A = c.args in
     Located c.requires.head A.e.now A.a.now A.k A.n c.whole_entry-r.result =
     rw c.whole_entry-r.ensures (located _ _ _ _ _ c.requires c.find.ensures) in
-    let as_role : (role : Role) → c.role_of.result ≡ role → role_of c.whole_entry-r.result.kind ≡ role =
-    λ role q. sym c.role_of.ensures ∙ q in
     let h = c.requires in
-    let u = entry_use _ _ _ _ (fine _ _ _ h.ok _ h.sound _ _ found) (as_role _ c.in-Uses.is) in
+    let u = entry_use _ _ _ _ (fine _ _ _ h.ok _ h.sound _ _ found) (sym c.role_of.ensures ∙ c.in-Uses.is) in
     omega (arith, c.index.ensures, u.who_in, (rooms _ _ _ h.ok).1)
 
 pub copy_of-requires : goal.copy_of-requires
@@ -38,57 +37,39 @@ copy_of-requires c =
     let found : let A = c.args in
     Located c.requires.head A.e.now A.a.now A.k A.n c.whole_entry-r.result =
     rw c.whole_entry-r.ensures (located _ _ _ _ _ c.requires c.find.ensures) in
-    let as_role : (role : Role) → c.role_of.result ≡ role → role_of c.whole_entry-r.result.kind ≡ role =
-    λ role q. sym c.role_of.ensures ∙ q in
-    let h = c.requires in splits _ _ _ h.ok _ h.sound _ _ found (as_role _ c.in-Repeats.is)
+    let h = c.requires in splits _ _ _ h.ok _ h.sound _ _ found (sym c.role_of.ensures ∙ c.in-Repeats.is)
 
 pub returns-in-Uses : goal.returns-in-Uses
 returns-in-Uses c =
     let found : let A = c.args in
     Located c.requires.head A.e.now A.a.now A.k A.n c.whole_entry-r.result =
     rw c.whole_entry-r.ensures (located _ _ _ _ _ c.requires c.find.ensures) in
-    let as_role : (role : Role) → c.role_of.result ≡ role → role_of c.whole_entry-r.result.kind ≡ role =
-    λ role q. sym c.role_of.ensures ∙ q in
     let h = c.requires in
     rw (c.pose_of.ensures, c.block_at.ensures, c.index.ensures)
-    (use_is _ _ _ h.ok _ h.sound _ _ found (as_role _ c.in-Uses.is))
+    (use_is _ _ _ h.ok _ h.sound _ _ found (sym c.role_of.ensures ∙ c.in-Uses.is))
 
 pub returns-in-Repeats : goal.returns-in-Repeats
 returns-in-Repeats c =
     let found : let A = c.args in
     Located c.requires.head A.e.now A.a.now A.k A.n c.whole_entry-r.result =
     rw c.whole_entry-r.ensures (located _ _ _ _ _ c.requires c.find.ensures) in
-    let as_role : (role : Role) → c.role_of.result ≡ role → role_of c.whole_entry-r.result.kind ≡ role =
-    λ role q. sym c.role_of.ensures ∙ q in
     let h = c.requires in
     rw c.copy_of.ensures
-    (repeat_is _ _ _ h.ok _ h.sound _ _ found (as_role _ c.in-Repeats.is))
+    (repeat_is _ _ _ h.ok _ h.sound _ _ found (sym c.role_of.ensures ∙ c.in-Repeats.is))
 
 pub returns-in-Draws : goal.returns-in-Draws
 returns-in-Draws c =
     let found : let A = c.args in
     Located c.requires.head A.e.now A.a.now A.k A.n c.whole_entry-r.result =
     rw c.whole_entry-r.ensures (located _ _ _ _ _ c.requires c.find.ensures) in
-    let as_role : (role : Role) → c.role_of.result ≡ role → role_of c.whole_entry-r.result.kind ≡ role =
-    λ role q. sym c.role_of.ensures ∙ q in
     let h = c.requires in
+    let drawn : role_of c.whole_entry-r.result.kind ≡ Draws =
+    elim c.in-Draws.is [
+      | inl q ↦ sym c.role_of.ensures ∙ q
+      | inr s ↦ elim s [
+        | inl q ↦ absurd (not_defines _ _ _ h.ok _ h.sound _ _ found (sym c.role_of.ensures ∙ q))
+        | inr q ↦ absurd (not_unknown _ _ _ h.ok _ h.sound _ _ found (sym c.role_of.ensures ∙ q))
+      ]
+    ] in
     rw c.draw.ensures
-    (here_is _ _ _ h.ok _ h.sound _ _ found (as_role _ c.in-Draws.is))
-
-pub returns-in-Defines : goal.returns-in-Defines
-returns-in-Defines c =
-    let found : let A = c.args in
-    Located c.requires.head A.e.now A.a.now A.k A.n c.whole_entry-r.result =
-    rw c.whole_entry-r.ensures (located _ _ _ _ _ c.requires c.find.ensures) in
-    let as_role : (role : Role) → c.role_of.result ≡ role → role_of c.whole_entry-r.result.kind ≡ role =
-    λ role q. sym c.role_of.ensures ∙ q in
-    let h = c.requires in absurd (not_defines _ _ _ h.ok _ h.sound _ _ found (as_role _ c.in-Defines.is))
-
-pub returns-in-Unknown : goal.returns-in-Unknown
-returns-in-Unknown c =
-    let found : let A = c.args in
-    Located c.requires.head A.e.now A.a.now A.k A.n c.whole_entry-r.result =
-    rw c.whole_entry-r.ensures (located _ _ _ _ _ c.requires c.find.ensures) in
-    let as_role : (role : Role) → c.role_of.result ≡ role → role_of c.whole_entry-r.result.kind ≡ role =
-    λ role q. sym c.role_of.ensures ∙ q in
-    let h = c.requires in absurd (not_unknown _ _ _ h.ok _ h.sound _ _ found (as_role _ c.in-Unknown.is))
+    (here_is _ _ _ h.ok _ h.sound _ _ found drawn)

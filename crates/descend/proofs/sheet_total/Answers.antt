@@ -8,5 +8,5 @@ pub returns-then-is_sheet : goal.returns-then-is_sheet
 unfolding top_of
 returns-then-is_sheet c = total_is _ _ _ (sym c.is_sheet.ensures ∙ c.if-is_sheet.true)
 
-pub returns : goal.returns
-returns c = total_not _ _ _ (sym c.is_sheet.ensures ∙ c.if-is_sheet.false)
+pub returns-else-is_sheet : goal.returns-else-is_sheet
+returns-else-is_sheet c = total_not _ _ _ (sym c.is_sheet.ensures ∙ c.if-is_sheet.false)

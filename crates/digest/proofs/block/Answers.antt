@@ -5,4 +5,4 @@ use Rattle.digest.proofs.block.Goals as goal
 
 pub returns : goal.returns
 unfolding block table
-returns c = rw (c.add.ensures, c.rounds-v.ensures, c.words_of.ensures)
+returns c = rw (c.add.ensures, c.rounds.ensures, c.words_of.ensures)

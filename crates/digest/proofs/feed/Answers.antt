@@ -1,11 +1,8 @@
 -- `digest::feed` meets its contract: a short run goes byte by byte, a longer one in three parts (`fed_parts`).
-use Rattle.std.proofs.Common.{◌≡◌, ◌-◌, ◌%◌, ◌^◌, ◌<◌, ◌≤◌, length, drop, arith, length-drop, length-take, take_all, rules}
+use Rattle.std.proofs.Common.{◌≡◌, ◌-◌, ◌%◌, ◌^◌, ◌<◌, ◌≤◌, length, drop, arith, length-drop, take_all, rules}
 use Rattle.digest.specs.Runs.{empty}
 use Rattle.digest.proofs.Runs.{fed_parts}
 use Rattle.digest.proofs.feed.Goals as goal
-
-pub slice_bounds-feed_bytes-end : goal.slice_bounds-feed_bytes-end
-slice_bounds-feed_bytes-end c = simp length-take (omega arith)
 
 pub returns : goal.returns
 unfolding empty
@@ -21,8 +18,7 @@ returns c =
     let short : length (drop end t) ≤ length t - end = simp length-drop (omega arith) in
     rw (
       c.feed_bytes-2.ensures,
-      c.feed_blocks-words.ensures,
-      c.wrapping_add_u64.ensures.value,
+      c.feed_blocks.ensures,
       c.feed_bytes-a.ensures,
       take_all (length t - end) (drop end t) short,
     )

@@ -1,22 +1,11 @@
-use Rattle.std.proofs.Common.{◌≡◌, ◌+◌, ◌-◌, sym, ◌∙◌, arith, length-drop, length-take}
-use native.Mathlib.Nat.{sub-zero}
+use Rattle.std.proofs.Common.{◌∙◌, arith}
 use Rattle.digest.proofs.Runs.{blocks_next, blocks_none}
 use Rattle.digest.proofs.feed_blocks.Goals as goal
 
-pub loop-at-init : goal.loop-at-init
-loop-at-init c = (omega arith, rw sub-zero)
-
-pub block-v-requires : goal.block-v-requires
-block-v-requires c = simp (length-take, length-drop) (omega arith)
-
-pub loop-at-preserved : goal.loop-at-preserved
-loop-at-preserved c =
-    let l = c.loop-at in
-    let t = c.args.t.now in
-    let size : l.at + 64 - l.at ≡ 64 = omega arith in
-    (omega arith, rw (c.block-v.ensures, size) (sym (blocks_next t l.at l.v (omega arith)) ∙ l.invariant.1))
+pub loop-x-preserved : goal.loop-x-preserved
+loop-x-preserved c =
+    let parts = c.in-Some.ensures.cases in
+    rw c.block-v.ensures (blocks_next c.loop-x.left.now c.loop-x.v (omega arith) parts.0 parts.1 ∙ c.loop-x.invariant)
 
 pub returns : goal.returns
-returns c =
-    let l = c.loop-at in
-    sym (blocks_none c.args.t.now l.at l.v (omega arith)) ∙ l.invariant.1
+returns c = blocks_none c.loop-x.left.now c.loop-x.v c.in_default.ensures.cases ∙ c.loop-x.invariant

@@ -1,22 +1,14 @@
-use Rattle.std.proofs.Common.{◌-◌, sym, ◌∙◌, arith}
-use Rattle.text.proofs.First.{first_end}
-use Rattle.digits.proofs.Past.{past_digit, past_other}
+-- `digits::past_digits` meets its contract: the place in the rest that `position` finds, counted from the start.
+use mathlib.Core.Bool.{not}
+use Rattle.std.proofs.Common.{ℕ, rules}
+use Rattle.std.proofs.lemmas.Iterator.{YieldsList-from_slice}
+use Rattle.std.proofs.lemmas.Iterator.Search.{position_from_yields_List}
+use Rattle.text.proofs.First.{first_found}
+use Rattle.digits.specs.Digits.{is_digit}
 use Rattle.digits.proofs.past_digits.Goals as goal
 
-pub bounds-s-at : goal.bounds-s-at
-bounds-s-at c = omega arith
-
-pub overflow_add-at : goal.overflow_add-at
-overflow_add-at c = omega arith
-
-pub loop-at-smaller : goal.loop-at-smaller
-loop-at-smaller c = omega arith
-
-pub loop-at-preserved : goal.loop-at-preserved
-loop-at-preserved c = sym (past_digit _ _ c.loop-at-test.true (sym c.is_digit.ensures ∙ c.if-is_digit.true)) ∙ c.loop-at.invariant
-
-pub returns-else-is_digit : goal.returns-else-is_digit
-returns-else-is_digit c = sym (past_other _ _ c.loop-at-test.true (sym c.is_digit.ensures ∙ c.if-is_digit.false)) ∙ c.loop-at.invariant
-
 pub returns : goal.returns
-returns c = sym (first_end _ _ _ c.loop-at-test.false) ∙ c.loop-at.invariant
+returns c =
+    let test = λ (x : ℕ). not (is_digit x) in
+    let found = position_from_yields_List test _ _ _ c.position.ensures.ran (YieldsList-from_slice c.from_on-rest.result.now cc) (λ x b q k. search rules) in
+    first_found test c.args.s.now c.args.from c.from_on-rest.ensures found c.unwrap_or.ensures

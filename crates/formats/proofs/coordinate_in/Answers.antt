@@ -1,9 +1,11 @@
 -- `formats::coordinate_in` meets its contract: what was read by its digits is the coordinate where the format is plain, and raised where it is not.
 -- Assumes nothing.
 use Prim.Native.Nat.{ℕ}
-use mathlib.Core.Path.{sym, ap, ◌∙◌}
+use mathlib.Core.Path.{ap, ◌∙◌}
 use mathlib.Core.List.{List}
 use lib.ListN.{length}
+use borrow.Author.Tests.{eq-eqb}
+use Rattle.base.proofs.And.{ands}
 use Rattle.formats.specs.Raised.{zeros_behind}
 use Rattle.formats.proofs.Raised.{few, places_twelve}
 use Rattle.formats.proofs.Taken.{taken_plain, taken_twelve, taken_fits, taken_raised}
@@ -15,9 +17,9 @@ places-requires c = rw c.in_force-g.ensures (few _)
 pub coordinate_at-taken-requires : goal.coordinate_at-taken-requires
 coordinate_at-taken-requires c = (c.requires, rw (c.places.ensures, c.in_force-g.ensures) (places_twelve (few _)))
 
-pub returns-then-both : goal.returns-then-both
-returns-then-both c =
-    taken_plain _ _ _ _ _ _ c.in_force-g.ensures c.places.ensures c.coordinate_at-taken.ensures (sym c.both.ensures ∙ c.if-both.true)
+pub returns-then-g-eq6 : goal.returns-then-g-eq6
+returns-then-g-eq6 c =
+    taken_plain _ _ _ _ _ _ c.in_force-g.ensures c.places.ensures c.coordinate_at-taken.ensures (simp (c.if-not-g.true, eq-eqb _ 6 c.if-g-eq6.true, ands))
 
 pub zeros_behind-zeros-requires : goal.zeros_behind-zeros-requires
 zeros_behind-zeros-requires c =

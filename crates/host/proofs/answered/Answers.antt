@@ -3,8 +3,8 @@
 use Rattle.host.proofs.Apart.{told_accepted, told_refused}
 use Rattle.host.proofs.answered.Goals as goal
 
-pub returns-in-Accepted : goal.returns-in-Accepted
-returns-in-Accepted c = told_accepted _ _ _ c.in-Accepted.is
+pub returns-in-Ok : goal.returns-in-Ok
+returns-in-Ok c = told_accepted _ _ _ c.in-Ok.is
 
-pub returns-in-Refused : goal.returns-in-Refused
-returns-in-Refused c = told_refused _ _ _ c.in-Refused.is
+pub returns-in-Err : goal.returns-in-Err
+returns-in-Err c = told_refused _ _ _ c.in-Err.is

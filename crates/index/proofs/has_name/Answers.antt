@@ -2,6 +2,7 @@
 use mathlib.Core.Path.{◌∙◌}
 use lib.Seq.{slice}
 use Rattle.base.specs.Bytes.{same_bytes}
+use Rattle.base.proofs.Lists.{same_pointwise}
 use Rattle.index.specs.Names.{name_of}
 use Rattle.index.proofs.has_name.Goals as goal
 
@@ -10,4 +11,4 @@ unfolding name_of
 returns c =
     let f = c.args.file.now in
     let n = c.part.ensures ∙ (λ i. slice (c.word_at-begins.ensures i) (c.word_at-ends.ensures i) f) in
-    c.rest_is.ensures ∙ (λ i. same_bytes (n i) (c.part-2.ensures i))
+    c.eq.ensures ∙ same_pointwise _ _ ∙ (λ i. same_bytes (n i) (c.part-2.ensures i))

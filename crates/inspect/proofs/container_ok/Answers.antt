@@ -2,22 +2,19 @@
 use Rattle.std.proofs.Common.{◌+◌, arith, le-leb}
 use Rattle.sheet.specs.Valid.{ok_container}
 use Rattle.base.proofs.And.{ands}
-use mathlib.Core.Bool.{false≢true}
 use borrow.Author.Tests.{lt-leb}
+use Rattle.inspect.proofs.container_ok.Goals.{then-k-used-via-then-k-used, then-k-used-via-else-k-used+then-k-used-2, then-k-used-via-else-k-used+else-k-used-2+then-k-gt-MOST}
 use Rattle.inspect.proofs.container_ok.Goals as goal
 
-pub returns-then-first-used : goal.returns-then-first-used
+pub returns-then-k-used : goal.returns-then-k-used
 unfolding ok_container
-returns-then-first-used c = let A = c.args in (simp (lt-leb (A.k.first + A.k.len) A.used (omega arith), ands), λ f. absurd (false≢true f))
-
-pub returns-then-len-used : goal.returns-then-len-used
-unfolding ok_container
-returns-then-len-used c = let A = c.args in (simp (lt-leb (A.k.first + A.k.len) A.used (omega arith), ands), λ f. absurd (false≢true f))
-
-pub returns-then-k-gt-MOST : goal.returns-then-k-gt-MOST
-unfolding ok_container
-returns-then-k-gt-MOST c =
-    let A = c.args in (simp (le-leb (A.k.first + A.k.len) A.used (omega arith), lt-leb A.k.items 1000000000000 c.if-k-gt-MOST.true, ands), λ f. absurd (false≢true f))
+returns-then-k-used c = let A = c.args in
+    elim c.then-k-used.branch [
+      | then-k-used-via-then-k-used w ↦ (simp (lt-leb (A.k.first + A.k.len) A.used (omega arith), ands), λ f. cc)
+      | then-k-used-via-else-k-used+then-k-used-2 w ↦ (simp (lt-leb (A.k.first + A.k.len) A.used (omega arith), ands), λ f. cc)
+      | then-k-used-via-else-k-used+else-k-used-2+then-k-gt-MOST w ↦
+          (simp (le-leb (A.k.first + A.k.len) A.used (omega arith), lt-leb A.k.items 1000000000000 w.if-k-gt-MOST.true, ands), λ f. cc)
+    ]
 
 pub returns : goal.returns
 unfolding ok_container

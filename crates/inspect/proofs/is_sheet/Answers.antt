@@ -7,15 +7,15 @@ use Rattle.inspect.proofs.is_sheet.Goals as goal
 
 pub containers_ok-requires : goal.containers_ok-requires
 containers_ok-requires c =
-    let r = head_rooms _ _ _ (sym c.head_ok.ensures ∙ c.if-head_ok.true) in
+    let r = head_rooms _ _ _ (sym c.head_ok.ensures ∙ c.if-not-head_ok.false) in
     (rw c.index-used.ensures r.0, rw c.index-n.ensures r.1)
 
-pub returns-then-head_ok : goal.returns-then-head_ok
+pub returns-then-not-head_ok : goal.returns-then-not-head_ok
 unfolding valid
-returns-then-head_ok c =
-    let h = sym c.head_ok.ensures ∙ c.if-head_ok.true in
-    simp (h, ands) cc
+returns-then-not-head_ok c = let h = sym c.head_ok.ensures ∙ c.if-not-head_ok.true in simp (h, ands)
 
 pub returns : goal.returns
 unfolding valid
-returns c = let h = sym c.head_ok.ensures ∙ c.if-head_ok.false in simp (h, ands)
+returns c =
+    let h = sym c.head_ok.ensures ∙ c.if-not-head_ok.false in
+    simp (h, ands) cc

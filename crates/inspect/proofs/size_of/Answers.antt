@@ -1,7 +1,5 @@
 -- `inspect::size_of` meets its contract: in each arm the role picks the case of `size_as`, and the condition of a repeat bounds its product.
-use Rattle.inspect.proofs.Tests.{size_as_lem}
 use Rattle.sheet.proofs.Conditions.{entry_use, entry_repeat}
-use Rattle.sheet.specs.Valid.{size_as}
 use Rattle.std.proofs.Common.{sym, ◌∙◌, arith}
 use Rattle.inspect.proofs.size_of.Goals as goal
 
@@ -20,23 +18,3 @@ overflow_mul-result-in-Repeats c =
     let A = c.args in
     let u = entry_repeat A.a.now A.n A.h A.r c.requires.1 (sym c.role_of.ensures ∙ c.in-Repeats.is) in
     omega (arith, u.whole)
-
-pub returns-in-Draws : goal.returns-in-Draws
-unfolding size_as
-returns-in-Draws c = size_as_lem _ _ (sym c.role_of.ensures ∙ c.in-Draws.is)
-
-pub returns-in-Uses : goal.returns-in-Uses
-unfolding size_as
-returns-in-Uses c = rw (c.block_at.ensures, c.index.ensures) (size_as_lem _ _ (sym c.role_of.ensures ∙ c.in-Uses.is))
-
-pub returns-in-Repeats : goal.returns-in-Repeats
-unfolding size_as
-returns-in-Repeats c = size_as_lem _ _ (sym c.role_of.ensures ∙ c.in-Repeats.is)
-
-pub returns-in-Defines : goal.returns-in-Defines
-unfolding size_as
-returns-in-Defines c = size_as_lem _ _ (sym c.role_of.ensures ∙ c.in-Defines.is)
-
-pub returns-in-Unknown : goal.returns-in-Unknown
-unfolding size_as
-returns-in-Unknown c = size_as_lem _ _ (sym c.role_of.ensures ∙ c.in-Unknown.is)

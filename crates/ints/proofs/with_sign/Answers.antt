@@ -2,17 +2,14 @@
 use mathlib.Core.Path.{ap, ◌∙◌}
 use lib.IntN.{pos, nat_abs}
 use Rattle.ints.specs.Ints.{signed}
-use Rattle.ints.proofs.Bounded.{neg_asks, neg_gives, pos_bits, abs_neg}
+use Rattle.ints.proofs.Bounded.{neg_gives, pos_bits, abs_neg}
 use Rattle.ints.proofs.with_sign.Goals as goal
-
-pub overflow_sub-result : goal.overflow_sub-result
-overflow_sub-result c = neg_asks (pos c.args.v) c.requires
 
 pub returns-then-minus : goal.returns-then-minus
 unfolding signed
 returns-then-minus c = let e = neg_gives (pos c.args.v) c.requires in
     (rw c.if-minus.true e, ap nat_abs e ∙ abs_neg (pos c.args.v))
 
-pub returns : goal.returns
+pub returns-else-minus : goal.returns-else-minus
 unfolding signed
-returns c = let e = pos_bits c.args.v c.requires in (rw c.if-minus.false e, ap nat_abs e)
+returns-else-minus c = let e = pos_bits c.args.v c.requires in (rw c.if-minus.false e, ap nat_abs e)

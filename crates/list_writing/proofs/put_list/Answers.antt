@@ -7,38 +7,25 @@ use Rattle.seeing.proofs.Sights.{few_items}
 use Rattle.list_writing.proofs.put_list.Goals as goal
 
 pub loop-k-init : goal.loop-k-init
-loop-k-init c = (omega arith, refl, λ w. list_start w)
+loop-k-init c = (refl, λ w. list_start w)
 
 pub see-s-requires : goal.see-s-requires
 see-s-requires c = (c.requires.layer, c.loop-k-test.true)
 
-pub overflow_add-k : goal.overflow_add-k
-overflow_add-k c = let f = few_items c.requires.layer in let t = c.loop-k-test.true in omega arith
-
-pub loop-k-smaller-then-d-eq0 : goal.loop-k-smaller-then-d-eq0
-loop-k-smaller-then-d-eq0 c = let t = c.loop-k-test.true in omega arith
-
 pub loop-k-preserved-then-d-eq0 : goal.loop-k-preserved-then-d-eq0
 loop-k-preserved-then-d-eq0 c =
-    let i = c.loop-k.invariant in let t = c.loop-k-test.true in (omega arith, i.1, λ w. entry_none w t (c.see-s.ensures w.layer) c.main_of-d.ensures c.if-d-eq0.true (i.2 w))
+    let i = c.loop-k.invariant in let t = c.loop-k-test.true in (i.0, λ w. entry_none w t (c.see-s.ensures w.layer) c.main_of-d.ensures c.if-d-eq0.true (i.1 w))
 
 pub put_entry-q-requires : goal.put_entry-q-requires
 put_entry-q-requires c =
     let w = c.requires in (w.layer, walking_pins w c.loop-k-test.true (c.see-s.ensures w.layer) c.main_of-d.ensures c.if-d-eq0.false)
 
-pub overflow_add-k-else-d-eq0 : goal.overflow_add-k-else-d-eq0
-overflow_add-k-else-d-eq0 c =
-    let f = few_items c.requires.layer in let t = c.loop-k-test.true in omega arith
-
-pub loop-k-smaller : goal.loop-k-smaller
-loop-k-smaller c = let t = c.loop-k-test.true in omega arith
-
 pub loop-k-preserved : goal.loop-k-preserved
 loop-k-preserved c =
-    let i = c.loop-k.invariant in let t = c.loop-k-test.true in (omega arith, c.put_entry-q.auto.out ∙ i.1, λ w. entry_more w t (c.see-s.ensures w.layer) c.main_of-d.ensures c.if-d-eq0.false (i.2 w) (c.put_entry-q.ensures w.layer w.of _ (walks_pins w t (c.see-s.ensures w.layer) c.main_of-d.ensures c.if-d-eq0.false)))
+    let i = c.loop-k.invariant in let t = c.loop-k-test.true in (c.put_entry-q.auto.out ∙ i.0, λ w. entry_more w t (c.see-s.ensures w.layer) c.main_of-d.ensures c.if-d-eq0.false (i.1 w) (c.put_entry-q.ensures w.layer w.of _ (walks_pins w t (c.see-s.ensures w.layer) c.main_of-d.ensures c.if-d-eq0.false)))
 
 pub shape_of-out : goal.shape_of-out
-shape_of-out c = c.loop-k.invariant.1
+shape_of-out c = c.loop-k.invariant.0
 
 pub returns : goal.returns
-returns c = λ w. list_end w c.loop-k.invariant.0 c.loop-k-test.false (c.loop-k.invariant.2 w)
+returns c = λ w. list_end w (omega arith) c.loop-k-test.false (c.loop-k.invariant.1 w)

@@ -1,7 +1,6 @@
 -- `list_writing::put_list` meets its contract: the loop's invariant is that the entries of the first k items are written.
 -- Assumes nothing.
 use lib.ListN.{length, take}
-use Prim.Native.Nat.{◌-◌, ◌≤◌}
 use mathlib.Core.Bool.{false}
 use mathlib.Core.Path.{◌≡◌}
 use Rattle.list_writing.specs.Ready.{Ready}
@@ -11,7 +10,4 @@ use Rattle.law_components.specs.Placements.{each, entry_for}
 use Rattle.list_writing.proofs.put_list.Given as goal
 
 abbrev pub invariant-loop-k : goal.invariant-loop-k
-invariant-loop-k l = (l.k ≤ l.top.items) × (length l.out ≡ length l.initial.out) × ((w : Ready l.file l.e l.a l.top l.notes l.operations l.roles l.roled l.names l.pins) → Wrote l.initial.out l.out (record { at = 0; full = false }) l.q (each (entry_for (parts w.layer)) (take l.k (parts w.layer))))
-
-abbrev pub decreases-loop-k : goal.decreases-loop-k
-decreases-loop-k l = l.top.items - l.k
+invariant-loop-k l = (length l.out ≡ length l.initial.out) × ((w : Ready l.w.file.now l.w.e.now l.w.a.now l.w.top l.w.notes.now l.w.operations l.w.roles.now l.w.roled l.w.names.now l.w.pins.now) → Wrote l.initial.out l.out (record { at = 0; full = false }) l.q (each (entry_for (parts w.layer)) (take l.k (parts w.layer))))

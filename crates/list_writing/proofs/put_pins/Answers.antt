@@ -27,15 +27,15 @@ overflow_add-j c = let s = step c.loop-link.invariant.0.walks c.loop-link-test.t
 
 pub see-s-requires : goal.see-s-requires
 see-s-requires c =
-    let s = step c.loop-link.invariant.0.walks c.loop-link-test.true in let h = s.below in let e = c.word_at-k.ensures ∙ ap (λ (j : ℕ). get_or c.args.pins.now (j * 2) 0) c.index-j.ensures in (c.requires.0, rw e h)
+    let s = step c.loop-link.invariant.0.walks c.loop-link-test.true in let h = s.below in let e = c.word_at-k.ensures ∙ ap (λ (j : ℕ). get_or c.args.w.pins.now (j * 2) 0) c.index-j.ensures in (c.requires.0, rw e h)
 
 pub loop-link-smaller : goal.loop-link-smaller
 loop-link-smaller c =
-    let s = step c.loop-link.invariant.0.walks c.loop-link-test.true in let h = s.less in let e = c.word_at-link.ensures ∙ ap (λ (j : ℕ). get_or c.args.pins.now (j * 2 + 1) 0) c.index-j.ensures in rw e h
+    let s = step c.loop-link.invariant.0.walks c.loop-link-test.true in let h = s.less in let e = c.word_at-link.ensures ∙ ap (λ (j : ℕ). get_or c.args.w.pins.now (j * 2 + 1) 0) c.index-j.ensures in rw e h
 
 pub loop-link-preserved : goal.loop-link-preserved
 loop-link-preserved c =
-    let i = c.loop-link.invariant in let t = c.loop-link-test.true in let n = c.word_at-link.ensures ∙ ap (λ (j : ℕ). get_or c.args.pins.now (j * 2 + 1) 0) c.index-j.ensures in (walking_on i.0 t n, c.put_pin-q.auto.out ∙ i.1, λ l of ks w. putting_on _ (i.2 l of ks w) t c.put_pin-q.ensures (pin_is l of (c.see-s.ensures l) ∙ ap (λ (k : ℕ). pin_record (at (parts l) k)) (c.word_at-k.ensures ∙ ap (λ (j : ℕ). get_or c.args.pins.now (j * 2) 0) c.index-j.ensures)) n)
+    let i = c.loop-link.invariant in let t = c.loop-link-test.true in let n = c.word_at-link.ensures ∙ ap (λ (j : ℕ). get_or c.args.w.pins.now (j * 2 + 1) 0) c.index-j.ensures in (walking_on i.0 t n, c.put_pin-q.auto.out ∙ i.1, λ l of ks w. putting_on _ (i.2 l of ks w) t c.put_pin-q.ensures (pin_is l of (c.see-s.ensures l) ∙ ap (λ (k : ℕ). pin_record (at (parts l) k)) (c.word_at-k.ensures ∙ ap (λ (j : ℕ). get_or c.args.w.pins.now (j * 2) 0) c.index-j.ensures)) n)
 
 pub shape_of-out : goal.shape_of-out
 shape_of-out c = c.loop-link.invariant.1

@@ -12,7 +12,7 @@ use Rattle.law_components.specs.Records.{pin_record}
 use Rattle.list_writing.proofs.put_pins.Given as goal
 
 abbrev pub invariant-loop-link : goal.invariant-loop-link
-invariant-loop-link l = Walking l.pins l.top.items l.link × (length l.out ≡ length l.initial.out) × ((y : Layer l.e l.a l.top l.notes l.operations l.roles l.roled) → y.file ≡ l.file → (ks : List ℕ) → Walks l.pins l.top.items l.first ks → Putting l.pins l.top.items (λ k. pin_record (at (parts y) k)) ks l.initial.out l.out l.initial.q l.q l.link)
+invariant-loop-link l = Walking l.w.pins.now l.w.top.items l.link × (length l.out ≡ length l.initial.out) × ((y : Layer l.w.e.now l.w.a.now l.w.top l.w.notes.now l.w.operations l.w.roles.now l.w.roled) → y.file ≡ l.w.file.now → (ks : List ℕ) → Walks l.w.pins.now l.w.top.items l.first ks → Putting l.w.pins.now l.w.top.items (λ k. pin_record (at (parts y) k)) ks l.initial.out l.out l.initial.q l.q l.link)
 
 abbrev pub decreases-loop-link : goal.decreases-loop-link
 decreases-loop-link l = l.link

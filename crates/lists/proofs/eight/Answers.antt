@@ -7,5 +7,5 @@ pub returns : goal.returns
 unfolding batch_of
 returns c =
     let A = c.args in
-    let filled_so = front_filled A.head.now A.e.now A.a.now A.k A.m _ _ c.requires c.blank-items.ensures c.fill-n.ensures.1 in
-    λ j. record { number = c.fill-n.ensures.0 j; items = filled_so j }
+    let filled_so = front_filled A.head.now A.e.now A.a.now A.k A.m _ _ c.requires c.blank-items.ensures c.fill-number.ensures.1 in
+    λ j. record { number = c.fill-number.ensures.0 j; items = filled_so j }

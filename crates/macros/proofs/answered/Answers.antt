@@ -1,17 +1,19 @@
--- `macros::answered` meets its contract: its tests pick the case of `outcome_by`.
+-- `macros::answered` meets its contract: what is at fault, or 17 where there was no room.
 -- Assumes nothing.
-use Rattle.macros.specs.Says.{outcome_by}
-use borrow.Author.Tests.{eq-eqb, ne_eqb}
+use mathlib.Core.Path.{refl}
+use borrow.Author.Tests.{ne_eqb}
+use Rattle.faults.specs.Rule.{number_told, number_of_rule}
+use Rattle.faults.proofs.Rules.{some_rule}
 use Rattle.macros.proofs.answered.Goals as goal
 
+pub returns-in-Err : goal.returns-in-Err
+unfolding number_told
+returns-in-Err c = record { worked = rw (c.in-Err.is, ne_eqb _ 0 (some_rule c.in-Err.rule)) refl; used = refl }
+
 pub returns-then-p : goal.returns-then-p
-unfolding outcome_by
-returns-then-p c = rw (eq-eqb _ _ c.if-fault-eq0.true, c.if-p.true)
+unfolding number_told number_of_rule
+returns-then-p c = record { worked = rw (c.in_default.is, c.if-p.true) refl; used = refl }
 
-pub returns-else-p : goal.returns-else-p
-unfolding outcome_by
-returns-else-p c = rw (c.if-fault-eq0.true, c.if-p.false)
-
-pub returns-else-fault-eq0 : goal.returns-else-fault-eq0
-unfolding outcome_by
-returns-else-fault-eq0 c = rw (ne_eqb _ _ c.if-fault-eq0.false)
+pub returns : goal.returns
+unfolding number_told
+returns c = record { worked = rw (c.in_default.is, c.if-p.false) refl; used = refl }

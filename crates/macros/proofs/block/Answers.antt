@@ -1,5 +1,6 @@
 -- `macros::block` meets its contract: its first byte picks the case of `block_done`.
 -- Assumes nothing.
+use Rattle.faults.specs.Rule.{number_told}
 use Rattle.macros.proofs.Working.{comment_does, block_comment, block_assigns, block_draws}
 use Rattle.macros.proofs.Laid.{length_laid}
 use lib.ListN.{length}
@@ -7,6 +8,7 @@ use mathlib.Core.Path.{refl, sym, ap, ◌∙◌}
 use Rattle.macros.proofs.block.Goals as goal
 
 pub returns-then-b-eq48 : goal.returns-then-b-eq48
+unfolding number_told
 returns-then-b-eq48 c =
     let a = c.args in
     rw (sym (block_comment a.v.values a.s.now _ _ c.without_leading-t.ensures c.byte_at-b.ensures c.if-b-eq48.true))

@@ -1,10 +1,9 @@
 use Rattle.macros.proofs.Gathering.{gathering_starts, gathering_step, gathering_stop, gathering_end}
-use lib.IntN.{pos}
-use mathlib.Core.Bool.{true}
+use Rattle.std.specs.Prelude.{None}
 use Rattle.text.proofs.First.{first_from_lem}
 use lib.Dec.{eqb}
 use Prim.Native.Char.{code}
-use Prim.Native.Nat.{◌+◌, ◌-◌}
+use Prim.Native.Nat.{◌+◌}
 use native.Mathlib.Omega.{arith}
 use Rattle.macros.proofs.values.Goals as goal
 
@@ -16,9 +15,6 @@ overflow_add-at c = omega arith
 
 pub overflow_add-at-in-loop-at : goal.overflow_add-at-in-loop-at
 overflow_add-at-in-loop-at c = omega arith
-
-pub worth_of-w-requires : goal.worth_of-w-requires
-worth_of-w-requires c = c.requires
 
 pub one_more-q-requires : goal.one_more-q-requires
 one_more-q-requires c =
@@ -33,18 +29,18 @@ pub loop-at-preserved : goal.loop-at-preserved
 loop-at-preserved c =
     let l = c.loop-at in
     let a = c.args in
-    gathering_step a.v.values _ a.t.now l.at _ _ _ _ _ l.q c.worth_of-w.result l.invariant c.loop-at-test.true c.find-next.ensures
-    (rw (c.without_leading.ensures, c.part.ensures) at c.worth_of-w.ensures) c.if-w.true _ _ _ c.write-pen.ensures.0 c.write-pen.ensures.1 c.one_more-q.ensures
+    gathering_step a.v.values _ a.t.now l.at _ _ _ _ _ l.q c.worth_of.result l.invariant c.loop-at-test.true c.find-next.ensures
+    (rw (c.without_leading-text.ensures, c.part.ensures) at c.worth_of.ensures) _ c.in-Some.is _ _ _ c.write-pen.ensures.0 c.write-pen.ensures.1 c.one_more-q.ensures
 
-pub shape_of-numbers-else-w : goal.shape_of-numbers-else-w
-shape_of-numbers-else-w c = c.loop-at.invariant.long
+pub shape_of-numbers-in_default : goal.shape_of-numbers-in_default
+shape_of-numbers-in_default c = c.loop-at.invariant.long
 
-pub returns-else-w : goal.returns-else-w
-returns-else-w c =
+pub returns-in_default : goal.returns-in_default
+returns-in_default c =
     let l = c.loop-at in
     let a = c.args in
-    gathering_stop a.v.values _ a.t.now l.at _ _ _ _ _ l.q c.worth_of-w.result l.invariant c.loop-at-test.true c.find-next.ensures
-    (rw (c.without_leading.ensures, c.part.ensures) at c.worth_of-w.ensures) c.if-w.false
+    gathering_stop a.v.values _ a.t.now l.at _ _ _ _ _ l.q c.worth_of.result l.invariant c.loop-at-test.true c.find-next.ensures
+    (rw (c.without_leading-text.ensures, c.part.ensures) at c.worth_of.ensures) c.in_default.is
 
 pub shape_of-numbers : goal.shape_of-numbers
 shape_of-numbers c = c.loop-at.invariant.long
@@ -53,4 +49,4 @@ pub returns : goal.returns
 returns c =
     let l = c.loop-at in
     let a = c.args in
-    gathering_end a.v.values _ a.t.now l.at l.at _ _ _ _ l.q (record { fine = true; value = record { millionths = pos 0 } }) l.invariant c.loop-at-test.false
+    gathering_end a.v.values _ a.t.now l.at l.at _ _ _ _ l.q None l.invariant c.loop-at-test.false

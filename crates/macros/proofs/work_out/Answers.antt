@@ -14,4 +14,4 @@ shape_of-numbers c = ap length c.blocks-d.ensures.stores ∙ length_laid _ _ _
 pub returns : goal.returns
 returns c =
     let b = rw c.given-v.ensures.0 at c.blocks-d.ensures in
-    record { says = c.answered.ensures ∙ rw (b.fault, b.pen); stores = b.stores }
+    record { says = rw (b.fault, b.pen) at c.answered.ensures; stores = b.stores }

@@ -6,16 +6,13 @@ use mathlib.Core.Path.{sym, ◌∙◌}
 use native.Mathlib.Omega.{arith}
 use Rattle.macros.proofs.worth_of.Goals as goal
 
-pub value_of-r-requires : goal.value_of-r-requires
-value_of-r-requires c = c.requires
-
-pub returns-in-Refused : goal.returns-in-Refused
+pub returns-in-None : goal.returns-in-None
 unfolding reckoned_as
-returns-in-Refused c = record { says = sym c.in-Refused.is ∙ c.value_of-r.ensures.says; small = omega arith }
+returns-in-None c = record { says = sym c.in-None.is ∙ c.value_of.ensures.says; small = omega arith }
 
-pub returns-in-Value : goal.returns-in-Value
+pub returns-in-Some : goal.returns-in-Some
 unfolding reckoned_as
-returns-in-Value c =
-    let e = c.in-Value.is in
-    let h = c.value_of-r.ensures.small _ e in
-    rw (stored_small _ h) (record { says = sym e ∙ c.value_of-r.ensures.says; small = h })
+returns-in-Some c =
+    let e = c.in-Some.is in
+    let h = c.value_of.ensures.small _ e in
+    rw (stored_small _ h) (record { says = sym e ∙ c.value_of.ensures.says; small = h })

@@ -1,40 +1,20 @@
-use Prim.Native.Nat.{◌-◌}
+-- `mending::lay` meets its contract: what fits is copied into the part from n on.
+-- Assumes nothing.
 use native.Mathlib.Omega.{arith}
-use Rattle.mending.proofs.Laying.{too_short, untouched, fitting, laying_starts, laying_long, laying_goes, laying_ends}
+use Rattle.mending.proofs.Laying.{too_short, untouched, fitting, copied}
+use Rattle.mending.proofs.lay.Goals.{then-out-n-via-then-out-n, then-out-n-via-else-out-n+then-out-n-2}
 use Rattle.mending.proofs.lay.Goals as goal
 
 pub returns-then-out-n : goal.returns-then-out-n
-returns-then-out-n c = let h = c.if-out-n.true in (too_short _ _ _ (omega arith), untouched _ _ _ (omega arith))
-
-pub overflow_sub-out : goal.overflow_sub-out
-overflow_sub-out c = omega arith
-
-pub returns-then-out-n-2 : goal.returns-then-out-n-2
-returns-then-out-n-2 c = let h = c.if-out-n.false in let k = c.if-out-n-2.true in (too_short _ _ _ (omega arith), untouched _ _ _ (omega arith))
-
-pub loop-i-init : goal.loop-i-init
-loop-i-init c = let h = c.if-out-n.false in let k = c.if-out-n-2.false in laying_starts _ _ _ (omega arith)
-
-pub bounds-s-i : goal.bounds-s-i
-bounds-s-i c = omega arith
-
-pub overflow_add-out : goal.overflow_add-out
-overflow_add-out c = omega (arith, c.loop-i.invariant.some, c.loop-i.invariant.room)
-
-pub bounds-out-n : goal.bounds-out-n
-bounds-out-n c = omega (arith, laying_long c.loop-i.invariant, c.loop-i.invariant.room)
-
-pub overflow_add-i : goal.overflow_add-i
-overflow_add-i c = omega arith
-
-pub loop-i-smaller : goal.loop-i-smaller
-loop-i-smaller c = omega arith
-
-pub loop-i-preserved : goal.loop-i-preserved
-loop-i-preserved c = laying_goes c.loop-i.invariant c.loop-i-test.true
-
-pub shape_of-out : goal.shape_of-out
-shape_of-out c = laying_long c.loop-i.invariant
+returns-then-out-n c =
+    elim c.then-out-n.branch [
+      | then-out-n-via-then-out-n w ↦ let h = w.if-out-n.true in (too_short _ _ _ (omega arith), untouched _ _ _ (omega arith))
+      | then-out-n-via-else-out-n+then-out-n-2 w ↦
+          let h = w.if-out-n.false in let k = w.if-out-n-2.true in (too_short _ _ _ (omega arith), untouched _ _ _ (omega arith))
+    ]
 
 pub returns : goal.returns
-returns c = (fitting _ _ _ c.loop-i.invariant.room, laying_ends c.loop-i.invariant c.loop-i-test.false)
+returns c =
+    let h = c.if-out-n.false in
+    let k = c.if-out-n-2.false in
+    (fitting _ _ _ (omega arith), copied _ _ _ _ (omega arith) c.copy_from_slice.ensures.after)

@@ -26,7 +26,7 @@ pub loop-at-preserved : goal.loop-at-preserved
 loop-at-preserved c =
     let p = c.walk_from-p.ensures.0 in
     let v = c.loop-at.invariant in
-    (p.inside, omega (arith, c.nearer-found.ensures, v.1), omega (arith, c.nearer-found.ensures, p.least, v.2), c.walk_from-p.ensures.1 ∙ v.3)
+    (p.inside, omega (arith, c.min-found.ensures, v.1), omega (arith, c.min-found.ensures, p.least, v.2), c.walk_from-p.ensures.1 ∙ v.3)
 
 pub shape_of-s : goal.shape_of-s
 shape_of-s c = c.loop-at.invariant.3

@@ -118,4 +118,4 @@ loop-next-preserved c =
     going_naming _ _ _ _ _ l.at _ l.invariant.0 naming c.note-n.ensures.0 c.note-n.ensures.1 in
     let noted_long : length c.note-n.new.s ≡ length c.args.s.now =
     c.note-n.auto.s ∙ c.loop-next.invariant.1 in
-    (rw c.nearer-rest.ensures (rw c.in-Full.is at noted), noted_long)
+    (rw c.min-rest.ensures (rw c.in-Full.is at noted), noted_long)

@@ -7,16 +7,16 @@ use Rattle.notes.proofs.designate.Goals as goal
 
 pub overflow_add-result : goal.overflow_add-result
 overflow_add-result c =
-    let A = c.args in omega (arith, found_below _ _ _ _ _ (sym c.search_name-found.ensures ∙ c.in-At.is), c.requires.0.named.tree.inside)
+    let A = c.args in omega (arith, found_below _ _ _ _ _ (sym c.search_name-found.ensures ∙ c.in-Ok.is), c.requires.0.named.tree.inside)
 
 pub returns-then-put_macro : goal.returns-then-put_macro
 returns-then-put_macro c =
-    kept_new _ _ _ c.requires.0 c.args.p (sym c.search_name-found.ensures ∙ c.in-Free.is) (room_is _ _ (sym c.put_macro.ensures.0 ∙ c.if-put_macro.true)) c.put_macro.ensures.1 c.put_macro.auto.m
+    kept_new _ _ _ c.requires.0 c.args.p (sym c.search_name-found.ensures ∙ c.in-Err.is) (room_is _ _ (sym c.put_macro.ensures.0 ∙ c.if-put_macro.true)) c.put_macro.ensures.1 c.put_macro.auto.m
 
-pub returns-in-At : goal.returns-in-At
-returns-in-At c =
-    kept_found _ _ _ c.requires.0 c.args.p (sym c.search_name-found.ensures ∙ c.in-At.is)
+pub returns-in-Ok : goal.returns-in-Ok
+returns-in-Ok c =
+    kept_found _ _ _ c.requires.0 c.args.p (sym c.search_name-found.ensures ∙ c.in-Ok.is)
 
 pub returns-else-put_macro : goal.returns-else-put_macro
 returns-else-put_macro c =
-    kept_full _ _ _ c.requires.0 c.args.p (sym c.search_name-found.ensures ∙ c.in-Free.is) (sym c.put_macro.ensures.0 ∙ c.if-put_macro.false) c.put_macro.ensures.1
+    kept_full _ _ _ c.requires.0 c.args.p (sym c.search_name-found.ensures ∙ c.in-Err.is) (sym c.put_macro.ensures.0 ∙ c.if-put_macro.false) c.put_macro.ensures.1

@@ -9,9 +9,9 @@ use Rattle.notes.proofs.first_field.Goals as goal
 pub overflow_add-result : goal.overflow_add-result
 overflow_add-result c =
     let A = c.args in
-    let h : c.lower-from.result + c.find.result ≤ length A.file.now =
-    rw (c.lower-from.ensures, c.find.ensures, c.up_to-value.ensures, c.from_on.ensures) (first_is A.file.now A.place A.length).inside in
+    let h : c.min-from.result + c.find.result ≤ length A.file.now =
+    rw (c.min-from.ensures, c.find.ensures, c.up_to-value.ensures, c.from_on.ensures) (first_is A.file.now A.place A.length).inside in
     omega arith
 
 pub returns : goal.returns
-returns c = rw (c.lower-from.ensures, c.find.ensures, c.up_to-value.ensures, c.from_on.ensures) (first_is c.args.file.now c.args.place c.args.length)
+returns c = rw (c.min-from.ensures, c.find.ensures, c.up_to-value.ensures, c.from_on.ensures) (first_is c.args.file.now c.args.place c.args.length)

@@ -2,7 +2,6 @@
 -- Assumes nothing.
 use Rattle.noting.proofs.Known.{set_few}
 use Rattle.noting.proofs.Hearing.{both_heard}
-use Rattle.layer.specs.Work.{set_by}
 use native.Mathlib.Omega.{arith}
 use mathlib.Core.Path.{refl}
 use Rattle.noting.proofs.designators.Goals as goal

@@ -1,6 +1,5 @@
 use Rattle.noting.proofs.Going.{going_start, going_asks, going_fault, going_last, going_more, going_less}
 use native.Mathlib.Omega.{arith}
-use Prim.Native.Nat.{◌-◌}
 use mathlib.Core.Path.{refl, sym, ◌∙◌}
 use Rattle.noting.proofs.note_all.Goals as goal
 

@@ -6,6 +6,10 @@ use Rattle.attribute_call.specs.declared.Kind.TheVariants as kind
 use Rattle.attribute_call.specs.Sayings.{saying_of}
 use Rattle.text.specs.Text.{text}
 use native.Mathlib.Omega.{arith}
+use mathlib.Core.Path.{◌≡◌}
+use Rattle.base.specs.Or.{◌or◌}
+use Rattle.base.proofs.Or.{ors}
+use Rattle.noting.proofs.note_command.Goals.{then-n, else-n}
 use Rattle.noting.proofs.note_command.Goals as goal
 
 pub overflow_add-result : goal.overflow_add-result
@@ -25,6 +29,8 @@ shape_of-roles c = c.note_aperture-used.auto.roles
 
 pub returns : goal.returns
 returns c =
+    let says : c.if-n.result ≡ (c.args.n.component or c.declares-declared.result) =
+    elim c.if-n.branch [ then-n w ↦ simp (w.result-is, w.if-n.true, ors) | else-n w ↦ simp (w.result-is, w.if-n.false, ors) ] in
     command_noted c.args.file.now c.args.n c.args.c c.made_of-made.ensures c.placed_at.ensures c.note_operation-operations.ensures
-    c.note_aperture-used.ensures c.part.ensures c.declares-declared.ensures c.either.ensures c.hear-heard.ensures c.saying_of-s.ensures
+    c.note_aperture-used.ensures c.part.ensures c.declares-declared.ensures says c.hear-heard.ensures c.saying_of-s.ensures
     c.function_after-function.ensures c.apertures_by.ensures

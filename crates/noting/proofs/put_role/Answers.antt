@@ -9,8 +9,8 @@ returns-in_default c = put_found _ _ _ _ c.requires (sym c.search_number-found.e
 
 pub returns-then-put_aperture : goal.returns-then-put_aperture
 returns-then-put_aperture c =
-    put_new _ _ _ _ c.requires (sym c.search_number-found.ensures ∙ c.in-Free.is) c.put_aperture.ensures.1 c.put_aperture.auto.a (sym c.put_aperture.ensures.0 ∙ c.if-put_aperture.true)
+    put_new _ _ _ _ c.requires (sym c.search_number-found.ensures ∙ c.in-Err.is) c.put_aperture.ensures.1 c.put_aperture.auto.a (sym c.put_aperture.ensures.0 ∙ c.if-put_aperture.true)
 
 pub returns : goal.returns
 returns c =
-    put_full _ _ _ _ c.requires (sym c.search_number-found.ensures ∙ c.in-Free.is) c.put_aperture.ensures.1 c.put_aperture.auto.a (sym c.put_aperture.ensures.0 ∙ c.if-put_aperture.false)
+    put_full _ _ _ _ c.requires (sym c.search_number-found.ensures ∙ c.in-Err.is) c.put_aperture.ensures.1 c.put_aperture.auto.a (sym c.put_aperture.ensures.0 ∙ c.if-put_aperture.false)

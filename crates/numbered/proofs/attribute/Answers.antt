@@ -4,8 +4,8 @@ use mathlib.Core.Path.{sym, ◌∙◌}
 use Rattle.numbered.proofs.Choices.{attribute_by_lem, attribute_none}
 use Rattle.numbered.proofs.attribute.Goals as goal
 
-pub returns-in-By : goal.returns-in-By
-returns-in-By c = c.attribute.ensures ∙ attribute_by_lem (sym c.choice_of-c.ensures ∙ c.in-By.is) _ _ _ _
+pub returns-in-Some : goal.returns-in-Some
+returns-in-Some c = c.attribute.ensures ∙ attribute_by_lem (sym c.choice_of.ensures ∙ c.in-Some.is) _ _ _ _
 
-pub returns-in-Unknown : goal.returns-in-Unknown
-returns-in-Unknown c = attribute_none (sym c.choice_of-c.ensures ∙ c.in-Unknown.is) _ _ _ _
+pub returns-in-None : goal.returns-in-None
+returns-in-None c = attribute_none (sym c.choice_of.ensures ∙ c.in-None.is) _ _ _ _

@@ -5,4 +5,4 @@ use Rattle.numbered.proofs.read.Goals as goal
 
 pub returns : goal.returns
 returns c =
-    reads_so c.short_choice-c.ensures _ _ _ _ _ _ c.read_chosen.ensures
+    reads_so c.short_choice.ensures _ _ _ _ _ _ c.read_chosen.ensures

@@ -5,4 +5,4 @@ use Rattle.numbered.proofs.read_as.Goals as goal
 
 pub returns : goal.returns
 returns c =
-    reads_so c.choice_of-c.ensures _ _ _ _ _ _ c.read_chosen.ensures
+    reads_so c.choice_of.ensures _ _ _ _ _ _ c.read_chosen.ensures

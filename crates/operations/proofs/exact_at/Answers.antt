@@ -7,7 +7,7 @@ use native.Mathlib.Omega.{arith}
 use Rattle.base.proofs.Tests.{tests}
 use Rattle.digits.specs.Coordinate.{coordinate_at}
 use Rattle.formats.proofs.Exact.{exact_taken}
-use Rattle.operations.specs.Coordinates.{missing, field_at}
+use Rattle.operations.specs.Coordinates.{field_at}
 use Rattle.operations.proofs.Ends.{inside}
 use Rattle.operations.proofs.exact_at.Goals as goal
 
@@ -39,8 +39,9 @@ returns-then-byte_at-letter c f q =
     simp (tests, e) (cc)
 
 pub returns : goal.returns
-unfolding field_at missing
+unfolding field_at
 returns c f q =
     let e = sym c.byte_at.ensures in
+    let m = sym c.missing.ensures in
     let h = c.if-byte_at-letter.false in
-    simp (tests, e)
+    simp (tests, e, m)

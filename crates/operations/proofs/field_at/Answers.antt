@@ -5,7 +5,7 @@ use mathlib.Core.Path.{sym}
 use lib.ListN.{length}
 use native.Mathlib.Omega.{arith}
 use Rattle.base.proofs.Tests.{tests}
-use Rattle.operations.specs.Coordinates.{missing, field_at}
+use Rattle.operations.specs.Coordinates.{field_at}
 use Rattle.operations.proofs.Ends.{inside}
 use Rattle.operations.proofs.field_at.Goals as goal
 
@@ -35,8 +35,9 @@ returns-then-byte_at-letter c =
     simp (tests, e) (cc)
 
 pub returns : goal.returns
-unfolding field_at missing
+unfolding field_at
 returns c =
     let e = sym c.byte_at.ensures in
+    let m = sym c.missing.ensures in
     let h = c.if-byte_at-letter.false in
-    simp (tests, e)
+    simp (tests, e, m)

@@ -9,7 +9,4 @@ use Rattle.passes.specs.Marks.{Marked}
 use Rattle.passes.proofs.faults.Given as goal
 
 abbrev pub invariant-loop-k : goal.invariant-loop-k
-invariant-loop-k l = (l.k ≤ l.top.items) × (length l.names ≡ length l.initial.names) × ((y : Layer l.e l.a l.top l.notes l.operations l.roles l.roled) → Marked y l.initial.names 0 → Passing y l.names l.o l.k)
-
-abbrev pub decreases-loop-k : goal.decreases-loop-k
-decreases-loop-k l = l.top.items - l.k
+invariant-loop-k l = (length l.names ≡ length l.initial.names) × ((y : Layer l.e l.a l.top l.notes l.operations l.roles l.roled) → Marked y l.initial.names 0 → Passing y l.names l.o l.k)

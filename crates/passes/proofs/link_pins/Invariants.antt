@@ -10,7 +10,4 @@ use Rattle.passes.specs.Marks.{Marked}
 use Rattle.passes.proofs.link_pins.Given as goal
 
 abbrev pub invariant-loop-k : goal.invariant-loop-k
-invariant-loop-k l = (l.k ≤ l.top.items) × (length l.names ≡ length l.initial.names) × (length l.pins ≡ length l.initial.pins) × (l.links + l.k ≤ l.top.items) × ((y : Layer l.e l.a l.top l.notes l.operations l.roles l.roled) → Sound y → Marked y l.initial.names (length (parts y)) → Linking y l.names l.pins l.links l.k)
-
-abbrev pub decreases-loop-k : goal.decreases-loop-k
-decreases-loop-k l = l.k
+invariant-loop-k l = (length l.names ≡ length l.initial.names) × (length l.pins ≡ length l.initial.pins) × (l.links + l.k ≤ l.top.items) × ((y : Layer l.e l.a l.top l.notes l.operations l.roles l.roled) → Sound y → Marked y l.initial.names (length (parts y)) → Linking y l.names l.pins l.links l.k)

@@ -1,10 +1,14 @@
--- `place::differ` meets its contract: `xor` by the first test.
-use Rattle.place.proofs.Laws.{xor_true, xor_false}
-use mathlib.Core.Path.{sym}
+-- `place::differ` meets its contract, case by case: `^` is computed as the tests being unequal.
+use Rattle.std.proofs.Common.{◌≡◌, Bool, true, false, refl}
+use mathlib.Core.Bool.{not, beq, xor}
 use Rattle.place.proofs.differ.Goals as goal
 
-pub returns-then-a : goal.returns-then-a
-returns-then-a c = rw c.if-a.true (sym (xor_true _))
+not_beq : (a b : Bool) → not (beq a b) ≡ xor a b
+unfolding xor
+not_beq true true = refl
+not_beq true false = refl
+not_beq false true = refl
+not_beq false false = refl
 
-pub returns-else-a : goal.returns-else-a
-returns-else-a c = rw c.if-a.false (sym (xor_false _))
+pub returns : goal.returns
+returns c = not_beq _ _

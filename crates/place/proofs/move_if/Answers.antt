@@ -6,6 +6,6 @@ pub returns-then-used : goal.returns-then-used
 unfolding moved_if moved
 returns-then-used c = rw c.if-used.true c.place.ensures
 
-pub returns : goal.returns
+pub returns-else-used : goal.returns-else-used
 unfolding moved_if
-returns c = rw c.if-used.false
+returns-else-used c = rw c.if-used.false

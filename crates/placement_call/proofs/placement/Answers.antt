@@ -11,18 +11,18 @@ use Rattle.placement_call.proofs.placement.Goals as goal
 pub assemble-requires : goal.assemble-requires
 unfolding lent_of sheeted
 assemble-requires c =
-    (sheeted _ _ _ _ (is_accepted _ _ _ _ _ _ c.read_as-r.ensures c.in-Accepted.is), c.clear_bytes.ensures ∙ ap (λ (n : ℕ). replicate n 0) (sym c.clear_bytes.auto.s))
+    (sheeted _ _ _ _ (is_accepted _ _ _ _ _ _ c.read_as-r.ensures c.in-Ok.is), c.clear_bytes.ensures ∙ ap (λ (n : ℕ). replicate n 0) (sym c.clear_bytes.auto.s))
 
-pub returns-in-Refused : goal.returns-in-Refused
+pub returns-in-Err : goal.returns-in-Err
 unfolding lent_of sheeted
-returns-in-Refused c =
-    places_refused _ _ _ _ _ _ _ c.read_as-r.ensures (is_refused_lem _ _ _ _ _ _ c.read_as-r.ensures c.in-Refused.is) c.clear_bytes.ensures c.refused.ensures
+returns-in-Err c =
+    places_refused _ _ _ _ _ _ _ c.read_as-r.ensures (is_refused_lem _ _ _ _ _ _ c.read_as-r.ensures c.in-Err.is) c.clear_bytes.ensures c.refused.ensures
 
-pub shape_of-out-in-Accepted : goal.shape_of-out-in-Accepted
-shape_of-out-in-Accepted c =
+pub shape_of-out-in-Ok : goal.shape_of-out-in-Ok
+shape_of-out-in-Ok c =
     c.assemble.auto.out ∙ c.clear_bytes.auto.s
 
-pub returns-in-Accepted : goal.returns-in-Accepted
+pub returns-in-Ok : goal.returns-in-Ok
 unfolding lent_of sheeted
-returns-in-Accepted c =
-    let k = is_accepted _ _ _ _ _ _ c.read_as-r.ensures c.in-Accepted.is in places_read _ _ _ _ _ _ _ c.read_as-r.ensures k.is c.clear_bytes.auto.s (c.assemble.ensures (sheeted _ _ _ _ k))
+returns-in-Ok c =
+    let k = is_accepted _ _ _ _ _ _ c.read_as-r.ensures c.in-Ok.is in places_read _ _ _ _ _ _ _ c.read_as-r.ensures k.is c.clear_bytes.auto.s (c.assemble.ensures (sheeted _ _ _ _ k))

@@ -1,21 +1,9 @@
 -- `points::turn` meets its contract: each arm is a case of `turned`, its coordinates taken from zero or as they were.
 use mathlib.Core.Path.{◌≡◌}
 use native.Mathlib.Omega.{arith}
-use Rattle.ints.proofs.Bounded.{back, neg_asks, neg_gives}
+use Rattle.ints.proofs.Bounded.{back, neg_gives}
 use Rattle.points.specs.Points.{pt, turned}
 use Rattle.points.proofs.turn.Goals as goal
-
-pub overflow_sub-result : goal.overflow_sub-result
-overflow_sub-result c = neg_asks c.args.p.y (omega arith)
-
-pub overflow_sub-result-in-2 : goal.overflow_sub-result-in-2
-overflow_sub-result-in-2 c = neg_asks c.args.p.x (omega arith)
-
-pub overflow_sub-result-in-2-2 : goal.overflow_sub-result-in-2-2
-overflow_sub-result-in-2-2 c = neg_asks c.args.p.y (omega arith)
-
-pub overflow_sub-result-in_default : goal.overflow_sub-result-in_default
-overflow_sub-result-in_default c = neg_asks c.args.p.x (omega arith)
 
 pub returns-in-0 : goal.returns-in-0
 unfolding turned

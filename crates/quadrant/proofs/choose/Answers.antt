@@ -1,53 +1,32 @@
 -- `quadrant::choose` meets its contract: the rule's only least candidate is the first that wins over all four.
-use mathlib.Core.Path.{sym, ◌∙◌}
-use Rattle.quadrant.proofs.Chosen.{Four, takes_first, takes_second, takes_third, takes_fourth, takes_none}
+use mathlib.Core.Path.{sym, ap, ◌∙◌}
+use mathlib.Core.List.{[], ◌∷◌}
+use denote.Ref.{Bor}
+use Rattle.std.proofs.Common.{rules, Some, None}
+use Rattle.std.specs.Option.{option_map}
+use Rattle.std.proofs.lemmas.Iterator.{YieldsList-from_slice}
+use Rattle.std.proofs.lemmas.Iterator.Search.{find_from_yields_List}
+use Rattle.quadrant.specs.Candidates.{wins}
+use Rattle.quadrant.specs.declared.Candidate.{Candidate}
+use Rattle.quadrant.proofs.Chosen.{Four, found}
 use Rattle.quadrant.proofs.choose.Goals as goal
 
-pub returns-then-best : goal.returns-then-best
-returns-then-best c =
-    let four : let a = c.args in
-    Four a.clockwise a.start a.end a.i a.j c.meant-a.result c.meant-b.result c.meant-c.result c.meant-d.result =
-    record { first = c.meant-a.ensures; second = c.meant-b.ensures; third = c.meant-c.ensures; fourth = c.meant-d.ensures } in
-    takes_first four
-    (sym c.best.ensures ∙ c.if-best.true)
-
-pub returns-then-best-2 : goal.returns-then-best-2
-returns-then-best-2 c =
-    let four : let a = c.args in
-    Four a.clockwise a.start a.end a.i a.j c.meant-a.result c.meant-b.result c.meant-c.result c.meant-d.result =
-    record { first = c.meant-a.ensures; second = c.meant-b.ensures; third = c.meant-c.ensures; fourth = c.meant-d.ensures } in
-    takes_second four
-    (sym c.best.ensures ∙ c.if-best.false)
-    (sym c.best-2.ensures ∙ c.if-best-2.true)
-
-pub returns-then-best-3 : goal.returns-then-best-3
-returns-then-best-3 c =
-    let four : let a = c.args in
-    Four a.clockwise a.start a.end a.i a.j c.meant-a.result c.meant-b.result c.meant-c.result c.meant-d.result =
-    record { first = c.meant-a.ensures; second = c.meant-b.ensures; third = c.meant-c.ensures; fourth = c.meant-d.ensures } in
-    takes_third four
-    (sym c.best.ensures ∙ c.if-best.false)
-    (sym c.best-2.ensures ∙ c.if-best-2.false)
-    (sym c.best-3.ensures ∙ c.if-best-3.true)
-
-pub returns-then-best-4 : goal.returns-then-best-4
-returns-then-best-4 c =
-    let four : let a = c.args in
-    Four a.clockwise a.start a.end a.i a.j c.meant-a.result c.meant-b.result c.meant-c.result c.meant-d.result =
-    record { first = c.meant-a.ensures; second = c.meant-b.ensures; third = c.meant-c.ensures; fourth = c.meant-d.ensures } in
-    takes_fourth four
-    (sym c.best.ensures ∙ c.if-best.false)
-    (sym c.best-2.ensures ∙ c.if-best-2.false)
-    (sym c.best-3.ensures ∙ c.if-best-3.false)
-    (sym c.best-4.ensures ∙ c.if-best-4.true)
+pub returns-in_err-chosen : goal.returns-in_err-chosen
+returns-in_err-chosen c =
+    let l = c.meant.result ∷ c.meant-2.result ∷ c.meant-3.result ∷ c.meant-4.result ∷ [] in
+    let test = λ (d : Candidate). wins d l in
+    let first = find_from_yields_List test c.find.new.self _ _ c.find.ensures.ran (YieldsList-from_slice l cc) (λ x b q k. search rules) in
+    let a = c.args in
+    let four : Four a.clockwise a.start a.end a.i a.j c.meant.result c.meant-2.result c.meant-3.result c.meant-4.result =
+    record { first = c.meant.ensures; second = c.meant-2.ensures; third = c.meant-3.ensures; fourth = c.meant-4.ensures } in
+    c.from_residual.ensures ∙ found four None (sym (ap (option_map (λ (x : Bor Candidate). x.now)) c.in_err-chosen.was) ∙ first)
 
 pub returns : goal.returns
 returns c =
-    let four : let a = c.args in
-    Four a.clockwise a.start a.end a.i a.j c.meant-a.result c.meant-b.result c.meant-c.result c.meant-d.result =
-    record { first = c.meant-a.ensures; second = c.meant-b.ensures; third = c.meant-c.ensures; fourth = c.meant-d.ensures } in
-    takes_none four
-    (sym c.best.ensures ∙ c.if-best.false)
-    (sym c.best-2.ensures ∙ c.if-best-2.false)
-    (sym c.best-3.ensures ∙ c.if-best-3.false)
-    (sym c.best-4.ensures ∙ c.if-best-4.false)
+    let l = c.meant.result ∷ c.meant-2.result ∷ c.meant-3.result ∷ c.meant-4.result ∷ [] in
+    let test = λ (d : Candidate). wins d l in
+    let first = find_from_yields_List test c.find.new.self _ _ c.find.ensures.ran (YieldsList-from_slice l cc) (λ x b q k. search rules) in
+    let a = c.args in
+    let four : Four a.clockwise a.start a.end a.i a.j c.meant.result c.meant-2.result c.meant-3.result c.meant-4.result =
+    record { first = c.meant.ensures; second = c.meant-2.ensures; third = c.meant-3.ensures; fourth = c.meant-4.ensures } in
+    found four (Some c.in_ok-chosen.chosen.now) (sym (ap (option_map (λ (x : Bor Candidate). x.now)) c.in_ok-chosen.was) ∙ first)

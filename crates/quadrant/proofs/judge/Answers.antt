@@ -1,13 +1,11 @@
 -- `quadrant::judge` meets its contract: the vectors from the centre are short enough, and the callees' answers are the parts of the rule.
 use Prim.Native.Nat.{◌*◌, ◌^◌}
-use mathlib.Core.Path.{refl}
 use Rattle.points.specs.Points.{Within}
-use Rattle.quadrant.specs.Centre.{kept, uneven}
 use Rattle.quadrant.proofs.Within.{seen_within, dot_small}
 use Rattle.quadrant.proofs.judge.Goals as goal
 
-pub spanning-requires : goal.spanning-requires
-spanning-requires c =
+pub spanning-keep-requires : goal.spanning-keep-requires
+spanning-keep-requires c =
     let to_start : Within (3 * 10 ^ 12) c.seen_from-s.result =
     rw c.seen_from-s.ensures (seen_within (2 * 10 ^ 12) (10 ^ 12) _ _ c.requires.within_3 c.requires.within) in
     let to_end : Within (3 * 10 ^ 12) c.seen_from-e.result =
@@ -35,8 +33,8 @@ dot-requires-2 c =
       within_2 = to_end;
     }
 
-pub apart-requires : goal.apart-requires
-apart-requires c =
+pub apart-gap-requires : goal.apart-gap-requires
+apart-gap-requires c =
     let to_start : Within (3 * 10 ^ 12) c.seen_from-s.result =
     rw c.seen_from-s.ensures (seen_within (2 * 10 ^ 12) (10 ^ 12) _ _ c.requires.within_3 c.requires.within) in
     let to_end : Within (3 * 10 ^ 12) c.seen_from-e.result =
@@ -45,7 +43,3 @@ apart-requires c =
       x_bound = rw c.dot.ensures (dot_small _ _ to_start to_start);
       y_bound = rw c.dot-2.ensures (dot_small _ _ to_end to_end);
     }
-
-pub returns : goal.returns
-unfolding kept uneven
-returns c = record { place = refl; keeps = cc; differs = cc }

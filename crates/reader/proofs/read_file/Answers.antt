@@ -8,17 +8,17 @@ use Rattle.reader.proofs.read_file.Goals as goal
 pub finish-requires : goal.finish-requires
 unfolding lent_of
 finish-requires c =
-    sheet_fits _ (lent_of c.args.file.now c.args.e.now c.args.a.now c.args.m.now c.args.numbers.now) (lent_of c.args.file.now c.run_over-r.new.e c.run_over-r.new.a c.run_over-r.new.m c.run_over-r.new.numbers) c.args.head.now _ c.requires.file_value c.run_over-r.ensures.0 c.run_over-r.ensures.1 c.in-Sheet.is
+    sheet_fits _ (lent_of c.args.file.now c.args.e.now c.args.a.now c.args.m.now c.args.numbers.now) (lent_of c.args.file.now c.run_over-r.new.e c.run_over-r.new.a c.run_over-r.new.m c.run_over-r.new.numbers) c.args.head.now _ c.requires.file_value c.run_over-r.ensures.0 c.run_over-r.ensures.1 c.in-Ok.is
 
-pub returns-in-Fault : goal.returns-in-Fault
+pub returns-in-Err : goal.returns-in-Err
 unfolding lent_of
-returns-in-Fault c =
+returns-in-Err c =
     let z = c.clear.ensures in
-    reads_refused _ (lent_of c.args.file.now c.args.e.now c.args.a.now c.args.m.now c.args.numbers.now) (lent_of c.args.file.now c.run_over-r.new.e c.run_over-r.new.a c.run_over-r.new.m c.run_over-r.new.numbers) _ _ c.requires.file_value c.run_over-r.ensures.0 c.run_over-r.ensures.1 (lent_of _ _ _ _ _) c.in-Fault.is
+    reads_refused _ (lent_of c.args.file.now c.args.e.now c.args.a.now c.args.m.now c.args.numbers.now) (lent_of c.args.file.now c.run_over-r.new.e c.run_over-r.new.a c.run_over-r.new.m c.run_over-r.new.numbers) _ _ c.requires.file_value c.run_over-r.ensures.0 c.run_over-r.ensures.1 (lent_of _ _ _ _ _) c.in-Err.is
     (record { head_is = c.requires.head_value; entries_are = z.0; apertures_are = z.1; macros_are = z.2; numbers_are = z.3 })
 
-pub returns-in-Sheet : goal.returns-in-Sheet
+pub returns-in-Ok : goal.returns-in-Ok
 unfolding lent_of with_entries
-returns-in-Sheet c =
+returns-in-Ok c =
     rw c.unit_in.ensures
-    (reads_accepted _ (lent_of c.args.file.now c.args.e.now c.args.a.now c.args.m.now c.args.numbers.now) (lent_of c.args.file.now c.run_over-r.new.e c.run_over-r.new.a c.run_over-r.new.m c.run_over-r.new.numbers) _ _ c.requires.file_value c.run_over-r.ensures.0 c.run_over-r.ensures.1 c.in-Sheet.is _ refl c.finish.ensures.0 c.finish.ensures.1)
+    (reads_accepted _ (lent_of c.args.file.now c.args.e.now c.args.a.now c.args.m.now c.args.numbers.now) (lent_of c.args.file.now c.run_over-r.new.e c.run_over-r.new.a c.run_over-r.new.m c.run_over-r.new.numbers) _ _ c.requires.file_value c.run_over-r.ensures.0 c.run_over-r.ensures.1 c.in-Ok.is _ refl c.finish.ensures.0 c.finish.ensures.1)

@@ -24,13 +24,13 @@ run-r-requires c =
       looked = c.loop-x.invariant.1;
     }
 
-pub returns-in-Ends : goal.returns-in-Ends
+pub returns-in-Some : goal.returns-in-Some
 unfolding lent_of
-returns-in-Ends c =
+returns-in-Some c =
     let z = c.clear.ensures in
     let cleared : AsLong (lent_of c.args.file.now c.args.e.now c.args.a.now c.args.m.now c.args.numbers.now) (lent_of c.args.file.now c.clear.new.e c.clear.new.a c.clear.new.m c.clear.new.numbers) =
     longs _ _ _ c.loop-x.invariant.0 (zeros_as_long (lent_of _ _ _ _ _) (lent_of _ _ _ _ _) refl z.0 z.1 z.2 z.3) in
-    (longs _ _ _ cleared c.run-r.ensures.0, came _ _ _ _ _ _ refl cleared c.run-r.ensures.1 c.in-Ends.is)
+    (longs _ _ _ cleared c.run-r.ensures.0, came _ _ _ _ _ _ refl cleared c.run-r.ensures.1 c.in-Some.is)
 
 pub first_repeat-requires : goal.first_repeat-requires
 unfolding fits
@@ -39,7 +39,7 @@ first_repeat-requires c =
 
 pub loop-x-smaller : goal.loop-x-smaller
 loop-x-smaller c =
-    let q = asks_first _ _ _ c.loop-x.repeat _ c.run-r.ensures.1 c.in-Asks.is in
+    let q = asks_first _ _ _ c.loop-x.repeat _ c.run-r.ensures.1 c.in-None.is in
     rw q (omega arith)
 
 pub loop-x-preserved : goal.loop-x-preserved

@@ -5,8 +5,8 @@ use Rattle.reckon.proofs.Nearest.{kept_large, kept_small}
 use native.Mathlib.Omega.{arith}
 use Rattle.reckon.proofs.kept.Goals as goal
 
-pub returns-then-n-ge1000000000000 : goal.returns-then-n-ge1000000000000
-returns-then-n-ge1000000000000 c = kept_large _ _ (omega arith)
+pub returns-else-n-lt1000000000000 : goal.returns-else-n-lt1000000000000
+returns-else-n-lt1000000000000 c = kept_large _ _ (omega arith)
 
-pub returns : goal.returns
-returns c = kept_small _ _ _ (omega arith) (back _ (omega arith) ∙ c.with_sign.ensures.0)
+pub returns-then-n-lt1000000000000 : goal.returns-then-n-lt1000000000000
+returns-then-n-lt1000000000000 c = kept_small _ _ _ (omega arith) (back _ (omega arith) ∙ c.with_sign.ensures.0)

@@ -1,54 +1,20 @@
 -- `reckon::quotient` meets its contract: the sizes are small enough to be divided, and no divisor is 0.
 use Prim.Native.Nat.{◌+◌, ◌*◌, ◌/◌}
-use mathlib.Core.Path.{◌≡◌, sym, ap, ◌∙◌}
+use mathlib.Core.Path.{sym, ap, ◌∙◌}
 use lib.IntN.{nat_abs, ◌*ℤ◌}
 use mir.Facts.{to_z-of_z}
 use Rattle.ints.specs.Ints.{signed, is_neg}
 use Rattle.reckon.specs.Rounding.{kept_of}
 use Rattle.reckon.proofs.Nearest.{quotient_by_sizes, quotient_by_zero}
-use native.Mathlib.Omega.{arith}
 use Rattle.reckon.proofs.quotient.Goals as goal
 
 pub returns-then-d-eq0 : goal.returns-then-d-eq0
-returns-then-d-eq0 c =
-    let size-b : c.size-d.result ≡ nat_abs c.args.b =
-    c.size-d.ensures ∙ ap nat_abs (to_z-of_z c.ranges.b) in
-    quotient_by_zero _ _ (sym size-b ∙ c.if-d-eq0.true)
-
-pub overflow_mul-n : goal.overflow_mul-n
-overflow_mul-n c =
-    let size-a : c.size-n.result ≡ nat_abs c.args.a =
-    c.size-n.ensures ∙ ap nat_abs (to_z-of_z c.ranges.a) in
-    omega (arith, size-a)
-
-pub overflow_mul-n-2 : goal.overflow_mul-n-2
-overflow_mul-n-2 c =
-    let size-a : c.size-n.result ≡ nat_abs c.args.a =
-    c.size-n.ensures ∙ ap nat_abs (to_z-of_z c.ranges.a) in
-    omega (arith, size-a)
-
-pub overflow_add-n : goal.overflow_add-n
-overflow_add-n c =
-    let size-a : c.size-n.result ≡ nat_abs c.args.a =
-    c.size-n.ensures ∙ ap nat_abs (to_z-of_z c.ranges.a) in
-    let size-b : c.size-d.result ≡ nat_abs c.args.b =
-    c.size-d.ensures ∙ ap nat_abs (to_z-of_z c.ranges.b) in
-    omega (arith, size-a, size-b)
-
-pub overflow_mul-d : goal.overflow_mul-d
-overflow_mul-d c =
-    let size-b : c.size-d.result ≡ nat_abs c.args.b =
-    c.size-d.ensures ∙ ap nat_abs (to_z-of_z c.ranges.b) in
-    omega (arith, size-b)
+returns-then-d-eq0 c = quotient_by_zero _ _ (sym (c.size-d.ensures ∙ ap nat_abs (to_z-of_z c.ranges.b)) ∙ c.if-d-eq0.true)
 
 pub returns : goal.returns
 returns c =
-    let size-a : c.size-n.result ≡ nat_abs c.args.a =
-    c.size-n.ensures ∙ ap nat_abs (to_z-of_z c.ranges.a) in
-    let size-b : c.size-d.result ≡ nat_abs c.args.b =
-    c.size-d.ensures ∙ ap nat_abs (to_z-of_z c.ranges.b) in
-    let n = size-a in
-    let d = size-b in
+    let n = c.size-n.ensures ∙ ap nat_abs (to_z-of_z c.ranges.a) in
+    let d = c.size-d.ensures ∙ ap nat_abs (to_z-of_z c.ranges.b) in
     let minus = c.negative_product.ensures ∙ (λ i. is_neg (to_z-of_z c.ranges.a i *ℤ to_z-of_z c.ranges.b i)) in
     c.kept.ensures
     ∙ (λ i. kept_of (signed (minus i) ((2 * (n i * 1000000) + d i) / (2 * d i))))

@@ -2,14 +2,9 @@
 use mir.Facts.{to_z-of_z}
 use mathlib.Core.Path.{ap, ◌∙◌}
 use lib.IntN.{nat_abs}
-use Rattle.reckon.specs.Thermal.{thermal_fits}
 use native.Mathlib.Omega.{arith}
 use Rattle.reckon.proofs.thermal_fits.Goals as goal
 
 pub gap_fits-requires : goal.gap_fits-requires
 gap_fits-requires c =
     let e = c.size.ensures ∙ ap nat_abs (to_z-of_z c.ranges.gap) in omega (arith, c.requires)
-
-pub returns : goal.returns
-unfolding thermal_fits
-returns c = let f = c.ranges in cc (to_z-of_z f.outer, to_z-of_z f.inner, to_z-of_z f.gap)

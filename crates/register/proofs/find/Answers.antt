@@ -1,3 +1,4 @@
+use Rattle.std.specs.Prelude.{Err}
 use Prim.Native.Nat.{◌/◌, ◌^◌, ◌<◌}
 use mathlib.Core.Path.{◌≡◌, sym, ap, ◌∙◌}
 use mathlib.Core.Bool.{false, true}
@@ -8,7 +9,6 @@ use lib.Pow.{shr-shr}
 use lib.Seq.{slice}
 use Rattle.base.specs.Bytes.{same_bytes}
 use Rattle.base.proofs.Lists.{same_is}
-use Rattle.index.specs.declared.Search.TheVariants.{Free}
 use Rattle.index.specs.First.{first_of}
 use Rattle.index.specs.Tree.{is_high, link_word, next, last_link}
 use Rattle.index.specs.Names.{name_of, key_of, named}
@@ -25,7 +25,7 @@ unfolding named first_of last_link search_of record_of
 returns-then-used-eq0 c =
     let A = c.args in
     let k = key_of (slice A.from A.to A.file.now) in
-    (rw c.if-used-eq0.true (ap (λ h. Free (link_word 0 h)) (c.name_bit-high.ensures ∙ ap is_high (div-one k))), omega arith)
+    (rw c.if-used-eq0.true (ap (λ h. Err (link_word 0 h)) (c.name_bit-high.ensures ∙ ap is_high (div-one k))), omega arith)
 
 pub loop-next-init : goal.loop-next-init
 loop-next-init c =
@@ -56,7 +56,7 @@ returns-then-next-eq0 c =
     let t = c.requires.0.tree in
     let k = c.loop-next.invariant in
     let z = sym onto ∙ c.if-next-eq0.true in
-    (ap Free (ap (link_word c.loop-next.at) k.leading ∙ seek_end t k.seeking other z) ∙ sym (seek_none t k.seeking other _ z), omega (arith, k.seeking.standing))
+    (ap Err (ap (link_word c.loop-next.at) k.leading ∙ seek_end t k.seeking other z) ∙ sym (seek_none t k.seeking other _ z), omega (arith, k.seeking.standing))
 
 pub overflow_add-d : goal.overflow_add-d
 overflow_add-d c =

@@ -11,13 +11,13 @@ returns-then-set-eq0 c = judged_first _ _ _ _ _ _ c.if-set-eq0.true
 pub returns-then-either : goal.returns-then-either
 returns-then-either c = judged_walk _ _ _ _ _ _ c.if-set-eq0.false (sym c.either.ensures ∙ c.if-either.true) c.first_at.ensures
 
-pub returns-in-Unknown : goal.returns-in-Unknown
+pub returns-in-None : goal.returns-in-None
 unfolding by_look
-returns-in-Unknown c =
-    sym (ap (by_look _ _) c.in-Unknown.is)
+returns-in-None c =
+    sym (ap (by_look _ _) c.in-None.is)
     ∙ judged_look _ _ _ _ _ _ c.if-set-eq0.false (sym c.either.ensures ∙ c.if-either.false)
 
-pub returns-in-At : goal.returns-in-At
+pub returns-in-Some : goal.returns-in-Some
 unfolding by_look
-returns-in-At c =
-    sym (ap (by_look _ _) c.in-At.is) ∙ judged_look _ _ _ _ _ _ c.if-set-eq0.false (sym c.either.ensures ∙ c.if-either.false)
+returns-in-Some c =
+    sym (ap (by_look _ _) c.in-Some.is) ∙ judged_look _ _ _ _ _ _ c.if-set-eq0.false (sym c.either.ensures ∙ c.if-either.false)

@@ -55,7 +55,7 @@ returns-in-Fault-struck c =
     sym c.turn_at-t.ensures ∙ c.in-More.is in
     let o = c.operation-struck.ensures in (
       longs _ _ _ c.loop-f.invariant.long (longer _ _ _ _ _ _ _ _ _ o.0 refl refl refl),
-      stroke_refuses _ _ _ (lent_of _ _ _ _ _) _ _ _ _ _ c.loop-f.invariant more c.operation-struck.new.e c.code_fault-fault.ensures refl c.behind_code-p.ensures o.1 c.in-Fault-struck.is,
+      rw c.from.ensures (stroke_refuses _ _ _ (lent_of _ _ _ _ _) _ _ _ _ _ c.loop-f.invariant more c.operation-struck.new.e c.code_fault-fault.ensures refl c.behind_code-p.ensures o.1 c.in-Fault-struck.is),
     )
 
 pub loop-f-smaller-in-Next : goal.loop-f-smaller-in-Next
@@ -111,16 +111,16 @@ step-r-requires-in-Other c =
     c.behind_code-p.ensures c.operation-struck.ensures.1 c.in-Other.is) in
     record { known = known _ _ _ _ _ _ _ _ _ still.1; sound = sound_more _ _ _ _ _ _ _ _ _ still.1 more; command_value = still.0 }
 
-pub returns-in-Fault-r : goal.returns-in-Fault-r
+pub returns-in-Err : goal.returns-in-Err
 unfolding lent_of with_entries Comes Ends
-returns-in-Fault-r c =
+returns-in-Err c =
     let more : turn_of c.args.book c.loop-f.format c.args.file.now c.loop-f.at ≡ turn.More c.in-More.command c.in-More.carried c.in-More.next =
     sym c.turn_at-t.ensures ∙ c.in-More.is in
     let still = (stroke_none _ _ _ (lent_of _ _ _ _ _) _ _ _ _ _ c.loop-f.invariant more c.operation-struck.new.e c.code_fault-fault.ensures refl
     c.behind_code-p.ensures c.operation-struck.ensures.1 c.in-Other.is) in
     let s = c.step-r-in-Other.ensures in (
       longs _ _ _ still.1.long (longer _ _ _ _ _ _ _ _ _ s.0 s.1 s.2 s.3),
-      runs_refuses _ _ _ _ _ _ _ _ _ still.1 more _ c.requires.looked (sym c.judge-j.ensures ∙ c.in-Told.is) _ _ s.4 c.in-Fault-r.is,
+      rw c.from-in-Err.ensures (runs_refuses _ _ _ _ _ _ _ _ _ still.1 more _ c.requires.looked (sym c.judge-j.ensures ∙ c.in-Some.is) _ _ s.4 c.in-Err.is),
     )
 
 pub loop-f-smaller : goal.loop-f-smaller
@@ -139,4 +139,4 @@ loop-f-preserved c =
     c.behind_code-p.ensures c.operation-struck.ensures.1 c.in-Other.is) in
     let s = c.step-r-in-Other.ensures in
     rw c.rounded_of.ensures
-    (runs_goes _ _ _ _ _ _ _ _ _ still.1 more _ c.requires.looked (sym c.judge-j.ensures ∙ c.in-Told.is) _ _ s.4 refl (longer _ _ _ _ _ _ _ _ _ s.0 s.1 s.2 s.3) c.in-Next-r.is)
+    (runs_goes _ _ _ _ _ _ _ _ _ still.1 more _ c.requires.looked (sym c.judge-j.ensures ∙ c.in-Some.is) _ _ s.4 refl (longer _ _ _ _ _ _ _ _ _ s.0 s.1 s.2 s.3) c.in-Ok.is)

@@ -1,10 +1,7 @@
 -- `scan::leap` meets its contract: where it goes on, by `leap_same`; else nothing has changed.
 -- Assumes nothing.
 use mathlib.Core.Path.{sym, ◌∙◌}
-use mathlib.Core.Bool.{true}
 use native.Mathlib.Omega.{arith}
-use Rattle.base.specs.And.{◌and◌}
-use Rattle.base.proofs.And.{and_l, and_r}
 use Rattle.fields.proofs.Macros.{only_over}
 use Rattle.scan.proofs.Leaps.{leap_same, leap_inside}
 use Rattle.scan.proofs.Printable.{end_low}
@@ -20,15 +17,14 @@ bounds-file-to c =
 pub returns-then-at-to : goal.returns-then-at-to
 returns-then-at-to c =
     let h = c.if-at-to.true in
-    let both = sym c.both.ensures ∙ c.if-both.true in
     record {
       on = omega arith;
       same =
           λ book place.
-          rw c.to_stand-stand.ensures
+          rw c.to_stand.ensures
           (leap_same book _ place _
-          (sym c.is_whole.ensures ∙ and_l _ _ both)
-          (only_over _ (sym c.is_over.ensures ∙ and_r _ _ both))
+          (sym c.is_whole.ensures ∙ c.if-is_whole.true)
+          (only_over _ (sym c.is_over.ensures ∙ c.if-is_over.true))
           _ _
           (rw c.end_of.ensures at (sym c.printable_to-to.ensures))
           h);

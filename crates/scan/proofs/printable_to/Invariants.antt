@@ -1,13 +1,13 @@
 -- `scan::printable_to` meets its contract. The loop's invariant: the first such place from here on is the first from the start.
 -- Assumes nothing.
-use Prim.Native.Nat.{◌-◌}
+use Prim.Native.Nat.{◌≤◌, max}
 use mathlib.Core.Path.{◌≡◌}
 use lib.ListN.{length}
 use Rattle.scan.specs.Printable.{printable_to}
 use Rattle.scan.proofs.printable_to.Given as goal
 
 abbrev pub invariant-loop-at : goal.invariant-loop-at
-invariant-loop-at l = printable_to l.end l.file l.at ≡ printable_to l.end l.file l.from
-
-abbrev pub decreases-loop-at : goal.decreases-loop-at
-decreases-loop-at l = length l.file - l.at
+invariant-loop-at l = record {
+  same : printable_to l.end l.file l.at ≡ printable_to l.end l.file l.from;
+  near : l.at ≤ max l.from (length l.file);
+}

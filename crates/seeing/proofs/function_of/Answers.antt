@@ -7,16 +7,16 @@ use Rattle.noting.specs.Holds.{word_at, role_number}
 use Rattle.seeing.proofs.function_of.Goals as goal
 
 pub overflow_mul-i : goal.overflow_mul-i
-overflow_mul-i c = let f = number_found _ _ _ (sym c.search_number-found.ensures ∙ c.in-At.is) in let i = c.requires.tree.inside in let g = f.0 in omega arith
+overflow_mul-i c = let f = number_found _ _ _ (sym c.search_number-found.ensures ∙ c.in-Ok.is) in let i = c.requires.tree.inside in let g = f.0 in omega arith
 
 pub overflow_add-i : goal.overflow_add-i
-overflow_add-i c = let f = number_found _ _ _ (sym c.search_number-found.ensures ∙ c.in-At.is) in let i = c.requires.tree.inside in let g = f.0 in omega arith
+overflow_add-i c = let f = number_found _ _ _ (sym c.search_number-found.ensures ∙ c.in-Ok.is) in let i = c.requires.tree.inside in let g = f.0 in omega arith
 
-pub returns-in-At : goal.returns-in-At
+pub returns-in-Ok : goal.returns-in-Ok
 unfolding role_number word_at
-returns-in-At c =
-    c.word_at.ensures ∙ sym (ap (word_at c.args.roles.now) (sym c.search_number-found.ensures ∙ c.in-At.is))
+returns-in-Ok c =
+    c.word_at.ensures ∙ sym (ap (word_at c.args.roles.now) (sym c.search_number-found.ensures ∙ c.in-Ok.is))
 
-pub returns-in-Free : goal.returns-in-Free
+pub returns-in-Err : goal.returns-in-Err
 unfolding role_number word_at
-returns-in-Free c = sym (ap (word_at c.args.roles.now) (sym c.search_number-found.ensures ∙ c.in-Free.is))
+returns-in-Err c = sym (ap (word_at c.args.roles.now) (sym c.search_number-found.ensures ∙ c.in-Err.is))

@@ -20,7 +20,7 @@ overflow_add-at c =
     let p = c.primitive_at-p.ensures.0 in
     (λ i. (p i).first + (p i).count) ∙ behind_is c.args.numbers.now c.loop-at.at in
     let moves : let p = c.primitive_at-p.result in (c.loop-at.at + 1 ≤ p.first + p.count) × (p.first + p.count ≤ c.args.end) =
-    let w = stands_within c.args.numbers.now c.args.end c.loop-at.at (sym c.stands.ensures ∙ c.if-stands.true) in
+    let w = stands_within c.args.numbers.now c.args.end c.loop-at.at (sym c.stands.ensures ∙ c.if-not-stands.false) in
     let e = next in
     (omega arith, omega arith) in
     omega (arith, moves)
@@ -34,7 +34,7 @@ loop-at-smaller c =
     let p = c.primitive_at-p.ensures.0 in
     (λ i. (p i).first + (p i).count) ∙ behind_is c.args.numbers.now c.loop-at.at in
     let moves : let p = c.primitive_at-p.result in (c.loop-at.at + 1 ≤ p.first + p.count) × (p.first + p.count ≤ c.args.end) =
-    let w = stands_within c.args.numbers.now c.args.end c.loop-at.at (sym c.stands.ensures ∙ c.if-stands.true) in
+    let w = stands_within c.args.numbers.now c.args.end c.loop-at.at (sym c.stands.ensures ∙ c.if-not-stands.false) in
     let e = next in
     (omega arith, omega arith) in
     omega (arith, moves, c.loop-at-test.true)
@@ -45,13 +45,13 @@ loop-at-preserved c =
     let p = c.primitive_at-p.ensures.0 in
     (λ i. (p i).first + (p i).count) ∙ behind_is c.args.numbers.now c.loop-at.at in
     let moves : let p = c.primitive_at-p.result in (c.loop-at.at + 1 ≤ p.first + p.count) × (p.first + p.count ≤ c.args.end) =
-    let w = stands_within c.args.numbers.now c.args.end c.loop-at.at (sym c.stands.ensures ∙ c.if-stands.true) in
+    let w = stands_within c.args.numbers.now c.args.end c.loop-at.at (sym c.stands.ensures ∙ c.if-not-stands.false) in
     let e = next in
     (omega arith, omega arith) in
-    let a = c.args in let l = c.loop-at in (omega (arith, moves), omega (arith, moves, l.invariant.1), rw next (sym (count_on a.numbers.now a.end l.k l.at c.loop-at-test.true (sym c.stands.ensures ∙ c.if-stands.true)) ∙ l.invariant.2))
+    let a = c.args in let l = c.loop-at in (omega (arith, moves), omega (arith, moves, l.invariant.1), rw next (sym (count_on a.numbers.now a.end l.k l.at c.loop-at-test.true (sym c.stands.ensures ∙ c.if-not-stands.false)) ∙ l.invariant.2))
 
-pub returns-else-stands : goal.returns-else-stands
-returns-else-stands c = let a = c.args in let l = c.loop-at in sym (count_broken a.numbers.now a.end l.k l.at c.loop-at-test.true (sym c.stands.ensures ∙ c.if-stands.false)) ∙ l.invariant.2
+pub returns-then-not-stands : goal.returns-then-not-stands
+returns-then-not-stands c = let a = c.args in let l = c.loop-at in sym (count_broken a.numbers.now a.end l.k l.at c.loop-at-test.true (sym c.stands.ensures ∙ c.if-not-stands.true)) ∙ l.invariant.2
 
 pub returns : goal.returns
 returns c = let a = c.args in let l = c.loop-at in sym (count_ends a.numbers.now a.end l.k l.at c.loop-at-test.false) ∙ l.invariant.2

@@ -44,14 +44,6 @@ overflow_add-at c =
     whole_on _ _ _ c.if-at-end.false c.loop-j.invariant.3 in
     omega (arith, next, on.ordered)
 
-pub overflow_add-j : goal.overflow_add-j
-overflow_add-j c =
-    omega (arith, c.loop-j-test.true)
-
-pub loop-j-smaller : goal.loop-j-smaller
-loop-j-smaller c =
-    omega (arith, c.loop-j-test.true)
-
 pub loop-j-preserved : goal.loop-j-preserved
 loop-j-preserved c =
     let next : let p = c.primitive_at-p.result in

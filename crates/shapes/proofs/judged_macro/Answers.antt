@@ -4,10 +4,10 @@ use Rattle.shapes.specs.Shapes.{judged_macro}
 use mathlib.Core.Path.{sym, ◌∙◌}
 use Rattle.shapes.proofs.judged_macro.Goals as goal
 
-pub returns-in-Is : goal.returns-in-Is
+pub returns-in-Some : goal.returns-in-Some
 unfolding judged_macro
-returns-in-Is c = rw (sym (rw (c.index-count.ensures, c.index-first.ensures) at c.count_of-k.ensures) ∙ c.in-Is.is, c.index-count.ensures, c.index-first.ensures)
+returns-in-Some c = rw (sym (rw (c.index-count.ensures, c.index-first.ensures) at c.count_of.ensures) ∙ c.in-Some.is, c.index-count.ensures, c.index-first.ensures)
 
-pub returns-in-Broken : goal.returns-in-Broken
+pub returns-in-None : goal.returns-in-None
 unfolding judged_macro
-returns-in-Broken c = rw (sym (rw (c.index-count.ensures, c.index-first.ensures) at c.count_of-k.ensures) ∙ c.in-Broken.is)
+returns-in-None c = rw (sym (rw (c.index-count.ensures, c.index-first.ensures) at c.count_of.ensures) ∙ c.in-None.is)

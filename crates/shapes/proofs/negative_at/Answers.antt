@@ -4,6 +4,6 @@ use lib.ListN.{get_or-eq_default}
 use lib.IntN.{pos}
 use Rattle.shapes.proofs.negative_at.Goals as goal
 
-pub returns : goal.returns
+pub returns-else-i-numbers : goal.returns-else-i-numbers
 unfolding is_neg
-returns c = rw (get_or-eq_default c.args.numbers.now (pos 0) c.if-i-numbers.false)
+returns-else-i-numbers c = rw (get_or-eq_default c.args.numbers.now (pos 0) c.if-i-numbers.false)

@@ -2,10 +2,8 @@
 -- Assumes nothing.
 use Rattle.shapes.specs.Links.{led_from, led}
 use mathlib.Core.Path.{◌≡◌}
+use Prim.Native.Nat.{◌-◌}
 use Rattle.shapes.proofs.search.Given as goal
 
-abbrev pub invariant-loop-steps : goal.invariant-loop-steps
-invariant-loop-steps l = led_from l.a l.used l.number l.steps l.at l.key ≡ led l.a l.used l.number
-
-abbrev pub decreases-loop-steps : goal.decreases-loop-steps
-decreases-loop-steps l = l.steps
+abbrev pub invariant-loop-step : goal.invariant-loop-step
+invariant-loop-step l = led_from l.a l.used l.number (32 - l.step) l.at l.key ≡ led l.a l.used l.number

@@ -8,23 +8,23 @@ use native.Mathlib.Omega.{arith}
 use mathlib.Core.Path.{refl, sym, ap, ◌∙◌}
 use Rattle.shapes.proofs.shape_at.Goals as goal
 
-pub aperture_at-requires : goal.aperture_at-requires
-aperture_at-requires c =
-    let a = c.args in let h = apertures_there a.head.now a.a.now a.numbers.now (sym c.store_ok.ensures ∙ c.if-store_ok.true) in omega (arith, c.index.ensures, c.if-b-head.true)
-
-pub judged-requires : goal.judged-requires
-judged-requires c =
-    let a = c.args in numbers_there a.head.now a.a.now a.numbers.now (sym c.store_ok.ensures ∙ c.if-store_ok.true)
+pub returns-then-not-store_ok : goal.returns-then-not-store_ok
+unfolding record_of
+returns-then-not-store_ok c = row_fails _ (sym c.store_ok.ensures ∙ c.if-not-store_ok.true) refl
 
 pub returns-then-b-head : goal.returns-then-b-head
 unfolding record_of
-returns-then-b-head c =
-    row_holds _ (sym c.store_ok.ensures ∙ c.if-store_ok.true) (row_holds _ (lt-ltb _ _ c.if-b-head.true) (c.judged.ensures ∙ ap (judged _ _) (rw c.index.ensures at c.aperture_at.ensures)))
+returns-then-b-head c = row_holds _ (sym c.store_ok.ensures ∙ c.if-not-store_ok.false) (row_fails _ (le-ltb _ _ c.if-b-head.true) refl)
 
-pub returns-then-store_ok : goal.returns-then-store_ok
-unfolding record_of
-returns-then-store_ok c = row_holds _ (sym c.store_ok.ensures ∙ c.if-store_ok.true) (row_fails _ (le-ltb _ _ c.if-b-head.false) refl)
+pub aperture_at-requires : goal.aperture_at-requires
+aperture_at-requires c =
+    let a = c.args in let h = apertures_there a.head.now a.a.now a.numbers.now (sym c.store_ok.ensures ∙ c.if-not-store_ok.false) in omega (arith, c.index.ensures, c.if-b-head.false)
+
+pub judged-requires : goal.judged-requires
+judged-requires c =
+    let a = c.args in numbers_there a.head.now a.a.now a.numbers.now (sym c.store_ok.ensures ∙ c.if-not-store_ok.false)
 
 pub returns : goal.returns
 unfolding record_of
-returns c = row_fails _ (sym c.store_ok.ensures ∙ c.if-store_ok.false) refl
+returns c =
+    row_holds _ (sym c.store_ok.ensures ∙ c.if-not-store_ok.false) (row_holds _ (lt-ltb _ _ c.if-b-head.false) (c.judged.ensures ∙ ap (judged _ _) (rw c.index.ensures at c.aperture_at.ensures)))

@@ -4,10 +4,8 @@ use Rattle.shapes.specs.Runs.{Whole}
 use Rattle.shapes.specs.Primitives.{primitives_in}
 use lib.ListN.{drop}
 use mathlib.Core.Path.{◌≡◌}
+use Prim.Native.Nat.{◌-◌}
 use Rattle.shapes.proofs.skip.Given as goal
 
-abbrev pub invariant-loop-left : goal.invariant-loop-left
-invariant-loop-left l = Whole l.numbers l.at l.end × (drop l.left (primitives_in l.numbers l.at l.end).list ≡ drop l.i (primitives_in l.numbers l.from l.end).list)
-
-abbrev pub decreases-loop-left : goal.decreases-loop-left
-decreases-loop-left l = l.left
+abbrev pub invariant-loop-j : goal.invariant-loop-j
+invariant-loop-j l = Whole l.numbers l.at l.end × (drop (l.i - l.j) (primitives_in l.numbers l.at l.end).list ≡ drop l.i (primitives_in l.numbers l.from l.end).list)

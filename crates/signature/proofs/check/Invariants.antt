@@ -4,8 +4,8 @@ use lib.ListN.{length}
 use Rattle.signature.proofs.Walking.{Walking}
 use Rattle.signature.proofs.check.Given as goal
 
-abbrev pub invariant-loop-kind : goal.invariant-loop-kind
-invariant-loop-kind l = Walking l.book l.file l.from l.at
+abbrev pub invariant-loop-place : goal.invariant-loop-place
+invariant-loop-place l = Walking l.book l.file l.from l.at
 
-abbrev pub decreases-loop-kind : goal.decreases-loop-kind
-decreases-loop-kind l = length l.file - l.at
+abbrev pub decreases-loop-place : goal.decreases-loop-place
+decreases-loop-place l = length l.file - l.at

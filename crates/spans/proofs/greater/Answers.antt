@@ -1,12 +1,10 @@
--- `spans::greater` meets its contract: the test is the one of `greatest`, of the numbers read back from their bits.
+-- `spans::greater` meets its contract: `max` of the library is `greatest`.
+use Rattle.std.proofs.Common.{arith}
+use Rattle.std.proofs.lemmas.Int.{ints}
 use mir.Facts.{to_z-of_z}
 use Rattle.spans.specs.Spans.{greatest}
 use Rattle.spans.proofs.greater.Goals as goal
 
-pub returns-then-a-b : goal.returns-then-a-b
+pub returns : goal.returns
 unfolding greatest
-returns-then-a-b c = let f = c.ranges in let t = rw (to_z-of_z f.a, to_z-of_z f.b) at c.if-a-b.true in rw (to_z-of_z f.b, t)
-
-pub returns-else-a-b : goal.returns-else-a-b
-unfolding greatest
-returns-else-a-b c = let f = c.ranges in let t = rw (to_z-of_z f.a, to_z-of_z f.b) at c.if-a-b.false in rw (to_z-of_z f.a, t)
+returns c = grind (arith, ints, to_z-of_z, c.max.ensures.value)

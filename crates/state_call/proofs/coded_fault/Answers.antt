@@ -2,7 +2,6 @@
 -- Assumes nothing.
 use mathlib.Core.Path.{ap, ◌∙◌}
 use Rattle.graphics.specs.declared.Graphics.{Graphics}
-use Rattle.changes.specs.After.{after_setting}
 use Rattle.faults.specs.Order.{sooner}
 use Rattle.state_call.specs.Stepped.{operation_fault, coded_fault}
 use Rattle.state_call.proofs.coded_fault.Goals as goal

@@ -9,14 +9,14 @@ pub operate-requires : goal.operate-requires
 operate-requires c =
     c.requires
 
-pub returns-in-Operation : goal.returns-in-Operation
+pub returns-in-Some : goal.returns-in-Some
 unfolding Operates
-returns-in-Operation c = (
+returns-in-Some c = (
   c.operate.ensures.0,
-  rw (sym c.held_in-held.ensures, c.in-Operation.is, c.joined.ensures)
+  rw (sym c.held_in-held.ensures, c.in-Some.is, c.joined.ensures)
       (λ w s q k. joined_strikes _ _ _ _ _ (c.operate.ensures.1 w s q k)),
 )
 
-pub returns-in-Nothing : goal.returns-in-Nothing
+pub returns-in-None : goal.returns-in-None
 unfolding Operates
-returns-in-Nothing c = (refl, rw (sym c.held_in-held.ensures, c.in-Nothing.is) (refl, refl))
+returns-in-None c = (refl, rw (sym c.held_in-held.ensures, c.in-None.is) (refl, refl))

@@ -1,4 +1,3 @@
-use Prim.Native.Nat.{◌-◌}
 use mathlib.Core.Path.{◌≡◌, refl, ◌∙◌}
 use native.Mathlib.Omega.{arith}
 use Rattle.summary.proofs.Put.{rows_none, rows_more}
@@ -16,12 +15,6 @@ kept_row-requires c = let w = c.requires.0 in let t = c.loop-b-test.true in omeg
 pub put_row-requires : goal.put_row-requires
 put_row-requires c =
     let i = c.loop-b.invariant in let w = c.requires.1 in let t = c.loop-b-test.true in omega arith
-
-pub overflow_add-b : goal.overflow_add-b
-overflow_add-b c = omega (arith, c.loop-b-test.true)
-
-pub loop-b-smaller : goal.loop-b-smaller
-loop-b-smaller c = omega (arith, c.loop-b-test.true)
 
 pub loop-b-preserved : goal.loop-b-preserved
 loop-b-preserved c =

@@ -4,8 +4,5 @@ use mathlib.Core.Path.{◌≡◌}
 use Rattle.summary.specs.Links.{leads_to, record_of}
 use Rattle.summary.proofs.record_of.Given as goal
 
-abbrev pub invariant-loop-steps : goal.invariant-loop-steps
-invariant-loop-steps l = leads_to l.a l.n l.steps l.at l.key l.number ≡ record_of l.a l.n l.number
-
-abbrev pub decreases-loop-steps : goal.decreases-loop-steps
-decreases-loop-steps l = l.steps
+abbrev pub invariant-loop-step : goal.invariant-loop-step
+invariant-loop-step l = leads_to l.a l.n (65 - l.step) l.at l.key l.number ≡ record_of l.a l.n l.number

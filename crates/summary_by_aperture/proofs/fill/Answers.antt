@@ -3,7 +3,6 @@ use Rattle.summary_by_aperture.proofs.Answers.{put_none, put_more, put_last, fit
 use Rattle.sheet.proofs.Sound.{rooms}
 use native.Mathlib.Omega.{arith}
 use mathlib.Core.Path.{◌≡◌, refl, ◌∙◌}
-use Prim.Native.Nat.{◌-◌}
 use Rattle.summary_by_aperture.proofs.fill.Goals as goal
 
 pub list_blocks-m-requires : goal.list_blocks-m-requires
@@ -27,12 +26,6 @@ overflow_mul-b c =
 pub put_row-requires : goal.put_row-requires
 put_row-requires c =
     let i = c.loop-b.invariant in let w = c.requires.1 in let t = c.loop-b-test.true in omega arith
-
-pub overflow_add-b : goal.overflow_add-b
-overflow_add-b c = omega (arith, c.loop-b-test.true)
-
-pub loop-b-smaller : goal.loop-b-smaller
-loop-b-smaller c = omega (arith, c.loop-b-test.true)
 
 pub loop-b-preserved : goal.loop-b-preserved
 unfolding aperture_row

@@ -5,11 +5,8 @@ use Rattle.sheet.specs.Containers.{apertures_used}
 use Rattle.sheet.specs.Meaning.{sheet_items}
 use lib.ListN.{length}
 use mathlib.Core.Path.{◌≡◌}
-use Prim.Native.Nat.{◌-◌, ◌≤◌}
+use Prim.Native.Nat.{◌≤◌}
 use Rattle.summary_by_aperture.proofs.fill.Given as goal
 
 abbrev pub invariant-loop-b : goal.invariant-loop-b
 invariant-loop-b l = (l.b ≤ l.n) × (l.n ≡ apertures_used l.head) × (length l.s ≡ length l.initial.s) × (length l.out ≡ length l.initial.out) × (l.out ≡ rows_put (sheet_items l.head l.e l.a) l.a (length l.initial.out) l.b) × Ready l.head l.e l.a l.s l.m
-
-abbrev pub decreases-loop-b : goal.decreases-loop-b
-decreases-loop-b l = l.n - l.b

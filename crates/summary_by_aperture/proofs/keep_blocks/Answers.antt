@@ -1,5 +1,4 @@
 use Rattle.summary_by_aperture.proofs.Listed.{listed_few}
-use Prim.Native.Nat.{◌-◌}
 use mathlib.Core.Path.{◌≡◌, refl, ◌∙◌}
 use native.Mathlib.Omega.{arith}
 use Rattle.sheet.proofs.Sound.{rooms}
@@ -19,12 +18,6 @@ overflow_add-n c =
 
 pub keep_block-requires : goal.keep_block-requires
 keep_block-requires c = let i = c.loop-i.invariant in let x = block_inside _ _ _ _ _ _ _ i.3 c.loop-i-test.true in let w = (rooms _ _ _ i.3.ready.fits.ok).1 in let u = i.3.ready.fits.room in rw (c.index-b.ensures, c.word_at.ensures, i.1) (omega (arith, x), omega (arith, x), block_run _ _ _ _ _ _ _ i.3 c.loop-i-test.true)
-
-pub overflow_add-i : goal.overflow_add-i
-overflow_add-i c = omega arith
-
-pub loop-i-smaller : goal.loop-i-smaller
-loop-i-smaller c = omega arith
 
 pub loop-i-preserved : goal.loop-i-preserved
 loop-i-preserved c =

@@ -4,5 +4,4 @@ use Rattle.summary_by_aperture.proofs.keep_row.Goals as goal
 
 pub returns : goal.returns
 unfolding kept_words row_words
-returns c =
-    rw (c.flag_word.ensures, c.has_points.ensures, c.low_word.ensures, c.low_word-2.ensures, c.high_word.ensures, c.high_word-2.ensures, c.corners_of-c.ensures) at c.put_words.ensures
+returns c = rw (c.row_words.ensures, c.flag_word-some.ensures, c.has_points.ensures) at c.put_words.ensures

@@ -1,4 +1,3 @@
-use Prim.Native.Nat.{◌-◌}
 use mathlib.Core.Path.{◌≡◌, refl, ◌∙◌}
 use native.Mathlib.Omega.{arith}
 use Rattle.summary_by_aperture.proofs.Listed.{listed_start}
@@ -9,12 +8,6 @@ loop-h-init c = (omega arith, refl, listed_start _ _ _)
 
 pub list_height-r-requires : goal.list_height-r-requires
 list_height-r-requires c = let w = c.requires in let i = c.loop-h.invariant in (w.0, rw i.1 w.1, i.2)
-
-pub overflow_add-h : goal.overflow_add-h
-overflow_add-h c = omega arith
-
-pub loop-h-smaller : goal.loop-h-smaller
-loop-h-smaller c = omega arith
 
 pub loop-h-preserved : goal.loop-h-preserved
 loop-h-preserved c = (omega arith, c.list_height-r.auto.s ∙ c.loop-h.invariant.1, c.list_height-r.ensures)

@@ -1,4 +1,3 @@
-use Prim.Native.Nat.{◌-◌}
 use mathlib.Core.Path.{◌≡◌, refl, ◌∙◌}
 use native.Mathlib.Omega.{arith}
 use Rattle.summary_by_aperture.proofs.Listed.{listed_more, listed_height, listed_few}
@@ -9,12 +8,6 @@ loop-b-init c = (omega arith, refl, c.requires.2)
 
 pub list_block-r-requires : goal.list_block-r-requires
 list_block-r-requires c = let w = c.requires in let i = c.loop-b.invariant in let t = c.loop-b-test.true in (omega arith, rw i.1 w.1, listed_few _ _ _ _ _ _ i.0 i.2)
-
-pub overflow_add-b : goal.overflow_add-b
-overflow_add-b c = omega arith
-
-pub loop-b-smaller : goal.loop-b-smaller
-loop-b-smaller c = omega arith
 
 pub loop-b-preserved : goal.loop-b-preserved
 loop-b-preserved c =

@@ -1,4 +1,3 @@
-use Prim.Native.Nat.{◌-◌}
 use mathlib.Core.Path.{◌≡◌, sym, ◌∙◌}
 use native.Mathlib.Omega.{arith}
 use Rattle.summary_by_aperture.specs.Walk.{run_row}
@@ -8,23 +7,11 @@ use Rattle.summary_by_aperture.proofs.run_row.Goals as goal
 pub loop-i-init : goal.loop-i-init
 loop-i-init c = (omega arith, c.no_row-so_far.ensures ∙ sym (merges_none _ _))
 
-pub overflow_add-first : goal.overflow_add-first
-overflow_add-first c = let w = c.requires.inside in omega arith
-
 pub is_idle-requires : goal.is_idle-requires
 is_idle-requires c = let w = c.requires.inside in omega arith
 
-pub overflow_add-i : goal.overflow_add-i
-overflow_add-i c = omega arith
-
-pub loop-i-smaller-then-is_idle : goal.loop-i-smaller-then-is_idle
-loop-i-smaller-then-is_idle c = omega arith
-
 pub loop-i-preserved-then-is_idle : goal.loop-i-preserved-then-is_idle
 loop-i-preserved-then-is_idle c = (omega arith, c.loop-i.invariant.1 ∙ merges_idle _ _ _ (idle_none _ _ _ (sym c.is_idle.ensures ∙ c.if-is_idle.true)))
-
-pub overflow_add-first-else-is_idle : goal.overflow_add-first-else-is_idle
-overflow_add-first-else-is_idle c = let w = c.requires.inside in omega arith
 
 pub entry_at-r-requires : goal.entry_at-r-requires
 entry_at-r-requires c = let w = c.requires.inside in omega arith
@@ -36,12 +23,6 @@ entry_row-requires c =
 pub merge-so_far-requires : goal.merge-so_far-requires
 merge-so_far-requires c =
     let w = c.requires.counts in (rw c.loop-i.invariant.1 (w.few c.loop-i.i c.loop-i.invariant.0), rw (c.entry_row.ensures, c.entry_at-r.ensures) (w.one_few c.loop-i.i c.loop-i-test.true))
-
-pub overflow_add-i-else-is_idle : goal.overflow_add-i-else-is_idle
-overflow_add-i-else-is_idle c = omega arith
-
-pub loop-i-smaller : goal.loop-i-smaller
-loop-i-smaller c = omega arith
 
 pub loop-i-preserved : goal.loop-i-preserved
 loop-i-preserved c =

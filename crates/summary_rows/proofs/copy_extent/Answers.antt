@@ -5,12 +5,12 @@ use Rattle.summary_rows.proofs.copy_extent.Goals as goal
 
 pub stretch_rect-requires : goal.stretch_rect-requires
 stretch_rect-requires c =
-    let w = c.requires in (over_near w.0 c.in-Over.is, w.1.across_in, w.1.up_in)
+    let w = c.requires in (over_near w.0 c.in-Some.is, w.1.across_in, w.1.up_in)
 
-pub returns-in-Nothing : goal.returns-in-Nothing
+pub returns-in-None : goal.returns-in-None
 unfolding copied_extent
-returns-in-Nothing c = rw c.in-Nothing.is
+returns-in-None c = rw c.in-None.is
 
-pub returns-in-Over : goal.returns-in-Over
+pub returns-in-Some : goal.returns-in-Some
 unfolding copied_extent
-returns-in-Over c = rw (c.in-Over.is, c.stretch_rect.ensures)
+returns-in-Some c = rw (c.in-Some.is, c.stretch_rect.ensures)

@@ -1,6 +1,6 @@
 -- `summary_rows::item_extent` meets its contract: the tests tell a contour, a flash and the rest.
+use Rattle.std.specs.Prelude.{Some}
 use Rattle.spans.specs.Spans.{join_rect}
-use Rattle.summary_rows.specs.declared.Extent.TheVariants.{Over}
 use mathlib.Core.Path.{◌∙◌, ap, sym}
 use Rattle.summary_rows.specs.Summed.{extent_of, points_of}
 use Rattle.summary_rows.specs.Rows.{joined}
@@ -20,4 +20,4 @@ returns-then-k-eq4 c = let t = c.if-k-eq4.true in let f = c.if-k-eq5.false in si
 pub returns : goal.returns
 unfolding extent_of points_of has_start has_end joined
 returns c = let t = c.if-k-eq4.false in let f = c.if-k-eq5.false in
-    simp (tests, t, f) (ap Over (c.join_rect.ensures ∙ (λ i. join_rect (c.rect_at-2.ensures i) (c.rect_at-3.ensures i))))
+    simp (tests, t, f) (ap Some (c.join_rect.ensures ∙ (λ i. join_rect (c.rect_at-2.ensures i) (c.rect_at-3.ensures i))))

@@ -2,14 +2,14 @@
 use Rattle.summary_rows.specs.Rows.{joined}
 use Rattle.summary_rows.proofs.join_extent.Goals as goal
 
-pub returns-in-Nothing : goal.returns-in-Nothing
+pub returns-in-None : goal.returns-in-None
 unfolding joined
-returns-in-Nothing c = rw c.in-Nothing.is
+returns-in-None c = rw c.in-None.is
 
-pub returns-in-Nothing-y : goal.returns-in-Nothing-y
+pub returns-in-None-y : goal.returns-in-None-y
 unfolding joined
-returns-in-Nothing-y c = rw (c.in-Over.is, c.in-Nothing-y.is)
+returns-in-None-y c = rw (c.in-Some.is, c.in-None-y.is)
 
-pub returns-in-Over-y : goal.returns-in-Over-y
+pub returns-in-Some-y : goal.returns-in-Some-y
 unfolding joined
-returns-in-Over-y c = rw (c.in-Over.is, c.in-Over-y.is, c.join_rect.ensures)
+returns-in-Some-y c = rw (c.in-Some.is, c.in-Some-y.is, c.join_rect.ensures)

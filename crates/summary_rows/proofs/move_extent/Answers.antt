@@ -4,12 +4,12 @@ use Rattle.summary_rows.proofs.Rows.{over_near}
 use Rattle.summary_rows.proofs.move_extent.Goals as goal
 
 pub move_rect-requires : goal.move_rect-requires
-move_rect-requires c = (c.requires.0, over_near c.requires.1 c.in-Over.is)
+move_rect-requires c = (c.requires.0, over_near c.requires.1 c.in-Some.is)
 
-pub returns-in-Nothing : goal.returns-in-Nothing
+pub returns-in-None : goal.returns-in-None
 unfolding moved_extent
-returns-in-Nothing c = rw c.in-Nothing.is
+returns-in-None c = rw c.in-None.is
 
-pub returns-in-Over : goal.returns-in-Over
+pub returns-in-Some : goal.returns-in-Some
 unfolding moved_extent
-returns-in-Over c = rw (c.in-Over.is, c.move_rect.ensures)
+returns-in-Some c = rw (c.in-Some.is, c.move_rect.ensures)

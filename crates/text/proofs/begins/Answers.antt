@@ -1,6 +1,7 @@
--- `text::begins` meets its contract: `is` compares what `up_to` answers.
--- Assumes nothing.
+-- `text::begins` meets its contract: the library compares w with the first bytes, the other way round.
+use mathlib.Core.Path.{◌∙◌}
+use Rattle.base.proofs.Lists.{same_pointwise, same_swapped}
 use Rattle.text.proofs.begins.Goals as goal
 
 pub returns : goal.returns
-returns c = cc
+returns c = c.starts_with.ensures.value ∙ same_pointwise _ _ ∙ same_swapped _ _

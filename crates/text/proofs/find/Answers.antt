@@ -1,24 +1,14 @@
-use Rattle.text.proofs.First.{first_at_lem, first_end}
-use borrow.Author.Tests.{eq-eqb, ne_eqb}
-use native.Mathlib.Omega.{arith}
-use mathlib.Core.Path.{sym, ◌∙◌}
-use Prim.Native.Nat.{◌-◌}
+-- `text::find` meets its contract: the place in the rest that `position` finds, counted from the start.
+use lib.Dec.{eqb}
+use Prim.Native.Nat.{ℕ}
+use Rattle.std.proofs.Common.{rules}
+use Rattle.std.proofs.lemmas.Iterator.{YieldsList-from_slice}
+use Rattle.std.proofs.lemmas.Iterator.Search.{position_from_yields_List}
+use Rattle.text.proofs.First.{first_found}
 use Rattle.text.proofs.find.Goals as goal
 
-pub bounds-s-at : goal.bounds-s-at
-bounds-s-at c = omega arith
-
-pub returns-then-s-at : goal.returns-then-s-at
-returns-then-s-at c = sym (first_at_lem _ _ _ c.loop-at-test.true (eq-eqb _ _ c.if-s-at.true)) ∙ c.loop-at.invariant
-
-pub overflow_add-at : goal.overflow_add-at
-overflow_add-at c = omega arith
-
-pub loop-at-smaller : goal.loop-at-smaller
-loop-at-smaller c = omega arith
-
-pub loop-at-preserved : goal.loop-at-preserved
-loop-at-preserved c = sym (first_at_lem _ _ _ c.loop-at-test.true (ne_eqb _ _ c.if-s-at.false)) ∙ c.loop-at.invariant
-
 pub returns : goal.returns
-returns c = sym (first_end _ _ _ c.loop-at-test.false) ∙ c.loop-at.invariant
+returns c =
+    let test = λ (x : ℕ). eqb x c.args.b in
+    let found = position_from_yields_List test _ _ _ c.position.ensures.ran (YieldsList-from_slice c.from_on-rest.result.now cc) (λ x b q k. search rules) in
+    first_found test c.args.s.now c.args.from c.from_on-rest.ensures found c.unwrap_or.ensures

@@ -1,24 +1,15 @@
-use Rattle.text.proofs.First.{first_at_lem, first_end}
-use native.Mathlib.Omega.{arith}
-use mathlib.Core.Path.{sym, ◌∙◌, ap}
+-- `text::past_breaks` meets its contract: the place in the rest that `position` finds, counted from the start.
 use mathlib.Core.Bool.{not}
-use Prim.Native.Nat.{◌-◌}
+use Prim.Native.Nat.{ℕ}
+use Rattle.std.proofs.Common.{rules}
+use Rattle.std.proofs.lemmas.Iterator.{YieldsList-from_slice}
+use Rattle.std.proofs.lemmas.Iterator.Search.{position_from_yields_List}
+use Rattle.base.specs.Breaks.{is_break}
+use Rattle.text.proofs.First.{first_found}
 use Rattle.text.proofs.past_breaks.Goals as goal
 
-pub bounds-s-at : goal.bounds-s-at
-bounds-s-at c = omega arith
-
-pub overflow_add-at : goal.overflow_add-at
-overflow_add-at c = omega arith
-
-pub loop-at-smaller : goal.loop-at-smaller
-loop-at-smaller c = omega arith
-
-pub loop-at-preserved : goal.loop-at-preserved
-loop-at-preserved c = sym (first_at_lem _ _ _ c.loop-at-test.true (ap not (sym c.is_break.ensures ∙ c.if-is_break.true))) ∙ c.loop-at.invariant
-
-pub returns-else-is_break : goal.returns-else-is_break
-returns-else-is_break c = sym (first_at_lem _ _ _ c.loop-at-test.true (ap not (sym c.is_break.ensures ∙ c.if-is_break.false))) ∙ c.loop-at.invariant
-
 pub returns : goal.returns
-returns c = sym (first_end _ _ _ c.loop-at-test.false) ∙ c.loop-at.invariant
+returns c =
+    let test = λ (x : ℕ). not (is_break x) in
+    let found = position_from_yields_List test _ _ _ c.position.ensures.ran (YieldsList-from_slice c.from_on-rest.result.now cc) (λ x b q k. search rules) in
+    first_found test c.args.s.now c.args.from c.from_on-rest.ensures found c.unwrap_or.ensures

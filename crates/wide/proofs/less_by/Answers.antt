@@ -1,32 +1,24 @@
--- `wide::less_by` meets its contract: two words are two digits in base 2 ^ 64, and the first lends where the second is too small.
+-- `wide::less_by` meets its contract: where the low word is too small it borrows from the high one, which is large enough.
 use Prim.Native.Nat.{◌<◌, ◌^◌}
 use native.Mathlib.Omega.{arith}
 use Rattle.product.specs.Wide.{number}
-use Rattle.wide.proofs.Words.{first_taken, first_lends, plainly, lent}
+use Rattle.wide.proofs.Words.{borrowed}
 use Rattle.wide.proofs.less_by.Goals as goal
-
-pub overflow_sub-hi : goal.overflow_sub-hi
-unfolding number
-overflow_sub-hi c =
-    let low : c.args.a.lo < 2 ^ 64 =
-    omega arith in
-    first_taken 18446744073709551615 c.args.a.hi _ c.args.a.lo _ c.requires low
 
 pub overflow_sub-result : goal.overflow_sub-result
 unfolding number
-overflow_sub-result c = let h = first_lends 18446744073709551615 c.args.a.hi c.args.b.hi _ _ c.requires c.if-lo-off.true in omega arith
+overflow_sub-result c = let low : c.args.a.lo < 2 ^ 64 = omega arith in omega (arith, c.requires)
 
-pub returns-then-lo-off : goal.returns-then-lo-off
+pub overflow_sub-result-2 : goal.overflow_sub-result-2
 unfolding number
-returns-then-lo-off c =
-    let low-off : c.args.b.lo < 2 ^ 64 =
-    omega arith in
-    let h = first_lends 18446744073709551615 c.args.a.hi c.args.b.hi _ _ c.requires c.if-lo-off.true in
-    lent 18446744073709551615 c.args.a.hi c.args.b.hi _ _ c.requires h c.if-lo-off.true low-off
+overflow_sub-result-2 c =
+    let o = c.overflowing_sub-lo in
+    let k = borrowed o.result.1 o.ensures.value o.ensures.overflow c.from.ensures (omega arith) (omega arith) in
+    omega (arith, k, c.requires)
 
 pub returns : goal.returns
 unfolding number
 returns c =
-    let low : c.args.a.lo < 2 ^ 64 =
-    omega arith in
-    plainly 18446744073709551615 c.args.a.hi c.args.b.hi _ _ c.requires (first_taken 18446744073709551615 c.args.a.hi _ c.args.a.lo _ c.requires low) c.if-lo-off.false
+    let o = c.overflowing_sub-lo in
+    let k = borrowed o.result.1 o.ensures.value o.ensures.overflow c.from.ensures (omega arith) (omega arith) in
+    omega (arith, k, c.requires)

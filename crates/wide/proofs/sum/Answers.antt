@@ -11,19 +11,19 @@ plus-requires c = record {
   b_bound = rw (size_is c.args.y) at c.requires.y_bound;
 }
 
-pub returns-then-minus-other : goal.returns-then-minus-other
-returns-then-minus-other c = sum_alike c.args.x c.args.y _ c.if-minus-other.true c.plus.ensures
+pub returns-then-x-y : goal.returns-then-x-y
+returns-then-x-y c = sum_alike c.args.x c.args.y _ c.if-x-y.true c.plus.ensures
 
 pub less_by-requires : goal.less_by-requires
 less_by-requires c = le_of_lt (ltb-true _ _ (sym c.less.ensures ∙ c.if-less.true))
 
 pub returns-then-less : goal.returns-then-less
 returns-then-less c =
-    sum_second c.args.x c.args.y _ c.if-minus-other.false (le_of_lt (ltb-true _ _ (sym c.less.ensures ∙ c.if-less.true))) c.less_by.ensures
+    sum_second c.args.x c.args.y _ c.if-x-y.false (le_of_lt (ltb-true _ _ (sym c.less.ensures ∙ c.if-less.true))) c.less_by.ensures
 
-pub less_by-requires-2 : goal.less_by-requires-2
-less_by-requires-2 c = ltb-false _ _ (sym c.less.ensures ∙ c.if-less.false)
+pub less_by-requires-else-less : goal.less_by-requires-else-less
+less_by-requires-else-less c = ltb-false _ _ (sym c.less.ensures ∙ c.if-less.false)
 
-pub returns : goal.returns
-returns c =
-    sum_first c.args.x c.args.y _ c.if-minus-other.false (ltb-false _ _ (sym c.less.ensures ∙ c.if-less.false)) c.less_by-2.ensures
+pub returns-else-less : goal.returns-else-less
+returns-else-less c =
+    sum_first c.args.x c.args.y _ c.if-x-y.false (ltb-false _ _ (sym c.less.ensures ∙ c.if-less.false)) c.less_by-else-less.ensures
