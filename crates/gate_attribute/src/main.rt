@@ -3,6 +3,7 @@
 #![tactic(auto)]
 
 use attribute_call::Kind;
+use output::Output;
 
 // Standard input, by its number.
 const STDIN_FILENO: i32 = 0;
@@ -38,11 +39,16 @@ fn everywhere(rt: &impl Print, file: &[u8], name: &str) -> std::io::Result<()> {
     Ok(())
 }
 
-fn main(rt: HostRuntime) -> std::io::Result<()> {
+fn run(rt: &impl Print) -> std::io::Result<()> {
     let mut room = io::large_buffer();
     let n = io::read_full(STDIN_FILENO, &mut room);
     for name in ["a", ".N", "a,b"] {
-        everywhere(&rt, &room[..n], name)?;
+        everywhere(rt, &room[..n], name)?;
     }
     Ok(())
+}
+
+// What cannot be written is lost, and nobody is told.
+fn main() {
+    let _ = run(&Output {});
 }

@@ -1,6 +1,7 @@
 // RFC 1321's test suite, section A.5. The file `stdout` is the RFC's own list of results, a line each.
 #![tactic(auto)]
 
+use output::Output;
 use std::io;
 
 const MESSAGES: [&str; 7] = [
@@ -20,10 +21,15 @@ fn line(rt: &impl Print, message: &str) -> io::Result<()> {
     println!(rt)
 }
 
-fn main(rt: HostRuntime) -> io::Result<()> {
+fn run(rt: &impl Print) -> io::Result<()> {
     println!(rt; "MD5 test suite:")?;
     for message in MESSAGES {
-        line(&rt, message)?;
+        line(rt, message)?;
     }
     Ok(())
+}
+
+// What cannot be written is lost, and nobody is told.
+fn main() {
+    let _ = run(&Output {});
 }

@@ -4,6 +4,7 @@
 
 mod table;
 
+use output::Output;
 use place::Item;
 use std::io;
 
@@ -41,7 +42,8 @@ fn run(rt: &impl Print, head: &[u64; 8], k: u64, m: usize) -> io::Result<()> {
     Ok(())
 }
 
-fn main(rt: HostRuntime) -> io::Result<()> {
+// All of them.
+fn runs(rt: &impl Print) -> io::Result<()> {
     let head = table::HEAD;
     let mut spoilt = table::HEAD;
     spoilt[1] = 3;
@@ -56,7 +58,12 @@ fn main(rt: HostRuntime) -> io::Result<()> {
         (13, 2),
     ];
     for (k, m) in asked {
-        run(&rt, &head, k, m)?;
+        run(rt, &head, k, m)?;
     }
-    run(&rt, &spoilt, 0, 2)
+    run(rt, &spoilt, 0, 2)
+}
+
+// What cannot be written is lost, and nobody is told.
+fn main() {
+    let _ = runs(&Output {});
 }

@@ -6,6 +6,7 @@
 use book::{Book, Edition, Letters};
 use formats::Format;
 use graphics::{Graphics, Level, Selected};
+use output::Output;
 use points::Point;
 use scan::{Kind, Scan};
 use state_call::{Known, ParameterError};
@@ -235,11 +236,16 @@ const FILM: [(&str, &str); 4] = [
     ("%MIA1B0*%M2*", ".."),
 ];
 
-fn main(rt: HostRuntime) -> io::Result<()> {
+fn run(rt: &impl Print) -> io::Result<()> {
     let film = Book {
         edition: Edition::Old,
         letters: Letters::Old,
     };
-    texts(&rt, book::ascii(), false, &SHEET)?;
-    texts(&rt, film, true, &FILM)
+    texts(rt, book::ascii(), false, &SHEET)?;
+    texts(rt, film, true, &FILM)
+}
+
+// What cannot be written is lost, and nobody is told.
+fn main() {
+    let _ = run(&Output {});
 }

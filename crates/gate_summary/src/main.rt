@@ -5,6 +5,7 @@
 
 ghost use Rattle.std.specs.Prelude.{◌≡◌, length};
 
+use output::Output;
 use sheet::Entry;
 use std::io;
 use summary_by_aperture::SummaryError;
@@ -235,13 +236,18 @@ fn few_rows(rt: &impl Print, head: &[u64; 8], e: &[u64; 615], a: &[u64; 72]) -> 
     println!(rt; "{}", rows[48].cast_signed())
 }
 
-fn main(rt: HostRuntime) -> io::Result<()> {
+fn run(rt: &impl Print) -> io::Result<()> {
     let head = [MARK, 1, 41, 9, 0, 0, 9, 1000000000000];
     let none = [0; 8];
     let e = entries();
     let a = apertures();
-    ask(&rt, &head, &e, &a, &mut [7; 72])?;
-    few_rows(&rt, &head, &e, &a)?;
-    ask(&rt, &head, &e, &a, &mut [7; 71])?;
-    ask(&rt, &none, &e, &a, &mut [7; 72])
+    ask(rt, &head, &e, &a, &mut [7; 72])?;
+    few_rows(rt, &head, &e, &a)?;
+    ask(rt, &head, &e, &a, &mut [7; 71])?;
+    ask(rt, &none, &e, &a, &mut [7; 72])
+}
+
+// What cannot be written is lost, and nobody is told.
+fn main() {
+    let _ = run(&Output {});
 }

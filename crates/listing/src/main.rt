@@ -1,6 +1,7 @@
 // The listing of the file on standard input (01, The listing, whole): how many items it has and a line for each, or the refusal.
 #![tactic(auto)]
 
+use output::Output;
 use sequence::Refusal;
 
 // Standard input, by its number.
@@ -9,37 +10,6 @@ const STDIN_FILENO: i32 = 0;
 // There is a byte more.
 fn is_more() -> bool {
     io::read_full(STDIN_FILENO, &mut [0]) > 0
-}
-
-// Reads the file by the old rule of letters, in the room of decision 266: how many items its sheet has, or the refusal.
-fn read(
-    head: &mut [u64; 8],
-    entries: &mut [u64; 245760],
-    apertures: &mut [u64; 65536],
-) -> Result<u64, Refusal> {
-    let mut room = io::large_buffer();
-    let mut macros = [0; 65536];
-    let mut numbers = [0; 131072];
-    let n = io::read_full(STDIN_FILENO, &mut room);
-    if is_more() {
-        return Err(Refusal {
-            number: 1,
-            place: 0,
-        });
-    }
-    reader::read_as(
-        book::ascii(),
-        &room[..n],
-        head,
-        entries,
-        apertures,
-        &mut macros,
-        &mut numbers,
-    )?;
-    descend::sheet_total(head, entries, apertures).ok_or(Refusal {
-        number: 21,
-        place: 0,
-    })
 }
 
 // The line of item k.
@@ -68,15 +38,59 @@ fn print_items(
     Ok(())
 }
 
-fn main(rt: HostRuntime) -> std::io::Result<()> {
+fn refuse(rt: &impl Print, refusal: Refusal) -> std::io::Result<()> {
+    println!(rt; "refused\t{}\t{}", refusal.number, refusal.place)
+}
+
+// Reads and lists a file by the old rule of letters, in the room of decision 266.
+fn list(rt: &impl Print, file: &[u8]) -> std::io::Result<()> {
     let mut head = [0; 8];
     let mut entries = [0; 245760];
     let mut apertures = [0; 65536];
-    match read(&mut head, &mut entries, &mut apertures) {
-        Ok(total) => {
-            println!(rt; "items\t{total}")?;
-            print_items(&rt, &head, &entries, &apertures, total)
-        }
-        Err(Refusal { number, place }) => println!(rt; "refused\t{number}\t{place}"),
+    let mut macros = [0; 65536];
+    let mut numbers = [0; 131072];
+    let read = reader::read_as(
+        book::ascii(),
+        file,
+        &mut head,
+        &mut entries,
+        &mut apertures,
+        &mut macros,
+        &mut numbers,
+    );
+    if let Err(refusal) = read {
+        return refuse(rt, refusal);
     }
+    let Some(total) = descend::sheet_total(&head, &entries, &apertures) else {
+        return refuse(
+            rt,
+            Refusal {
+                number: 21,
+                place: 0,
+            },
+        );
+    };
+    println!(rt; "items\t{total}")?;
+    print_items(rt, &head, &entries, &apertures, total)
+}
+
+// Lists the file on standard input; the room for it is made only where it is not too long.
+fn run(rt: &impl Print) -> std::io::Result<()> {
+    let mut room = io::large_buffer();
+    let n = io::read_full(STDIN_FILENO, &mut room);
+    if is_more() {
+        return refuse(
+            rt,
+            Refusal {
+                number: 1,
+                place: 0,
+            },
+        );
+    }
+    list(rt, &room[..n])
+}
+
+// What cannot be written is lost, and nobody is told.
+fn main() {
+    let _ = run(&Output {});
 }

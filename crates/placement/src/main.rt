@@ -3,7 +3,7 @@
 
 ghost use Rattle.std.specs.Prelude.{◌≡◌, length};
 
-use placement_list::Answer;
+use output::Output;
 
 // Standard input, by its number.
 const STDIN_FILENO: i32 = 0;
@@ -20,10 +20,13 @@ fn out_room() -> [u8; 524288]
     [0; 524288]
 }
 
-// Lists the file by the newer edition and the old rule of letters. A file of 65,536 bytes has no more D01, D03, AD and TO of `.C` or `.P` than
-// there is room for here.
-fn list(out: &mut [u8]) -> Answer {
-    let mut room = io::large_buffer();
+fn refuse(rt: &impl Print, number: u64, place: usize) -> std::io::Result<()> {
+    println!(rt; "refused\t{number}\t{place}")
+}
+
+// Prints the list of a file by the newer edition and the old rule of letters. A file of 65,536 bytes has no more D01, D03, AD and TO of `.C` or
+// `.P` than there is room for here.
+fn list(rt: &impl Print, file: &[u8]) -> std::io::Result<()> {
     let mut head = [0; 8];
     let mut entries = [0; 245760];
     let mut apertures = [0; 65536];
@@ -33,17 +36,10 @@ fn list(out: &mut [u8]) -> Answer {
     let mut names = [0; 76800];
     let mut roles = [0; 65536];
     let mut pins = [0; 65536];
-    let n = io::read_full(STDIN_FILENO, &mut room);
-    if is_more() {
-        return Answer {
-            number: 1,
-            place: 0,
-            bytes: 0,
-        };
-    }
-    placement_call::placement(
+    let mut out = out_room();
+    let a = placement_call::placement(
         book::ascii(),
-        &room[..n],
+        file,
         &mut head,
         &mut entries,
         &mut apertures,
@@ -53,15 +49,25 @@ fn list(out: &mut [u8]) -> Answer {
         &mut names,
         &mut roles,
         &mut pins,
-        out,
-    )
-}
-
-fn main(rt: HostRuntime) -> std::io::Result<()> {
-    let mut out = out_room();
-    let a = list(&mut out);
+        &mut out,
+    );
     match a.number {
         0 => rt.write_all(base::up_to(&out, a.bytes)),
-        number => println!(rt; "refused\t{number}\t{}", a.place),
+        number => refuse(rt, number, a.place),
     }
+}
+
+// Lists the file on standard input; the room for it is made only where it is not too long.
+fn run(rt: &impl Print) -> std::io::Result<()> {
+    let mut room = io::large_buffer();
+    let n = io::read_full(STDIN_FILENO, &mut room);
+    if is_more() {
+        return refuse(rt, 1, 0);
+    }
+    list(rt, &room[..n])
+}
+
+// What cannot be written is lost, and nobody is told.
+fn main() {
+    let _ = run(&Output {});
 }

@@ -2,6 +2,7 @@
 // number and the place, tab-parted.
 #![tactic(auto)]
 
+use output::Output;
 use signature::Answer;
 
 // Standard input, by its number.
@@ -22,7 +23,7 @@ fn answer() -> Answer {
     intake::tell(s)
 }
 
-fn main(rt: HostRuntime) -> std::io::Result<()> {
+fn run(rt: &impl Print) -> std::io::Result<()> {
     let a = answer();
     match a.number {
         0 => {
@@ -32,4 +33,9 @@ fn main(rt: HostRuntime) -> std::io::Result<()> {
         }
         number => println!(rt; "refused\t{number}\t{}", a.place),
     }
+}
+
+// What cannot be written is lost, and nobody is told.
+fn main() {
+    let _ = run(&Output {});
 }
