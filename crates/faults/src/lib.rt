@@ -3,7 +3,7 @@
 
 ghost use Rattle.std.specs.Prelude.{◌≡◌};
 ghost use Rattle.faults.specs.Order.{rank_of, tested_before, sooner};
-ghost use Rattle.faults.specs.Rule.{number_of_rule, number_told, first_of};
+ghost use Rattle.faults.specs.Rule.{number_of_rule, first_of};
 
 // A rule that a command breaks.
 #[derive(Clone, Copy, PartialEq, Eq)]
@@ -74,27 +74,39 @@ impl From<Rule> for u64 {
     }
 }
 
-// The number of the rule after which this one is tested, or its own where it is tested by its number.
-#[tactic(auto, unfolding(crate::specs::Order::rank_of, crate::specs::Rule::number_of_rule, base::specs::Choose::pick))]
-fn rank_of(rule: Rule) -> u64
-    ensures { result ≡ rank_of (number_of_rule rule) }
+// The rule after which this one is tested, or itself where it is tested by its number.
+#[tactic(auto, unfolding(crate::specs::Order::rank_of, base::specs::Choose::pick))]
+fn rank_of(n: u64) -> u64
+    ensures { result ≡ rank_of n }
 {
-    match rule {
-        Rule::Unread => 4,
-        Rule::Moveless => 11,
-        Rule::Centreless => 12,
-        _ => u64::from(rule),
+    match n {
+        30 => 4,
+        29 => 11,
+        31 => 12,
+        _ => n,
     }
 }
 
 // The rule a is tested before the rule b.
 #[tactic(auto, using(base::proofs::Or::joins), unfolding(crate::specs::Order::tested_before))]
-fn tested_before(a: Rule, b: Rule) -> bool
-    ensures { result ≡ tested_before (number_of_rule a) (number_of_rule b) }
+fn tested_before(a: u64, b: u64) -> bool
+    ensures { result ≡ tested_before a b }
 {
     let rank = rank_of(b);
-    let own = u64::from(b);
-    rank_of(a) < rank || (u64::from(a) == rank && own != rank)
+    rank_of(a) < rank || (a == rank && b != rank)
+}
+
+// Of two faults, 0 for none, the one tested first; 0 where there is none.
+#[tactic(auto, unfolding(crate::specs::Order::sooner, base::specs::Choose::pick))]
+pub fn sooner(a: u64, b: u64) -> u64
+    ensures { result ≡ sooner a b }
+{
+    match (a, b) {
+        (0, _) => b,
+        (_, 0) => a,
+        _ if tested_before(b, a) => b,
+        _ => a,
+    }
 }
 
 // Of the faults of a code, if there is one, and of the operation after it, the one tested first.
@@ -103,17 +115,7 @@ pub fn first_of(a: Result<(), Rule>, b: Rule) -> Rule
     ensures { result ≡ first_of a b }
 {
     match a {
-        Err(rule) if !tested_before(b, rule) => rule,
+        Err(rule) if !tested_before(b.into(), rule.into()) => rule,
         _ => b,
-    }
-}
-
-// Of two faults the one tested first; none where there is neither.
-pub fn sooner(a: Result<(), Rule>, b: Result<(), Rule>) -> Result<(), Rule>
-    ensures { number_told result ≡ sooner (number_told a) (number_told b) }
-{
-    match b {
-        Ok(()) => a,
-        Err(rule) => Err(first_of(a, rule)),
     }
 }

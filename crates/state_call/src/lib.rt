@@ -73,10 +73,11 @@ fn operation_fault(g: Graphics, l: Level, o: Operation, k: Known) -> Result<(), 
 fn coded_fault(g: Graphics, l: Level, code: Setting, o: Operation, k: Known) -> Result<(), Rule>
     ensures { number_told result ≡ coded_fault g l code o k }
 {
-    faults::sooner(
-        command_rules::setting_fault(g, code),
-        operation_fault(changes::after_setting(code, g), l, o, k),
-    )
+    let first = command_rules::setting_fault(g, code);
+    match operation_fault(changes::after_setting(code, g), l, o, k) {
+        Ok(()) => first,
+        Err(rule) => Err(faults::first_of(first, rule)),
+    }
 }
 
 // AD and AM, likewise.
