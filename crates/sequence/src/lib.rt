@@ -112,7 +112,9 @@ fn led(format: Format, c: Placed, lead: Lead, next: usize) -> Turn
     }
 }
 
-// What stands next from a place on, by a book; the format is that of FS, none before it.
+// What stands next from a place on, by a book; the format is that of FS, none before it. LLVM does not inline it by itself, and then hands
+// its answer over in memory (docs/DESIGN-PASS.md, Speed).
+#[inline(always)]
 #[tactic(auto, unfolding(crate::specs::Turns::turn_of, crate::specs::Turns::turned))]
 pub fn turn_at(book: Book, format: Format, file: &[u8], at: usize) -> Turn
     ensures { result ≡ turn_of book format file.now at }
