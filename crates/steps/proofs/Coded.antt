@@ -5,9 +5,6 @@ use Prim.Native.Nat.{ℕ, ◌≤◌}
 use mathlib.Core.Path.{◌≡◌, refl, sym, ap, ◌∙◌}
 use mathlib.Core.Bool.{Bool, true, false, false≢true}
 use native.Mathlib.Omega.{arith}
-use lib.Dec.{eqb}
-use borrow.Author.Tests.{eqb-true}
-use Rattle.base.specs.Choose.{pick}
 use Rattle.command.specs.declared.Setting.{Setting}
 use Rattle.command.specs.declared.Setting.TheVariants as setting
 use Rattle.command.specs.declared.Operation as operation
@@ -19,7 +16,7 @@ use Rattle.changes.specs.After.{after_setting, mode_of}
 use Rattle.faults.specs.Order.{sooner}
 use Rattle.faults.specs.Rule.{number_of_rule, number_told}
 use Rattle.faults.specs.declared.Rule.{Rule}
-use Rattle.faults.proofs.Rules.{first_told}
+use Rattle.faults.proofs.Rules.{first_told, only_first}
 use Rattle.law_reading.specs.State.{State}
 use Rattle.law_reading.specs.Steps.{Step, setting_step}
 use Rattle.progress.specs.Parts.{with_graphics}
@@ -35,12 +32,7 @@ use Rattle.command.specs.declared.Operation.{Operation}
 
 -- no fault of the operation leaves that of the code
 pub sooner_none : (a : ℕ) → sooner a 0 ≡ a
-unfolding sooner pick
-sooner_none a = go (eqb a 0) refl
-  where
-    go : (t : Bool) → eqb a 0 ≡ t → pick t 0 a ≡ a
-    go true e = sym (eqb-true a 0 e)
-    go false e = refl
+sooner_none a = sym (only_first a)
 
 -- the state after a code, as the code comes to it
 pub behind_is : (w : Lent) (p : Progress) (s : State) → Knows w p s → (code : Setting) {g : Graphics} {q : Progress}
